@@ -17,8 +17,8 @@ use std::alloc::{AllocError, Global};
 #[derive(Clone, Copy)]
 enum BesideMove {
     Done,
-    Step(CopyName),
-    Summaries(u8),
+    // The first statements of some copies, done in a way.
+    Each(Way, u8),
     Fork(CopyName),
     Loops(u8),
 }
@@ -164,10 +164,10 @@ fn beside_move(
         return BesideMove::Done;
     }
     if let Some(copy) = least_simple(heads, left) {
-        return BesideMove::Step(copy);
+        return BesideMove::Each(Way::Statement, bit(copy));
     }
     if let Some(some) = summarized(task, style, heads, hole, set, left) {
-        return BesideMove::Summaries(some);
+        return BesideMove::Each(Way::Summary, some);
     }
     if let Some(copy) = least_fork(heads, left) {
         return BesideMove::Fork(copy);
@@ -180,7 +180,7 @@ fn beside_move(
 fn last_move(style: Style, rests: &PerCopy<Continuation<'_>>, left: u8) -> BesideMove {
     if style.is_second {
         if let Some(copy) = least_with_more(rests, left) {
-            return BesideMove::Summaries(bit(copy));
+            return BesideMove::Each(Way::Summary, bit(copy));
         }
     }
     BesideMove::Loops(left)
@@ -197,20 +197,30 @@ pub(crate) fn next_beside<'a>(
     works: &mut Vec<Work<'a>>,
 ) -> Result<Next<'a>, AllocError> {
     let heads = heads_left(rests);
-    match beside_move(task, style, rests, &heads, hole, set) {
+    let chosen = beside_move(task, style, rests, &heads, hole, set);
+    next_by(alloc, rests, &heads, hole, set, chosen, works)
+}
+
+// The next of what is left of the fillings of a hole, by what the copies do.
+fn next_by<'a>(
+    alloc: Global,
+    rests: &PerCopy<Continuation<'a>>,
+    heads: &Heads<'a>,
+    hole: u32,
+    set: u8,
+    chosen: BesideMove,
+    works: &mut Vec<Work<'a>>,
+) -> Result<Next<'a>, AllocError> {
+    match chosen {
         BesideMove::Done => Ok(Next::Nothing),
-        BesideMove::Step(copy) => {
-            put_behind(alloc, rests, hole, set, bit(copy), works)?;
-            next_each(Way::Statement, &heads, bit(copy), works)
-        }
-        BesideMove::Summaries(some) => {
+        BesideMove::Each(way, some) => {
             put_behind(alloc, rests, hole, set, some, works)?;
-            next_each(Way::Summary, &heads, some, works)
+            next_each(way, heads, some, works)
         }
-        BesideMove::Fork(copy) => next_beside_fork(alloc, rests, &heads, hole, set, copy),
+        BesideMove::Fork(copy) => next_beside_fork(alloc, rests, heads, hole, set, copy),
         BesideMove::Loops(some) => {
             put_behind(alloc, rests, hole, set, some, works)?;
-            next_beside_loops(alloc, rests, &heads, hole, some)
+            next_beside_loops(alloc, rests, heads, hole, some)
         }
     }
 }

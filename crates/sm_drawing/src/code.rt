@@ -1,5 +1,5 @@
 // Code that four copies have left, as statements of the filled programs.
-use sm_moves::filling_at;
+use sm_moves::{copied, copy_rests, filling_at, has};
 use sm_plan::Continuation;
 use sm_syntax::{Block, Cond, CopyName, Fillings, PerCopy, Stmt, same_block, same_cond};
 use std::alloc::{AllocError, Global};
@@ -109,7 +109,7 @@ pub(crate) fn copy_heads<'a>(heads: &Heads<'a>) -> Heads<'a> {
 pub(crate) fn copy_code<'a>(code: &FilledCode<'a>) -> FilledCode<'a> {
     FilledCode {
         shared: code.shared,
-        pieces: sm_moves::copied(&code.pieces),
+        pieces: copied(&code.pieces),
     }
 }
 
@@ -208,24 +208,17 @@ pub(crate) fn rests_behind<'a>(
     rests: &PerCopy<Continuation<'a>>,
     set: u8,
 ) -> Result<PerCopy<Continuation<'a>>, AllocError> {
-    Ok(PerCopy {
-        base: rest_behind(alloc, &rests.base, set, CopyName::O)?,
-        variant_a: rest_behind(alloc, &rests.variant_a, set, CopyName::A)?,
-        variant_b: rest_behind(alloc, &rests.variant_b, set, CopyName::B)?,
-        candidate: rest_behind(alloc, &rests.candidate, set, CopyName::M)?,
-    })
+    let mut behind = copy_rests(alloc, rests)?;
+    drop_first(&mut behind.base, set, CopyName::O);
+    drop_first(&mut behind.variant_a, set, CopyName::A);
+    drop_first(&mut behind.variant_b, set, CopyName::B);
+    drop_first(&mut behind.candidate, set, CopyName::M);
+    Ok(behind)
 }
 
-// What is left of a copy after its first statement, where it is of the set.
-fn rest_behind<'a>(
-    alloc: Global,
-    rest: &Continuation<'a>,
-    set: u8,
-    copy: CopyName,
-) -> Result<Continuation<'a>, AllocError> {
-    let mut behind = rest.copy(alloc)?;
-    if sm_moves::has(set, copy) {
-        behind.drop_front(1);
+// Drops the first statement of what is left of a copy, where it is of the set.
+fn drop_first(rest: &mut Continuation<'_>, set: u8, copy: CopyName) {
+    if has(set, copy) {
+        rest.drop_front(1);
     }
-    Ok(behind)
 }

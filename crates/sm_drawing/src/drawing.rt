@@ -12,7 +12,7 @@ use crate::lists::Carried;
 use crate::moments::start_moments;
 use crate::running::Bound;
 use crate::trees::draw_works;
-use crate::works::Work;
+use crate::works::{Work, only_work};
 use sm_eval::Store;
 use sm_expand::Plan;
 use sm_moves::statements;
@@ -35,12 +35,23 @@ const ALL: u8 = 15;
 
 /// A plan that was drawn along runs, what they showed at each of its loops, in the order of the
 /// nodes, and its dead ends.
-#[derive(Drop)]
 pub struct Drawing {
     pub plan: Plan,
     pub sites: Vec<Visits>,
     pub dead: Vec<DeadEnd>,
     pub nodes: u64,
+}
+
+// One call ends a value, and not one for each field: proofs of what has it stay small.
+impl Drop for Drawing {
+    fn drop(self) {
+        let Self {
+            plan: _,
+            sites: _,
+            dead: _,
+            nodes: _,
+        } = self;
+    }
 }
 
 /// The plan of a task along the runs from some inputs. The branches that lead to a dead end can be
@@ -71,9 +82,7 @@ pub fn draw(
         sites: Vec::new(alloc),
         dead: Vec::new(alloc),
     };
-    let works = start_works(alloc, task, programs)?;
-    let carried = start_carried(alloc, inputs)?;
-    let plan = draw_works(alloc, &mut canvas, works, carried, MOST_BRANCHES)?;
+    let plan = draw_whole(alloc, &mut canvas, task, programs, inputs)?;
     let Canvas {
         sites,
         dead,
@@ -88,6 +97,22 @@ pub fn draw(
     })
 }
 
+// Draws the plan of a task along the runs from some inputs.
+fn draw_whole(
+    alloc: Global,
+    canvas: &mut Canvas<'_>,
+    task: &Task,
+    programs: &PerCopy<Block>,
+    inputs: &[Store],
+) -> Result<Plan, DrawingError>
+    ensures { (sorts : Sorts) (trees : List Tree) →
+        IfOk result (λ p. IsPlanReady sorts trees (numbered_plan p)) }
+{
+    let works = start_works(alloc, task, programs)?;
+    let carried = start_carried(alloc, inputs)?;
+    draw_works(alloc, canvas, works, carried, MOST_BRANCHES)
+}
+
 // What is to be drawn at the start: the shared code of all copies.
 fn start_works<'a>(
     alloc: Global,
@@ -98,9 +123,7 @@ fn start_works<'a>(
         shared: &task.shared.body.list,
         pieces: statements(programs),
     };
-    let mut works = Vec::new(alloc);
-    works.push(Work::Shared { code, set: ALL })?;
-    Ok(works)
+    only_work(alloc, Work::Shared { code, set: ALL })
 }
 
 // The moments at the start, none where there is no input.

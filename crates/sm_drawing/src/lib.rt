@@ -20,6 +20,7 @@ mod running;
 mod shared;
 mod sides;
 mod sorted;
+mod straight;
 mod trees;
 mod turns;
 mod works;

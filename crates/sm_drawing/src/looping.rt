@@ -30,6 +30,14 @@ pub(crate) struct Turned {
     pub(crate) after: Moments,
 }
 
+/// No visits.
+pub(crate) fn no_visits(alloc: Global) -> Visits {
+    Visits {
+        entries: Vec::new(alloc),
+        list: Vec::new(alloc),
+    }
+}
+
 // Nothing shown yet.
 fn nothing_shown(alloc: Global) -> Result<Turned, DrawingError> {
     let mut turns = Vec::new(alloc);
@@ -37,10 +45,7 @@ fn nothing_shown(alloc: Global) -> Result<Turned, DrawingError> {
         turns.push(no_moments(alloc))?;
     }
     Ok(Turned {
-        visits: Visits {
-            entries: Vec::new(alloc),
-            list: Vec::new(alloc),
-        },
+        visits: no_visits(alloc),
         turns,
         after: no_moments(alloc),
     })

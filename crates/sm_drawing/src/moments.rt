@@ -1,7 +1,7 @@
 // Moments of runs, and what a node does to them.
 use crate::error::DrawingError;
 use crate::running::{Bound, Leave, is_true, run_statement};
-use crate::sides::{copy_stores, store_at};
+use crate::sides::{copy_stores, start_stores, store_at};
 use sm_eval::Store;
 use sm_syntax::{Cond, CopyName, PerCopy, Stmt};
 use std::alloc::{AllocError, Global};
@@ -42,16 +42,6 @@ pub(crate) fn start_moments(alloc: Global, inputs: &[Store]) -> Result<Moments, 
         list.push(Moment { input, stores })?;
     }
     Ok(Moments { list })
-}
-
-// The four stores at the start of the programs.
-fn start_stores(alloc: Global, input: &Store) -> Result<PerCopy<Store>, AllocError> {
-    Ok(PerCopy {
-        base: input.copy(alloc)?,
-        variant_a: input.copy(alloc)?,
-        variant_b: input.copy(alloc)?,
-        candidate: input.copy(alloc)?,
-    })
 }
 
 /// Whether a run went on. One that is left for want of memory stops all.

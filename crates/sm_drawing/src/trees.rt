@@ -5,108 +5,20 @@ ghost use Rattle.sm_term.specs.Terms.{Tree};
 ghost use Rattle.sm_expand.specs.NumberedPlans.{Over, plans_before, IsPlanReady, ArePlansReady};
 ghost use Rattle.sm_expand.specs.Views.{numbered_plan, numbered_last};
 
-use crate::canvas::{Canvas, count_node, dead_end, is_open, put_simple, whole_end};
+use crate::canvas::{Canvas, count_node, dead_end, whole_end};
 use crate::error::DrawingError;
-use crate::lists::{Carried, TwoCarried, carried_apart, carried_on, is_unreached};
+use crate::lists::{Carried, TwoCarried, carried_apart};
 use crate::moments::Moments;
+use crate::straight::{Ahead, go_straight};
 use crate::turns::{LoopLists, run_loops, taken_turn};
-use crate::works::{ForkWork, LoopWork, Next, Work, copy_works, next_of, turn_works, works_with};
+use crate::works::{ForkWork, LoopWork, Work, copy_works, turn_works, works_with};
 use sm_expand::{Last, Plan, Plans, Simple, Simples};
-use sm_syntax::{CopyName, Stmt};
 use sm_term::Formula;
 use std::alloc::Global;
 
 /// The branch of a loop's node that leads behind the loops. Those of its turns have the masks of
 /// copies.
 const AFTER: u8 = 16;
-
-// How many pieces of work are taken apart between two branching nodes at most.
-fn most_works() -> u32 {
-    1_000_000
-}
-
-// What stands at the end of simple nodes.
-#[derive(Drop)]
-enum Ahead<'a> {
-    Fork(ForkWork<'a>),
-    Loops(LoopWork<'a>),
-    Dead,
-    End,
-}
-
-// Draws simple nodes, up to what stands at their end.
-fn go_straight<'a>(
-    alloc: Global,
-    canvas: &mut Canvas<'_>,
-    works: &mut Vec<Work<'a>>,
-    carried: &mut Carried,
-    list: &mut Vec<Simple>,
-) -> Result<Ahead<'a>, DrawingError> {
-    for _ in 0..most_works() {
-        if is_unreached(carried) {
-            if !is_open(canvas) {
-                return Ok(Ahead::Dead);
-            }
-            *carried = None;
-        }
-        let Some(work) = works.pop() else {
-            return Ok(Ahead::End);
-        };
-        let next = next_behind(alloc, canvas, work, works)?;
-        match step_on(alloc, canvas, next, carried, list)? {
-            Some(ahead) => return Ok(ahead),
-            None => {}
-        }
-    }
-    Err(DrawingError::TooMany)
-}
-
-// The next of a work that is taken off.
-fn next_behind<'a>(
-    alloc: Global,
-    canvas: &Canvas<'_>,
-    work: Work<'a>,
-    works: &mut Vec<Work<'a>>,
-) -> Result<Next<'a>, DrawingError> {
-    Ok(next_of(alloc, canvas.task, canvas.style, &work, works)?)
-}
-
-// Draws a simple node, or gives what stands at the end of these.
-fn step_on<'a>(
-    alloc: Global,
-    canvas: &mut Canvas<'_>,
-    next: Next<'a>,
-    carried: &mut Carried,
-    list: &mut Vec<Simple>,
-) -> Result<Option<Ahead<'a>>, DrawingError> {
-    match next {
-        Next::Nothing => Ok(None),
-        Next::Simple {
-            way,
-            copy,
-            statement,
-        } => {
-            put_simple(canvas, list, way, copy)?;
-            carry_on(alloc, canvas, carried, copy, statement)?;
-            Ok(None)
-        }
-        Next::Fork(fork) => Ok(Some(Ahead::Fork(fork))),
-        Next::Loops(loops) => Ok(Some(Ahead::Loops(loops))),
-    }
-}
-
-// Carries the runs over a statement of a copy.
-fn carry_on(
-    alloc: Global,
-    canvas: &mut Canvas<'_>,
-    carried: &mut Carried,
-    copy: CopyName,
-    statement: &Stmt,
-) -> Result<(), DrawingError> {
-    let moments = carried.take();
-    *carried = carried_on(alloc, moments, copy, statement, &mut canvas.bound)?;
-    Ok(())
-}
 
 /// The plan of works, for the runs that come here, with so many branching nodes left. It keeps
 /// nothing, so that it is ready over each table.
@@ -121,15 +33,31 @@ pub(crate) fn draw_works<'a>(
     ensures { (sorts : Sorts) (trees : List Tree) →
         IfOk result (λ p. IsPlanReady sorts trees (numbered_plan p)) }
 {
-    let mut works = works;
-    let mut carried = carried;
     let mut list = Vec::new(alloc);
-    let ahead = go_straight(alloc, canvas, &mut works, &mut carried, &mut list)?;
-    let last = draw_last(alloc, canvas, &ahead, &works, carried, room)?;
+    let last = draw_nodes(alloc, canvas, works, carried, &mut list, room)?;
     Ok(Plan {
         straight: Simples { list },
         last,
     })
+}
+
+// Draws the simple nodes that works begin with, and gives what stands at their end.
+#[cycle(draw)]
+fn draw_nodes<'a>(
+    alloc: Global,
+    canvas: &mut Canvas<'_>,
+    works: Vec<Work<'a>>,
+    carried: Carried,
+    list: &mut Vec<Simple>,
+    room: u32,
+) -> Result<Last, DrawingError>
+    ensures { (sorts : Sorts) (trees : List Tree) →
+        IfOk result (λ l. IsPlanReady sorts trees (numbered_last l)) }
+{
+    let mut works = works;
+    let mut carried = carried;
+    let ahead = go_straight(alloc, canvas, &mut works, &mut carried, list)?;
+    draw_last(alloc, canvas, &ahead, &works, carried, room)
 }
 
 // What stands at the end of simple nodes, with the works that come behind it.
@@ -153,10 +81,11 @@ fn draw_last<'a>(
     }
 }
 
-// One branching node fewer.
-fn below(room: u32) -> Result<u32, DrawingError>
+// Counts a branching node, and gives one fewer of those that are left.
+fn below(canvas: &mut Canvas<'_>, room: u32) -> Result<u32, DrawingError>
     ensures { IfOk result (λ left. left < room) }
 {
+    count_node(canvas)?;
     match room.checked_sub(1) {
         Some(left) => Ok(left),
         None => Err(DrawingError::TooMany),
@@ -191,6 +120,25 @@ fn draw_branch<'a>(
     Ok(plan)
 }
 
+// The plan of a side of a fork, which begins with a work of its own.
+#[cycle(draw)]
+fn draw_side<'a>(
+    alloc: Global,
+    canvas: &mut Canvas<'_>,
+    branch: u8,
+    first: &Work<'a>,
+    works: &[Work<'a>],
+    carried: Carried,
+    room: u32,
+) -> Result<Box<Plan>, DrawingError>
+    ensures { (sorts : Sorts) (trees : List Tree) →
+        IfOk result (λ b. IsPlanReady sorts trees (numbered_plan b.value)) }
+{
+    let list = works_with(alloc, works, first)?;
+    let plan = draw_branch(alloc, canvas, branch, list, carried, room)?;
+    boxed(alloc, plan)
+}
+
 // A fork of a copy, and what comes then.
 #[cycle(draw)]
 fn draw_fork<'a>(
@@ -204,15 +152,10 @@ fn draw_fork<'a>(
     ensures { (sorts : Sorts) (trees : List Tree) →
         IfOk result (λ l. IsPlanReady sorts trees (numbered_last l)) }
 {
-    count_node(canvas)?;
-    let room = below(room)?;
+    let room = below(canvas, room)?;
     let TwoCarried { one, other } = carried_apart(alloc, carried, fork.copy, fork.guard)?;
-    let for_one = works_with(alloc, works, &fork.one)?;
-    let first = draw_branch(alloc, canvas, 1, for_one, one, room)?;
-    let for_other = works_with(alloc, works, &fork.other)?;
-    let second = draw_branch(alloc, canvas, 0, for_other, other, room)?;
-    let yes = boxed(alloc, first)?;
-    let no = boxed(alloc, second)?;
+    let yes = draw_side(alloc, canvas, 1, &fork.one, works, one, room)?;
+    let no = draw_side(alloc, canvas, 0, &fork.other, works, other, room)?;
     Ok(Last::Fork {
         copy: fork.copy.number(),
         yes,
@@ -233,15 +176,10 @@ fn draw_loops<'a>(
     ensures { (sorts : Sorts) (trees : List Tree) →
         IfOk result (λ l. IsPlanReady sorts trees (numbered_last l)) }
 {
-    count_node(canvas)?;
-    let room = below(room)?;
-    let lists = run_loops(alloc, canvas, loops, carried)?;
-    let LoopLists { shown, behind } = lists;
-    let mut shown = shown;
-    let turns = draw_turns(alloc, canvas, loops, &mut shown, room)?;
-    let others = copy_works(alloc, works)?;
-    let plan = draw_branch(alloc, canvas, AFTER, others, behind, room)?;
-    let after = boxed(alloc, plan)?;
+    let room = below(canvas, room)?;
+    let LoopLists { shown, behind } = run_loops(alloc, canvas, loops, carried)?;
+    let turns = draw_turns(alloc, canvas, loops, shown, room)?;
+    let after = draw_after(alloc, canvas, works, behind, room)?;
     Ok(Last::Loop {
         set: loops.set,
         keep: Formula::Yes,
@@ -250,21 +188,39 @@ fn draw_loops<'a>(
     })
 }
 
+// The plan of works behind loops.
+#[cycle(draw)]
+fn draw_after<'a>(
+    alloc: Global,
+    canvas: &mut Canvas<'_>,
+    works: &[Work<'a>],
+    behind: Carried,
+    room: u32,
+) -> Result<Box<Plan>, DrawingError>
+    ensures { (sorts : Sorts) (trees : List Tree) →
+        IfOk result (λ b. IsPlanReady sorts trees (numbered_plan b.value)) }
+{
+    let list = copy_works(alloc, works)?;
+    let plan = draw_branch(alloc, canvas, AFTER, list, behind, room)?;
+    boxed(alloc, plan)
+}
+
 // A turn for each set of copies in the set of loops, by ascending masks.
 #[cycle(draw)]
 fn draw_turns<'a>(
     alloc: Global,
     canvas: &mut Canvas<'_>,
     loops: &LoopWork<'a>,
-    shown: &mut Option<Vec<Moments>>,
+    shown: Option<Vec<Moments>>,
     room: u32,
 ) -> Result<Vec<Plan>, DrawingError>
     ensures { (sorts : Sorts) (trees : List Tree) → IfOk result (λ ps.
         ArePlansReady sorts trees (plans_before (map numbered_plan ps.items) Over)) }
 {
+    let mut shown = shown;
     let mut turns = Vec::new(alloc);
     for mask in 1..AFTER {
-        draw_turn(alloc, canvas, loops, shown, mask, room, &mut turns)?;
+        draw_turn(alloc, canvas, loops, &mut shown, mask, room, &mut turns)?;
     }
     Ok(turns)
 }
@@ -288,8 +244,8 @@ fn draw_turn<'a>(
     if mask & loops.set != mask {
         return Ok(());
     }
-    let carried = taken_turn(alloc, shown, mask);
     let works = turn_works(alloc, &loops.code, mask)?;
+    let carried = taken_turn(alloc, shown, mask);
     let turn = draw_branch(alloc, canvas, mask, works, carried, room)?;
     turns.push(turn)?;
     Ok(())

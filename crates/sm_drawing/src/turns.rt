@@ -2,10 +2,9 @@
 use crate::canvas::Canvas;
 use crate::error::DrawingError;
 use crate::lists::{Carried, carried_after};
-use crate::looping::{Turned, turn_loops};
+use crate::looping::{Turned, no_visits, turn_loops};
 use crate::moments::{Moments, no_moments};
 use crate::works::LoopWork;
-use sm_observed::Visits;
 use std::alloc::Global;
 use std::mem;
 
@@ -24,31 +23,35 @@ pub(crate) fn run_loops(
     carried: Carried,
 ) -> Result<LoopLists, DrawingError> {
     match carried {
-        Some(moments) => {
-            let heads = &loops.heads;
-            let shown = turn_loops(alloc, heads, loops.set, moments, &mut canvas.bound)?;
-            let Turned {
-                visits,
-                turns,
-                after,
-            } = shown;
-            canvas.sites.push(visits)?;
-            Ok(LoopLists {
-                shown: Some(turns),
-                behind: carried_after(after),
-            })
-        }
+        Some(moments) => lists_of(alloc, canvas, loops, moments),
         None => {
-            canvas.sites.push(Visits {
-                entries: Vec::new(alloc),
-                list: Vec::new(alloc),
-            })?;
+            canvas.sites.push(no_visits(alloc))?;
             Ok(LoopLists {
                 shown: None,
                 behind: None,
             })
         }
     }
+}
+
+// What the runs show that come to loops at some moments.
+fn lists_of(
+    alloc: Global,
+    canvas: &mut Canvas<'_>,
+    loops: &LoopWork<'_>,
+    moments: Moments,
+) -> Result<LoopLists, DrawingError> {
+    let shown = turn_loops(alloc, &loops.heads, loops.set, moments, &mut canvas.bound)?;
+    let Turned {
+        visits,
+        turns,
+        after,
+    } = shown;
+    canvas.sites.push(visits)?;
+    Ok(LoopLists {
+        shown: Some(turns),
+        behind: carried_after(after),
+    })
 }
 
 /// Takes the list of the turn of some copies.

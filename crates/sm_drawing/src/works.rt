@@ -29,7 +29,6 @@ pub(crate) struct SharedForks<'a> {
 }
 
 /// Code of a set of copies that is still to be drawn.
-#[derive(Drop)]
 pub(crate) enum Work<'a> {
     /// Shared code.
     Shared {
@@ -50,6 +49,26 @@ pub(crate) enum Work<'a> {
         hole: u32,
         set: u8,
     },
+}
+
+// One call ends a value, and not one for each field: proofs of what has it stay small.
+impl Drop for Work<'_> {
+    fn drop(self) {
+        match self {
+            Work::Shared { code: _, set: _ } => {}
+            Work::Forks(_) => {}
+            Work::Each {
+                way: _,
+                heads: _,
+                set: _,
+            } => {}
+            Work::Beside {
+                rests: _,
+                hole: _,
+                set: _,
+            } => {}
+        }
+    }
 }
 
 /// What loops run in their turns.
@@ -127,6 +146,16 @@ pub(crate) fn copy_forks<'a>(forks: &SharedForks<'a>, left: u8, taken: u8) -> Sh
     }
 }
 
+// Puts a work, once more, before others.
+fn put_copy<'a>(
+    alloc: Global,
+    works: &mut Vec<Work<'a>>,
+    work: &Work<'a>,
+) -> Result<(), AllocError> {
+    let copy = copy_work(alloc, work)?;
+    put_work(works, copy)
+}
+
 /// Works, once more, with another one that comes first.
 pub(crate) fn works_with<'a>(
     alloc: Global,
@@ -134,7 +163,7 @@ pub(crate) fn works_with<'a>(
     first: &Work<'a>,
 ) -> Result<Vec<Work<'a>>, AllocError> {
     let mut list = copy_works(alloc, works)?;
-    list.push(copy_work(alloc, first)?)?;
+    put_copy(alloc, &mut list, first)?;
     Ok(list)
 }
 
@@ -145,7 +174,7 @@ pub(crate) fn copy_works<'a>(
 ) -> Result<Vec<Work<'a>>, AllocError> {
     let mut list = Vec::new(alloc);
     for work in works {
-        list.push(copy_work(alloc, work)?)?;
+        put_copy(alloc, &mut list, work)?;
     }
     Ok(list)
 }
@@ -156,8 +185,14 @@ pub(crate) fn turn_works<'a>(
     code: &LoopCode<'a>,
     set: u8,
 ) -> Result<Vec<Work<'a>>, AllocError> {
+    let first = turn_work(alloc, code, set)?;
+    only_work(alloc, first)
+}
+
+/// A work alone.
+pub(crate) fn only_work<'a>(alloc: Global, work: Work<'a>) -> Result<Vec<Work<'a>>, AllocError> {
     let mut list = Vec::new(alloc);
-    list.push(turn_work(alloc, code, set)?)?;
+    put_work(&mut list, work)?;
     Ok(list)
 }
 

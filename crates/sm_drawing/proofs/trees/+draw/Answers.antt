@@ -9,15 +9,20 @@ use Rattle.sm_drawing.proofs.trees.+draw.Goals as goal
 pub draw_works-returns : goal.draw_works-returns
 draw_works-returns t c = λ sorts trees. plan_ready sorts trees _ (c.in_ok-last.ensures sorts trees)
 
+pub draw_side-returns : goal.draw_side-returns
+draw_side-returns t c = λ sorts trees. c.boxed.ensures sorts trees (c.in_ok-plan.ensures sorts trees)
+
+pub draw_after-returns : goal.draw_after-returns
+draw_after-returns t c = λ sorts trees. c.boxed.ensures sorts trees (c.in_ok-plan.ensures sorts trees)
+
 pub draw_fork-returns : goal.draw_fork-returns
 draw_fork-returns t c = λ sorts trees.
-    fork_ready sorts trees c.number.result c.in_ok-yes.yes c.in_ok-no.no
-    (c.in_ok-yes.ensures sorts trees (c.in_ok-first.ensures sorts trees)) (c.in_ok-no.ensures sorts trees (c.in_ok-second.ensures sorts trees))
+    fork_ready sorts trees c.number.result c.in_ok-yes.yes c.in_ok-no.no (c.in_ok-yes.ensures sorts trees) (c.in_ok-no.ensures sorts trees)
 
 pub draw_loops-returns : goal.draw_loops-returns
 draw_loops-returns t c = λ sorts trees.
     loop_ready sorts trees c.args.loops.now.set c.in_ok-turns.turns c.in_ok-after.after (c.in_ok-turns.ensures sorts trees)
-    (c.in_ok-after.ensures sorts trees (c.in_ok-plan.ensures sorts trees))
+    (c.in_ok-after.ensures sorts trees)
 
 pub draw_turns-loop-mask-init : goal.draw_turns-loop-mask-init
 draw_turns-loop-mask-init t c = λ sorts trees.
