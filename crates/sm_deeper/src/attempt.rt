@@ -143,30 +143,32 @@ struct Tried {
     trees: CertTrees,
 }
 
-// The plan of what was asked.
-fn plan_of(asked: Asked) -> Plan {
-    asked.plan
-}
-
-// A plan with what its obligations come to, where each is met. Where only dead ends stay open, their
-// paths are put behind others.
-fn closed_by(
+// The certificates of what obligations come to, where each is met. Where only dead ends stay open,
+// their paths are put behind others.
+fn trees_of(
     alloc: Global,
-    plan: Plan,
     end: Ended,
     dead: &[DeadEnd],
     open: &mut Vec<Vec<u8>>,
-) -> Result<Option<Tried>, AllocError> {
+) -> Result<Option<CertTrees>, AllocError> {
     match end {
-        Ended::Closed(list) => {
-            let trees = CertTrees { list };
-            Ok(Some(Tried { plan, trees }))
-        }
+        Ended::Closed(list) => Ok(Some(CertTrees { list })),
         Ended::Dead(nodes) => {
             put_paths(alloc, open, dead, &nodes)?;
             Ok(None)
         }
         Ended::Open => Ok(None),
+    }
+}
+
+// The plan of what was asked, with its certificates, where it has them.
+fn tried_with(asked: Asked, trees: Option<CertTrees>) -> Option<Tried> {
+    match trees {
+        Some(trees) => Some(Tried {
+            plan: asked.into_plan(),
+            trees,
+        }),
+        None => None,
     }
 }
 
@@ -191,7 +193,8 @@ fn tried_by<R: Threads + Sync, G: Gate>(
         return Ok(None);
     };
     let end = end_of(crew, alloc, table, &asked.dues, &owners, effort)?;
-    closed_by(alloc, plan_of(asked), end, &seen.drawing.dead, open)
+    let trees = trees_of(alloc, end, &seen.drawing.dead, open)?;
+    Ok(tried_with(asked, trees))
 }
 
 // A proof by a drawing, where it gives one. Where only dead ends stay open, their paths are put

@@ -8,7 +8,7 @@ ghost use Rattle.sm_deeper.specs.declared.end_jobs.JobEnd.{JobEnd};
 
 use crate::crew::Crew;
 use crate::effort::Effort;
-use crate::ends::{NodeEnd, put_trees};
+use crate::node_ends::{NodeEnd, put_trees};
 use sm_cert::CertTree;
 use sm_expand::Due;
 use sm_list::renumbered_tree;

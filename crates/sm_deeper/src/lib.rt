@@ -25,6 +25,7 @@ mod facts;
 mod judging;
 mod kept;
 mod marks;
+mod node_ends;
 mod owners;
 mod rounds;
 mod same;

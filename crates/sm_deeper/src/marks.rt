@@ -2,6 +2,7 @@
 use sm_candidates::Candidates;
 use sm_plan::Formulas;
 use std::alloc::{AllocError, Global};
+use std::mem;
 
 // Marks at so many candidates.
 fn marks_at(alloc: Global, count: usize) -> Result<Vec<bool>, AllocError> {
@@ -71,21 +72,23 @@ fn marked(alloc: Global, formulas: Formulas, marks: &[bool]) -> Result<Formulas,
     Ok(Formulas { list })
 }
 
-/// The candidates whose marks are there.
-pub(crate) fn all_left(
+/// Drops the candidates whose marks aren't there.
+pub(crate) fn keep_marked(
     alloc: Global,
-    candidates: Candidates,
+    candidates: &mut Candidates,
     marks: &[Vec<bool>],
-) -> Result<Candidates, AllocError> {
-    let mut sites = Vec::new(alloc);
+) -> Result<(), AllocError> {
+    let sites = mem::replace(&mut candidates.sites, Vec::new(alloc));
     let mut place: usize = 0;
-    for formulas in candidates.sites {
+    for formulas in sites {
         if place < marks.len() {
-            sites.push(marked(alloc, formulas, &marks[place])?)?;
+            candidates
+                .sites
+                .push(marked(alloc, formulas, &marks[place])?)?;
         }
         place = place.saturating_add(1);
     }
-    Ok(Candidates { sites })
+    Ok(())
 }
 
 /// How many candidates there are.

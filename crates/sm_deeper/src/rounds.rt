@@ -11,7 +11,7 @@ use crate::effort::Effort;
 use crate::facts::facts_in;
 use crate::judging::{Round, judge_all};
 use crate::kept::plan_keeping;
-use crate::marks::{all_left, all_marked, are_all_there, total};
+use crate::marks::{all_marked, are_all_there, keep_marked, total};
 use crate::owners::Owners;
 use sm_audit::is_plan_ready;
 use sm_candidates::{Candidates, MOST_BRANCHES, Subject};
@@ -33,10 +33,48 @@ pub(crate) struct Product<'p> {
 }
 
 /// A plan that keeps candidates, with its obligations.
-#[derive(Drop)]
 pub(crate) struct Asked {
     pub(crate) plan: Plan,
     pub(crate) dues: Vec<Due>,
+}
+
+// One call ends a value, and not one for each field: proofs of what has it stay small.
+impl Drop for Asked {
+    fn drop(self) {
+        let Self { plan: _, dues: _ } = self;
+    }
+}
+
+impl Asked {
+    /// The plan alone.
+    pub(crate) fn into_plan(self) -> Plan {
+        let Self { plan, dues: _ } = self;
+        plan
+    }
+
+    // The obligations alone.
+    fn into_dues(self) -> Vec<Due> {
+        let Self { plan: _, dues } = self;
+        dues
+    }
+}
+
+// The candidates that are left, and what the round before asked.
+#[derive(Drop)]
+struct Left {
+    candidates: Candidates,
+    before: Vec<Due>,
+}
+
+// What the goals of a round come to.
+#[derive(Clone, Copy)]
+enum RoundEnd {
+    // Each of them closes.
+    Closed,
+    // Candidates were dropped.
+    Dropped,
+    // The work doesn't suffice.
+    Spent,
 }
 
 // The plan that keeps candidates with its obligations, none where it has none.
@@ -84,11 +122,6 @@ fn may_ask(
     facts <= MOST_FACTS && !effort.work.is_spent()
 }
 
-// What a round asked.
-fn dues_of(asked: Asked) -> Vec<Due> {
-    asked.dues
-}
-
 // What a round asks of the candidates that are left, where it asks something and the work suffices.
 fn asked_within(
     alloc: Global,
@@ -128,6 +161,92 @@ fn marks_of<R: Threads + Sync, G: Gate>(
     Ok(marks)
 }
 
+// Drops the candidates one of whose goals doesn't close, and tells what the goals come to.
+fn round_end<R: Threads + Sync, G: Gate>(
+    crew: &Crew<'_, R, G>,
+    alloc: Global,
+    table: &mut TermTable,
+    round: &Round<'_>,
+    candidates: &mut Candidates,
+    effort: &mut Effort,
+) -> Result<RoundEnd, AllocError>
+    requires { AreDuesReady (sorts_in table.old) (trees_in table.old) round.now.dues.now }
+    ensures { OnOk result (ExtendsTable table.old table.new) }
+{
+    let marks = marks_of(crew, alloc, table, round, &*candidates, effort)?;
+    if effort.work.is_spent() {
+        return Ok(RoundEnd::Spent);
+    }
+    if are_all_there(&marks) {
+        return Ok(RoundEnd::Closed);
+    }
+    keep_marked(alloc, candidates, &marks)?;
+    Ok(RoundEnd::Dropped)
+}
+
+// Drops the candidates that are left one of whose goals doesn't close in the round that asks this.
+fn judged_by<R: Threads + Sync, G: Gate>(
+    crew: &Crew<'_, R, G>,
+    alloc: Global,
+    table: &mut TermTable,
+    dues: &[Due],
+    owners: &Owners,
+    left: &mut Left,
+    effort: &mut Effort,
+) -> Result<RoundEnd, AllocError>
+    requires { AreDuesReady (sorts_in table.old) (trees_in table.old) dues.now }
+    ensures { OnOk result (ExtendsTable table.old table.new) }
+{
+    let round = Round {
+        dues,
+        before: &left.before,
+        owners,
+    };
+    round_end(crew, alloc, table, &round, &mut left.candidates, effort)
+}
+
+// Drops candidates that are left until each goal closes: the plan that keeps them, with its
+// obligations.
+fn settle<R: Threads + Sync, G: Gate>(
+    crew: &Crew<'_, R, G>,
+    alloc: Global,
+    table: &mut TermTable,
+    subject: &Subject<'_>,
+    product: &Product<'_>,
+    left: &mut Left,
+    effort: &mut Effort,
+) -> Result<Option<Asked>, AllocError>
+    requires subject { IsSubject subject.now }
+    requires declared { IsTableOf subject.now.task.now table.old }
+    ensures ready { IfOk result (λ o. IfSome o (λ a.
+        AreDuesReady (sorts_in table.new) (trees_in table.new) a.dues.items)) }
+    ensures declared { OnOk result (IsTableOf subject.now.task.now table.new) }
+{
+    let most = total(&left.candidates);
+    for _ in 0..=most {
+        let asked = asked_within(alloc, table, subject, product, &left.candidates, effort)?;
+        let Some(asked) = asked else {
+            return Ok(None);
+        };
+        match judged_by(
+            crew,
+            alloc,
+            table,
+            &asked.dues,
+            product.owners,
+            left,
+            effort,
+        )? {
+            RoundEnd::Closed => return Ok(Some(asked)),
+            RoundEnd::Dropped => {
+                left.before = asked.into_dues();
+            }
+            RoundEnd::Spent => return Ok(None),
+        }
+    }
+    Ok(None)
+}
+
 /// Drops candidates until each goal of those that are left closes: the plan that keeps them, with
 /// its obligations. None where the plan has none, or the work that is left doesn't suffice.
 pub(crate) fn settled<R: Threads + Sync, G: Gate>(
@@ -145,28 +264,9 @@ pub(crate) fn settled<R: Threads + Sync, G: Gate>(
         AreDuesReady (sorts_in table.new) (trees_in table.new) a.dues.items)) }
     ensures declared { OnOk result (IsTableOf subject.now.task.now table.new) }
 {
-    let most = total(&candidates);
-    let mut candidates = candidates;
-    let mut before = Vec::new(alloc);
-    for _ in 0..=most {
-        let asked = asked_within(alloc, table, subject, product, &candidates, effort)?;
-        let Some(asked) = asked else {
-            return Ok(None);
-        };
-        let round = Round {
-            dues: &asked.dues,
-            before: &before,
-            owners: product.owners,
-        };
-        let marks = marks_of(crew, alloc, table, &round, &candidates, effort)?;
-        if effort.work.is_spent() {
-            return Ok(None);
-        }
-        if are_all_there(&marks) {
-            return Ok(Some(asked));
-        }
-        candidates = all_left(alloc, candidates, &marks)?;
-        before = dues_of(asked);
-    }
-    Ok(None)
+    let mut left = Left {
+        candidates,
+        before: Vec::new(alloc),
+    };
+    settle(crew, alloc, table, subject, product, &mut left, effort)
 }

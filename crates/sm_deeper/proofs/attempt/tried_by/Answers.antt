@@ -1,15 +1,9 @@
 -- The obligations are ready, and the table is of the declarations to the end.
-use Rattle.std.proofs.Common.{Option, Result, Ok, Err, IfSome, sym, subst, ◌∙◌}
-use Rattle.std.specs.Prelude.{OnOk}
+use Rattle.std.proofs.Common.{Option, IfSome, sym, subst, ◌∙◌}
 use Rattle.sm_term.specs.Tables.{trees_in, sorts_in}
 use Rattle.sm_expand.specs.Views.{AreDuesReady}
 use Rattle.sm_deeper.specs.declared.rounds.Asked.{Asked}
 use Rattle.sm_deeper.proofs.attempt.tried_by.Goals as goal
-
--- what is so holds where a result is Ok
-on_ok_from : {T E P : Type 0} (r : Result T E) → P → OnOk r P
-on_ok_from (Ok x) p = p
-on_ok_from (Err e) p = tt
 
 pub end_of-requires-after_bounds : goal.end_of-requires-after_bounds
 end_of-requires-after_bounds g c κs within =
@@ -18,4 +12,4 @@ end_of-requires-after_bounds g c κs within =
     (subst (λ (o : Option Asked). IfSome o (λ a. AreDuesReady (sorts_in w) (trees_in w) a.dues.items)) c.in-Some.is c.in_ok-found.ensures.ready)
 
 pub returns : goal.returns
-returns g c = on_ok_from c.closed_by.result (c.in_ok-end.ensures.sorts ∙ c.in_ok-found.ensures.declared)
+returns g c = c.in_ok-end.ensures.sorts ∙ c.in_ok-found.ensures.declared

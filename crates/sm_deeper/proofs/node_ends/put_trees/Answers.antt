@@ -2,7 +2,7 @@
 use Rattle.sm_plan.proofs.TablesWiden.{forms_ready}
 use Rattle.sm_goals.proofs.FormsLemmas.{goals_ready}
 use Rattle.sm_deeper.proofs.Widening.{widens_then}
-use Rattle.sm_deeper.proofs.ends.put_trees.Goals as goal
+use Rattle.sm_deeper.proofs.node_ends.put_trees.Goals as goal
 
 pub put_trees_at-requires-clause-facts : goal.put_trees_at-requires-clause-facts
 put_trees_at-requires-clause-facts c =

@@ -4,23 +4,23 @@ use Rattle.sm_term.specs.Tables.{trees_in, sorts_in}
 use Rattle.sm_expand.specs.Views.{AreDuesReady}
 use Rattle.sm_expand.proofs.PlansWiden.{dues_ready}
 use Rattle.sm_deeper.specs.declared.rounds.Asked.{Asked}
-use Rattle.sm_deeper.proofs.rounds.settled.Goals as goal
+use Rattle.sm_deeper.proofs.rounds.settle.Goals as goal
 
-pub marks_of-requires-after_bounds : goal.marks_of-requires-after_bounds
-marks_of-requires-after_bounds g c κs within =
+pub judged_by-requires-after_bounds : goal.judged_by-requires-after_bounds
+judged_by-requires-after_bounds g c κs within =
     let w = c.asked_within.new.table in
     subst (AreDuesReady (sorts_in w) (trees_in w)) (sym c.deref.ensures.value)
     (subst (λ (o : Option Asked). IfSome o (λ a. AreDuesReady (sorts_in w) (trees_in w) a.dues.items)) c.in-Some.is c.in_ok-asked.ensures.ready)
 
-pub returns-then-are_all_there-clause-ready : goal.returns-then-are_all_there-clause-ready
-returns-then-are_all_there-clause-ready g c =
+pub returns-in-Closed-clause-ready : goal.returns-in-Closed-clause-ready
+returns-in-Closed-clause-ready g c =
     let w = c.asked_within.new.table in
-    dues_ready w c.marks_of.new.table c.in_ok-marks.ensures c.in-Some.asked.dues.items
+    dues_ready w c.judged_by.new.table c.in_ok-judged_by.ensures c.in-Some.asked.dues.items
     (subst (λ (o : Option Asked). IfSome o (λ a. AreDuesReady (sorts_in w) (trees_in w) a.dues.items)) c.in-Some.is c.in_ok-asked.ensures.ready)
 
-pub returns-then-are_all_there-clause-declared : goal.returns-then-are_all_there-clause-declared
-returns-then-are_all_there-clause-declared g c =
-    c.in_ok-marks.ensures.sorts ∙ c.in_ok-asked.ensures.widens.sorts ∙ c.loop.invariant
+pub returns-in-Closed-clause-declared : goal.returns-in-Closed-clause-declared
+returns-in-Closed-clause-declared g c =
+    c.in_ok-judged_by.ensures.sorts ∙ c.in_ok-asked.ensures.widens.sorts ∙ c.loop.invariant
 
 pub loop-preserved : goal.loop-preserved
-loop-preserved g c = c.in_ok-marks.ensures.sorts ∙ c.in_ok-asked.ensures.widens.sorts ∙ c.loop.invariant
+loop-preserved g c = c.in_ok-judged_by.ensures.sorts ∙ c.in_ok-asked.ensures.widens.sorts ∙ c.loop.invariant

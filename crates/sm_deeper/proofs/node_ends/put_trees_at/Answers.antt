@@ -1,7 +1,7 @@
 use Rattle.sm_term.specs.Tables.{trees_in, sorts_in}
 use Rattle.sm_plan.proofs.TablesWiden.{forms_ready, form_ready}
 use Rattle.sm_goals.proofs.FormsLemmas.{form_at}
-use Rattle.sm_deeper.proofs.ends.put_trees_at.Goals as goal
+use Rattle.sm_deeper.proofs.node_ends.put_trees_at.Goals as goal
 
 pub walked-requires-clause-facts : goal.walked-requires-clause-facts
 walked-requires-clause-facts c =
