@@ -3,6 +3,7 @@ ghost use Rattle.std.specs.Prelude.{◌≡◌, true, IfOk, OnOk};
 ghost use Rattle.sm_term.specs.Tables.{trees_in, sorts_in};
 ghost use Rattle.sm_term.specs.TableLaws.{ExtendsTable};
 ghost use Rattle.sm_plan.specs.ReadyStates.{IsStateReady};
+ghost use Rattle.sm_observed.specs.LoopStates.{IsLoopSorted};
 ghost use Rattle.sm_candidates.specs.Subjects.{IsSubject, IsTableOf};
 ghost use Rattle.sm_candidates.specs.Waits.{AreWaitingReady};
 
@@ -12,7 +13,7 @@ use crate::walking::{Waiting, start_of_programs, take_node};
 use sm_audit::is_plan_ready;
 use sm_drawing::Drawing;
 use sm_expand::{Plan, PlanFault, start_of};
-use sm_observed::{Observed, Visits, Work, site_candidates};
+use sm_observed::{LoopState, Observed, Visits, Work, site_candidates};
 use sm_plan::{Formulas, SymState};
 use sm_term::TermTable;
 use std::alloc::{AllocError, Global};
@@ -42,6 +43,34 @@ fn visits_at<'d>(drawing: &'d Drawing, site: usize) -> Option<&'d Visits> {
     Some(visits)
 }
 
+// The candidates of a site at a state. A site without visits has none.
+fn formulas_at(
+    alloc: Global,
+    table: &mut TermTable,
+    subject: &Subject<'_>,
+    seen: &Seen<'_>,
+    state: &LoopState<'_>,
+    site: usize,
+    work: &mut Work,
+) -> Result<Formulas, AllocError>
+    requires subject { IsSubject subject.now }
+    requires declared { IsTableOf subject.now.task.now table.old }
+    requires sorted { IsLoopSorted (sorts_in table.old) state.now }
+    ensures { OnOk result (ExtendsTable table.old table.new) }
+{
+    let Some(visits) = visits_at(seen.drawing, site) else {
+        let list = Vec::new(alloc);
+        return Ok(Formulas { list });
+    };
+    let observed = Observed {
+        decls: &subject.task.shared.decls,
+        inputs: subject.inputs,
+        visits,
+        with_guards: seen.with_guards,
+    };
+    site_candidates(alloc, table, &observed, state, work)
+}
+
 // Puts the candidates of the loops that come next behind others. A site without visits has none.
 fn put_site(
     alloc: Global,
@@ -61,18 +90,7 @@ fn put_site(
         return Ok(());
     };
     let site = candidates.sites.len();
-    let Some(visits) = visits_at(seen.drawing, site) else {
-        let list = Vec::new(alloc);
-        candidates.sites.push(Formulas { list })?;
-        return Ok(());
-    };
-    let observed = Observed {
-        decls: &subject.task.shared.decls,
-        inputs: subject.inputs,
-        visits,
-        with_guards: seen.with_guards,
-    };
-    let left = site_candidates(alloc, table, &observed, &state, work)?;
+    let left = formulas_at(alloc, table, subject, seen, &state, site, work)?;
     candidates.sites.push(left)?;
     Ok(())
 }
@@ -159,6 +177,28 @@ fn start_walk<'t, 'd>(
     })
 }
 
+// Takes the nodes of a plan, one after the other, as far as they can be taken, and the work goes.
+fn walk_on<'a, 'p>(
+    alloc: Global,
+    table: &mut TermTable,
+    subject: &Subject<'_>,
+    seen: &Seen<'_>,
+    walk: &mut Walk<'a, 'p>,
+    work: &mut Work,
+) -> Result<(), AllocError>
+    requires subject { IsSubject subject.now }
+    requires declared { IsTableOf subject.now.task.now table.old }
+    requires waiting { AreWaitingReady table.old walk.old.waiting.items }
+    ensures { OnOk result (IsTableOf subject.now.task.now table.new) }
+{
+    for _ in 0..seen.drawing.nodes {
+        if !take_next(alloc, table, subject, seen, walk, work)? || work.is_spent() {
+            return Ok(());
+        }
+    }
+    Ok(())
+}
+
 /// The candidates of all sites of a plan, in the order of its nodes, as far as the plan goes with
 /// the task, and the work that is left goes. Nothing of them is believed. Where memory is wanting
 /// the table may have more terms.
@@ -174,11 +214,6 @@ pub fn candidates_of(
     ensures { OnOk result (IsTableOf subject.now.task.now table.new) }
 {
     let mut walk = start_walk(alloc, table, subject, seen.drawing)?;
-    for _ in 0..seen.drawing.nodes {
-        let is_taken = take_next(alloc, table, subject, seen, &mut walk, work)?;
-        if !is_taken || work.is_spent() {
-            return Ok(walk.candidates);
-        }
-    }
+    walk_on(alloc, table, subject, seen, &mut walk, work)?;
     Ok(walk.candidates)
 }

@@ -5,7 +5,7 @@ use Rattle.sm_observed.specs.LoopStates.{IsLoopSorted}
 use Rattle.sm_observed.specs.declared.states.LoopState.{LoopState}
 use Rattle.sm_candidates.proofs.candidates.put_site.Goals as goal
 
-pub site_candidates-requires-clause-sorted : goal.site_candidates-requires-clause-sorted
-site_candidates-requires-clause-sorted c =
+pub formulas_at-requires-clause-sorted : goal.formulas_at-requires-clause-sorted
+formulas_at-requires-clause-sorted c =
     let sorts = sorts_in c.args.table.now in
     subst (λ (o : Option LoopState). IfSome o (IsLoopSorted sorts)) c.in-Some.is (c.in_ok-state.ensures sorts c.requires.state.rests)

@@ -1,7 +1,7 @@
 -- What waits is ready, over a table of the task's declarations.
 use Rattle.sm_candidates.specs.Subjects.{IsTableOf}
 use Rattle.sm_candidates.specs.Waits.{AreWaitingReady}
-use Rattle.sm_candidates.proofs.candidates.candidates_of.Given as goal
+use Rattle.sm_candidates.proofs.candidates.walk_on.Given as goal
 
 abbrev pub invariant-loop : goal.invariant-loop
 invariant-loop l = record {
