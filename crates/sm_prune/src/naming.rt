@@ -16,19 +16,12 @@ fn mark_term(terms: &mut Vec<bool>, line: &TermLine)
         terms.old.items terms.new.items }
 {
     match line {
-        TermLine::Lit(_) => mark_each(terms, &[]),
-        TermLine::Start(_) => mark_each(terms, &[]),
-        TermLine::Cell => mark_each(terms, &[]),
-        TermLine::Slot { .. } => mark_each(terms, &[]),
-        TermLine::Cur { .. } => mark_each(terms, &[]),
-        TermLine::Of { .. } => mark_each(terms, &[]),
         TermLine::Arg { term, .. } => mark_each(terms, &[*term]),
-        TermLine::Read(t, u) => mark_each(terms, &[*t, *u]),
-        TermLine::Write(t, u, v) => mark_each(terms, &[*t, *u, *v]),
         TermLine::Neg(t) => mark_each(terms, &[*t]),
-        TermLine::Add(t, u) => mark_each(terms, &[*t, *u]),
-        TermLine::Sub(t, u) => mark_each(terms, &[*t, *u]),
-        TermLine::Mul(t, u) => mark_each(terms, &[*t, *u]),
+        TermLine::Write(t, u, v) => mark_each(terms, &[*t, *u, *v]),
+        TermLine::Read(t, u) | TermLine::Add(t, u) | TermLine::Sub(t, u) | TermLine::Mul(t, u) =>
+            mark_each(terms, &[*t, *u]),
+        _ => {}
     }
 }
 
@@ -40,14 +33,11 @@ fn mark_form(terms: &mut Vec<bool>, forms: &mut Vec<bool>, line: &FormLine)
         forms.old.items forms.new.items }
 {
     match line {
-        FormLine::Yes => {}
-        FormLine::No => {}
-        FormLine::Eq(t, u) => mark_each(terms, &[*t, *u]),
-        FormLine::Ne(t, u) => mark_each(terms, &[*t, *u]),
-        FormLine::Le(t, u) => mark_each(terms, &[*t, *u]),
-        FormLine::Lt(t, u) => mark_each(terms, &[*t, *u]),
-        FormLine::And(p, q) => mark_each(forms, &[*p, *q]),
-        FormLine::Or(p, q) => mark_each(forms, &[*p, *q]),
+        FormLine::Eq(t, u) | FormLine::Ne(t, u) | FormLine::Le(t, u) | FormLine::Lt(t, u) => {
+            mark_each(terms, &[*t, *u])
+        }
+        FormLine::And(p, q) | FormLine::Or(p, q) => mark_each(forms, &[*p, *q]),
+        FormLine::Yes | FormLine::No => {}
     }
 }
 
@@ -57,13 +47,8 @@ fn mark_node(forms: &mut Vec<bool>, line: &NodeLine)
         forms.old.items forms.new.items }
 {
     match line {
-        NodeLine::Step { .. } => mark_each(forms, &[]),
-        NodeLine::Abs { .. } => mark_each(forms, &[]),
-        NodeLine::Fork { .. } => mark_each(forms, &[]),
-        NodeLine::Loop { keep, .. } => mark_each(forms, &[*keep]),
-        NodeLine::Block { keep, .. } => mark_each(forms, &[*keep]),
-        NodeLine::Dead => mark_each(forms, &[]),
-        NodeLine::End => mark_each(forms, &[]),
+        NodeLine::Loop { keep, .. } | NodeLine::Block { keep, .. } => mark_each(forms, &[*keep]),
+        _ => {}
     }
 }
 
@@ -73,25 +58,15 @@ fn mark_cert(terms: &mut Vec<bool>, line: &CertLine)
         terms.old.items terms.new.items }
 {
     match line {
-        CertLine::Both(_) => mark_each(terms, &[]),
-        CertLine::Either(_) => mark_each(terms, &[]),
-        CertLine::Cases(t, u) => mark_each(terms, &[t.0, u.0]),
-        CertLine::Order(_) => mark_each(terms, &[]),
-        CertLine::Refl(t) => mark_each(terms, &[t.0]),
-        CertLine::Sym(_) => mark_each(terms, &[]),
-        CertLine::Trans(_, _) => mark_each(terms, &[]),
-        CertLine::Subst(_, _) => mark_each(terms, &[]),
-        CertLine::Cong(t, u, _) => mark_each(terms, &[t.0, u.0]),
-        CertLine::Same(t, u) => mark_each(terms, &[t.0, u.0]),
-        CertLine::Apart(t, u) => mark_each(terms, &[t.0, u.0]),
-        CertLine::Hit(t, _) => mark_each(terms, &[t.0]),
-        CertLine::Miss(t, u, _) => mark_each(terms, &[t.0, u.0]),
-        CertLine::Lin(_) => mark_each(terms, &[]),
-        CertLine::Elim(_, _, t) => mark_each(terms, &[t.0]),
-        CertLine::Tight(_) => mark_each(terms, &[]),
-        CertLine::Exact(_) => mark_each(terms, &[]),
-        CertLine::Close(_) => mark_each(terms, &[]),
-        CertLine::Clash(_, _) => mark_each(terms, &[]),
+        CertLine::Refl(t) | CertLine::Hit(t, _) | CertLine::Elim(_, _, t) => {
+            mark_each(terms, &[t.0])
+        }
+        CertLine::Cases(t, u)
+        | CertLine::Cong(t, u, _)
+        | CertLine::Same(t, u)
+        | CertLine::Apart(t, u)
+        | CertLine::Miss(t, u, _) => mark_each(terms, &[t.0, u.0]),
+        _ => {}
     }
 }
 
