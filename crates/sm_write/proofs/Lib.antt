@@ -8,6 +8,7 @@ pub mod SeenLemmas
 pub mod NameableBuilt
 pub mod ReadyPlans
 pub mod BytesLemmas
+pub mod LinesWith
 pub mod FactsThere
 pub mod StepLemmas
 pub mod WrittenLines

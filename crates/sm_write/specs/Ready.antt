@@ -38,7 +38,9 @@ abbrev mutual
       × AreClosed sorts (Seen now) (map (denied st.facts) q.goals) cs mid
       × AreReady sorts now (above_opened node above) (suc k) q.states ps mid left
 
-  -- plans, each at its state, are ready one after the other, the first from node k on
+  -- plans, one for each state, are ready at their states one after the other: the first is node k,
+  -- and each begins behind the nodes of those before it, after the states that they have too, with
+  -- the certificates that they leave
   pub AreReady :
       Sorts → List State → ℕ → ℕ → List State → Plans → List Certificate → List Certificate → Type 0
   AreReady sorts seen above k [] Over cs left = cs ≡ left

@@ -45,7 +45,8 @@ pub record Walked (s : Subject) (v : TableValue) (old new : WriterValue) (seen :
   pub built : IsBuilt (Seen seen) (tree_at (trees_in v) next)
   pub others : AreBuiltAt v seen waiting
 
--- a walk over the parts of a term, if the writer could name what is built of what was seen
+-- a walk over the parts of a term, for each proof on its way that the writer could stand for where it
+-- began: it is as `Walked` tells, if what was seen has numbers and the term is built of it
 abbrev pub Walks :
     TableValue → WriterValue → WriterValue → ℕ → List ℕ → ℕ → Type 0
 Walks v old new t waiting next =

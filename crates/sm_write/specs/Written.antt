@@ -28,6 +28,11 @@ number_or (Some n) = n.0
 abbrev pub file_number : Names → TermId → ℕ
 file_number names t = number_or (names t.0)
 
+-- the number of a term in the file, if there is a term, 0 where it has none
+abbrev pub number_in : Names → Option TermId → ℕ
+number_in names None = 0
+number_in names (Some t) = file_number names t
+
 -- a term has a number
 abbrev pub IsNamed : Names → TermId → Type 0
 IsNamed names t = (n : TermId) × (names t.0 ≡ Some n)
@@ -53,6 +58,28 @@ written names (cert.Tight n) = Tight n
 written names (cert.Exact n) = Exact n
 written names (cert.Close n) = Close n
 written names (cert.Clash m n) = Clash m n
+
+-- a line with these numbers for the first term that it names and for the second
+abbrev pub line_with : CertLine → ℕ → ℕ → NumberedLine
+line_with (cert.Both n) t u = Both n
+line_with (cert.Either n) t u = Either n
+line_with (cert.Cases a b) t u = Cases t u
+line_with (cert.Order n) t u = Order n
+line_with (cert.Refl a) t u = Refl t
+line_with (cert.Sym n) t u = Sym n
+line_with (cert.Trans m n) t u = Trans m n
+line_with (cert.Subst m n) t u = Subst m n
+line_with (cert.Cong a b ns) t u = Cong t u ns.list.items
+line_with (cert.Same a b) t u = Same t u
+line_with (cert.Apart a b) t u = Apart t u
+line_with (cert.Hit a n) t u = Hit t n
+line_with (cert.Miss a b n) t u = Miss t u n
+line_with (cert.Lin n) t u = Lin n
+line_with (cert.Elim m n a) t u = Elim m n t
+line_with (cert.Tight n) t u = Tight n
+line_with (cert.Exact n) t u = Exact n
+line_with (cert.Close n) t u = Close n
+line_with (cert.Clash m n) t u = Clash m n
 
 -- each term that a line names has a number
 abbrev pub IsLineNamed : Names → CertLine → Type 0

@@ -6,7 +6,7 @@ ghost use Rattle.sm_proof.specs.Lines.{Cert, numbered_line};
 ghost use Rattle.sm_proof.specs.Versions.{is_exact_step};
 ghost use Rattle.sm_write.specs.Bytes.{line_text, one_word};
 ghost use Rattle.sm_write.specs.LineTerms.{first_term, second_term};
-ghost use Rattle.sm_write.specs.Written.{file_number, written};
+ghost use Rattle.sm_write.specs.Written.{file_number, line_with, number_in, written};
 
 use crate::text::{put_head, put_two_lists};
 use sm_proof::Head;
@@ -20,25 +20,10 @@ pub(crate) fn first_term(line: &CertLine) -> Option<TermId>
     ensures { result ≡ first_term line.now }
 {
     match line {
-        CertLine::Both(_) => None,
-        CertLine::Either(_) => None,
-        CertLine::Cases(t, _) => Some(*t),
-        CertLine::Order(_) => None,
-        CertLine::Refl(t) => Some(*t),
-        CertLine::Sym(_) => None,
-        CertLine::Trans(_, _) => None,
-        CertLine::Subst(_, _) => None,
-        CertLine::Cong(t, _, _) => Some(*t),
-        CertLine::Same(t, _) => Some(*t),
-        CertLine::Apart(t, _) => Some(*t),
-        CertLine::Hit(t, _) => Some(*t),
-        CertLine::Miss(t, _, _) => Some(*t),
-        CertLine::Lin(_) => None,
-        CertLine::Elim(_, _, t) => Some(*t),
-        CertLine::Tight(_) => None,
-        CertLine::Exact(_) => None,
-        CertLine::Close(_) => None,
-        CertLine::Clash(_, _) => None,
+        CertLine::Refl(t) | CertLine::Hit(t, _) | CertLine::Elim(_, _, t) => Some(*t),
+        CertLine::Cases(t, _) | CertLine::Cong(t, _, _) | CertLine::Miss(t, _, _) => Some(*t),
+        CertLine::Same(t, _) | CertLine::Apart(t, _) => Some(*t),
+        _ => None,
     }
 }
 
@@ -47,25 +32,9 @@ pub(crate) fn second_term(line: &CertLine) -> Option<TermId>
     ensures { result ≡ second_term line.now }
 {
     match line {
-        CertLine::Both(_) => None,
-        CertLine::Either(_) => None,
-        CertLine::Cases(_, u) => Some(*u),
-        CertLine::Order(_) => None,
-        CertLine::Refl(_) => None,
-        CertLine::Sym(_) => None,
-        CertLine::Trans(_, _) => None,
-        CertLine::Subst(_, _) => None,
-        CertLine::Cong(_, u, _) => Some(*u),
-        CertLine::Same(_, u) => Some(*u),
-        CertLine::Apart(_, u) => Some(*u),
-        CertLine::Hit(_, _) => None,
-        CertLine::Miss(_, u, _) => Some(*u),
-        CertLine::Lin(_) => None,
-        CertLine::Elim(_, _, _) => None,
-        CertLine::Tight(_) => None,
-        CertLine::Exact(_) => None,
-        CertLine::Close(_) => None,
-        CertLine::Clash(_, _) => None,
+        CertLine::Cases(_, u) | CertLine::Cong(_, u, _) | CertLine::Miss(_, u, _) => Some(*u),
+        CertLine::Same(_, u) | CertLine::Apart(_, u) => Some(*u),
+        _ => None,
     }
 }
 
@@ -89,8 +58,8 @@ pub(crate) fn file_number(names: &HashMap<u64, TermId>, t: TermId) -> u64
     }
 }
 
-/// A line `cong`.
-pub(crate) fn put_cong(text: &mut Vec<u8>, t: u64, u: u64, facts: &[u64]) -> Result<(), AllocError>
+// A line `cong`.
+fn put_cong(text: &mut Vec<u8>, t: u64, u: u64, facts: &[u64]) -> Result<(), AllocError>
     ensures { OnOk result (text.new.items
         ≡ text.old.items ++ one_word (head_word Head.Cong) (t ∷ u ∷ facts.now)) }
 {
@@ -106,51 +75,47 @@ pub(crate) fn put_cert(
     ensures { OnOk result (text.new.items
         ≡ text.old.items ++ line_text (Cert (written (get nat_eq names.now) line.now))) }
 {
+    let t = number_in(names, first_term(line));
+    let u = number_in(names, second_term(line));
+    put_line_with(text, line, t, u)
+}
+
+// The number of a term in the file, if there is a term, 0 where it has none.
+fn number_in(names: &HashMap<u64, TermId>, t: Option<TermId>) -> u64
+    ensures { result ≡ number_in (get nat_eq names.now) t }
+{
+    match t {
+        Some(t) => file_number(names, t),
+        None => 0,
+    }
+}
+
+/// Writes a line of a certificate with these numbers for its first term and its second.
+pub(crate) fn put_line_with(
+    text: &mut Vec<u8>,
+    line: &CertLine,
+    t: u64,
+    u: u64,
+) -> Result<(), AllocError>
+    ensures { OnOk result
+        (text.new.items ≡ text.old.items ++ line_text (Cert (line_with line.now t u))) }
+{
     match line {
         CertLine::Both(n) => put_head(text, Head::Both, &[*n]),
         CertLine::Either(n) => put_head(text, Head::Either, &[*n]),
-        CertLine::Cases(t, u) => {
-            let a = file_number(names, *t);
-            let b = file_number(names, *u);
-            put_head(text, Head::Cases, &[a, b])
-        }
+        CertLine::Cases(_, _) => put_head(text, Head::Cases, &[t, u]),
         CertLine::Order(n) => put_head(text, Head::Order, &[*n]),
-        CertLine::Refl(t) => {
-            let a = file_number(names, *t);
-            put_head(text, Head::Refl, &[a])
-        }
+        CertLine::Refl(_) => put_head(text, Head::Refl, &[t]),
         CertLine::Sym(n) => put_head(text, Head::Sym, &[*n]),
         CertLine::Trans(m, n) => put_head(text, Head::Trans, &[*m, *n]),
         CertLine::Subst(m, n) => put_head(text, Head::Subst, &[*m, *n]),
-        CertLine::Cong(t, u, facts) => {
-            let a = file_number(names, *t);
-            let b = file_number(names, *u);
-            put_cong(text, a, b, facts.list.as_slice())
-        }
-        CertLine::Same(t, u) => {
-            let a = file_number(names, *t);
-            let b = file_number(names, *u);
-            put_head(text, Head::Same, &[a, b])
-        }
-        CertLine::Apart(t, u) => {
-            let a = file_number(names, *t);
-            let b = file_number(names, *u);
-            put_head(text, Head::Apart, &[a, b])
-        }
-        CertLine::Hit(t, n) => {
-            let a = file_number(names, *t);
-            put_head(text, Head::Hit, &[a, *n])
-        }
-        CertLine::Miss(t, u, n) => {
-            let a = file_number(names, *t);
-            let b = file_number(names, *u);
-            put_head(text, Head::Miss, &[a, b, *n])
-        }
+        CertLine::Cong(_, _, facts) => put_cong(text, t, u, facts.list.as_slice()),
+        CertLine::Same(_, _) => put_head(text, Head::Same, &[t, u]),
+        CertLine::Apart(_, _) => put_head(text, Head::Apart, &[t, u]),
+        CertLine::Hit(_, n) => put_head(text, Head::Hit, &[t, *n]),
+        CertLine::Miss(_, _, n) => put_head(text, Head::Miss, &[t, u, *n]),
         CertLine::Lin(n) => put_head(text, Head::Lin, &[*n]),
-        CertLine::Elim(m, n, t) => {
-            let a = file_number(names, *t);
-            put_head(text, Head::Elim, &[*m, *n, a])
-        }
+        CertLine::Elim(m, n, _) => put_head(text, Head::Elim, &[*m, *n, t]),
         CertLine::Tight(n) => put_head(text, Head::Tight, &[*n]),
         CertLine::Exact(n) => put_head(text, Head::Exact, &[*n]),
         CertLine::Close(n) => put_head(text, Head::Close, &[*n]),

@@ -99,8 +99,9 @@ fn write_node<'a, 'p, 'c>(
     ensures widens { ExtendsTable table.old table.new }
 {
     let (opened, cursors) = write_opening(alloc, w, table, next)?;
-    let left = write_goals(alloc, w, table, opened.goals.list.len(), certs)?;
+    let goals = opened.goals.list.len();
     put_states(waiting, opened.states, cursors)?;
+    let left = write_goals(alloc, w, table, goals, certs)?;
     Ok(left)
 }
 

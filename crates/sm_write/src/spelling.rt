@@ -3,10 +3,12 @@ ghost use Rattle.std.specs.Prelude.{◌≡◌, ◌++◌, map, IfOk, OnOk};
 ghost use Rattle.sm_proof.specs.Lines.{Cert, line_of, numbered_line};
 ghost use Rattle.sm_prune.specs.Texts.{bytes_of};
 ghost use Rattle.sm_write.specs.Bytes.{line_text};
+ghost use Rattle.sm_write.specs.Written.{number_or};
 
-use crate::certs::put_cong;
-use crate::text::{put_form, put_head, put_line, put_node, put_term};
-use sm_proof::{Head, Line};
+use crate::certs::{first_term, put_line_with, second_term};
+use crate::text::{put_form, put_line, put_node, put_term};
+use sm_proof::Line;
+use sm_term::TermId;
 use sm_theory::CertLine;
 use std::alloc::{AllocError, Global};
 
@@ -15,26 +17,18 @@ fn put_numbered(text: &mut Vec<u8>, line: &CertLine) -> Result<(), AllocError>
     ensures { OnOk result (text.new.items
         ≡ text.old.items ++ line_text (Cert (numbered_line line.now))) }
 {
-    match line {
-        CertLine::Both(n) => put_head(text, Head::Both, &[*n]),
-        CertLine::Either(n) => put_head(text, Head::Either, &[*n]),
-        CertLine::Cases(t, u) => put_head(text, Head::Cases, &[t.0, u.0]),
-        CertLine::Order(n) => put_head(text, Head::Order, &[*n]),
-        CertLine::Refl(t) => put_head(text, Head::Refl, &[t.0]),
-        CertLine::Sym(n) => put_head(text, Head::Sym, &[*n]),
-        CertLine::Trans(m, n) => put_head(text, Head::Trans, &[*m, *n]),
-        CertLine::Subst(m, n) => put_head(text, Head::Subst, &[*m, *n]),
-        CertLine::Cong(t, u, facts) => put_cong(text, t.0, u.0, facts.list.as_slice()),
-        CertLine::Same(t, u) => put_head(text, Head::Same, &[t.0, u.0]),
-        CertLine::Apart(t, u) => put_head(text, Head::Apart, &[t.0, u.0]),
-        CertLine::Hit(t, n) => put_head(text, Head::Hit, &[t.0, *n]),
-        CertLine::Miss(t, u, n) => put_head(text, Head::Miss, &[t.0, u.0, *n]),
-        CertLine::Lin(n) => put_head(text, Head::Lin, &[*n]),
-        CertLine::Elim(m, n, t) => put_head(text, Head::Elim, &[*m, *n, t.0]),
-        CertLine::Tight(n) => put_head(text, Head::Tight, &[*n]),
-        CertLine::Exact(n) => put_head(text, Head::Exact, &[*n]),
-        CertLine::Close(n) => put_head(text, Head::Close, &[*n]),
-        CertLine::Clash(m, n) => put_head(text, Head::Clash, &[*m, *n]),
+    let t = number_or_zero(first_term(line));
+    let u = number_or_zero(second_term(line));
+    put_line_with(text, line, t, u)
+}
+
+// The number of a term, 0 where there is none.
+fn number_or_zero(t: Option<TermId>) -> u64
+    ensures { result ≡ number_or t }
+{
+    match t {
+        Some(t) => t.0,
+        None => 0,
     }
 }
 

@@ -1,5 +1,5 @@
 // Proof files.
-ghost use Rattle.std.specs.Prelude.{◌≡◌, ◌++◌, length, map, IfOk, OnErr};
+ghost use Rattle.std.specs.Prelude.{◌≡◌, ◌++◌, length, map, IfOk, OnErr, OnOk};
 ghost use Rattle.sm_syntax.specs.text.Parts.{sort_of, task_of};
 ghost use Rattle.sm_syntax.specs.trees.Programs.{declared_of};
 ghost use Rattle.sm_term.specs.Tables.{trees_in, sorts_in};
@@ -8,14 +8,15 @@ ghost use Rattle.sm_cert.specs.Views.{certificate_in};
 ghost use Rattle.sm_plan.specs.SortedStates.{IsTaskSorted};
 ghost use Rattle.sm_plan.specs.Starts.{AreNumbered};
 ghost use Rattle.sm_proof.specs.Lines.{Header};
-ghost use Rattle.sm_proof.specs.Verdicts.{Subject, Passes};
+ghost use Rattle.sm_proof.specs.Verdicts.{Subject, Passes, subject_of};
+ghost use Rattle.sm_task.specs.Filling.{AreFilled};
 ghost use Rattle.sm_text.specs.Tasks.{parts_of};
 ghost use Rattle.sm_prune.specs.UsedLines.{HasNamedLines};
 ghost use Rattle.sm_expand.specs.NumberedPlans.{IsPlanReady};
 ghost use Rattle.sm_expand.specs.Views.{numbered_plan, plan_in};
 ghost use Rattle.sm_write.specs.Bytes.{line_text};
 ghost use Rattle.sm_write.specs.TreesWithin.{AreTreesWithin};
-ghost use Rattle.sm_write.specs.Underway.{IsFresh};
+ghost use Rattle.sm_write.specs.Underway.{IsFresh, IsWhole};
 ghost use Rattle.sm_write.specs.Values.{value_of};
 ghost use Rattle.sm_write.specs.Versions.{HasVersion, version_where};
 ghost use Rattle.sm_write.specs.Writable.{IsWritable};
@@ -27,6 +28,7 @@ use crate::writer::Writer;
 use sm_cert::CertTree;
 use sm_expand::{Plan, start_of};
 use sm_plan::start_state;
+use sm_syntax::{Block, PerCopy};
 use sm_task::{Task, fill_all};
 use sm_term::TermTable;
 use std::alloc::{AllocError, Global};
@@ -114,7 +116,58 @@ fn written_proof(
     ensures named { IfOk result (λ text. HasNamedLines text.items) }
     ensures widens { ExtendsTable table.old table.new }
 {
+    let mut w = fresh_writer(alloc);
+    write_task(alloc, &mut w, table, task, plan, trees)?;
+    let lean = lean_text(alloc, w.text.as_slice())?;
+    finished(alloc, lean.as_slice(), w.exact, task.assumed.is_some())
+}
+
+// Writes the lines of a proof by a writer that wrote nothing.
+fn write_task(
+    alloc: Global,
+    w: &mut Writer,
+    table: &mut TermTable,
+    task: &Task,
+    plan: &Plan,
+    trees: &[CertTree],
+) -> Result<(), AllocError>
+    requires sorted { let t = parts_of task.now in IsTaskSorted (sort_of t.declared) (task_of t) }
+    requires numbered { AreNumbered (declared_of task.now.shared.decls) }
+    requires declared { sorts_in table.old ≡ sort_of (declared_of task.now.shared.decls) }
+    requires plan { IsPlanReady (sorts_in table.old) (trees_in table.old) (numbered_plan plan.now) }
+    requires trees { AreTreesWithin (length (trees_in table.old)) trees.now }
+    requires writable { let terms = trees_in table.old in IsWritable (parts_of task.now)
+        (plan_in (sorts_in table.old) terms plan.now) (map (certificate_in terms) trees.now) }
+    ensures written { let s = subject_of (parts_of task.now) in
+        IsFresh s (value_of w.old) → OnOk result (IsWhole s (value_of w.new)) }
+    ensures widens { ExtendsTable table.old table.new }
+{
     let programs = fill_all(alloc, task)?;
+    write_from_start(alloc, w, table, task, &programs, plan, trees)
+}
+
+// Writes the lines of a proof for a task with these programs.
+fn write_from_start(
+    alloc: Global,
+    w: &mut Writer,
+    table: &mut TermTable,
+    task: &Task,
+    programs: &PerCopy<Block>,
+    plan: &Plan,
+    trees: &[CertTree],
+) -> Result<(), AllocError>
+    requires sorted { let t = parts_of task.now in IsTaskSorted (sort_of t.declared) (task_of t) }
+    requires numbered { AreNumbered (declared_of task.now.shared.decls) }
+    requires declared { sorts_in table.old ≡ sort_of (declared_of task.now.shared.decls) }
+    requires filled { AreFilled (parts_of task.now) programs.now }
+    requires plan { IsPlanReady (sorts_in table.old) (trees_in table.old) (numbered_plan plan.now) }
+    requires trees { AreTreesWithin (length (trees_in table.old)) trees.now }
+    requires writable { let terms = trees_in table.old in IsWritable (parts_of task.now)
+        (plan_in (sorts_in table.old) terms plan.now) (map (certificate_in terms) trees.now) }
+    ensures written { let s = subject_of (parts_of task.now) in
+        IsFresh s (value_of w.old) → OnOk result (IsWhole s (value_of w.new)) }
+    ensures widens { ExtendsTable table.old table.new }
+{
     let shared = &task.shared;
     let (state, _facts) = start_state(
         alloc,
@@ -122,14 +175,11 @@ fn written_proof(
         &shared.decls,
         &shared.outputs,
         task.assumed.as_ref(),
-        &programs,
+        programs,
     )?;
-    let mut w = fresh_writer(alloc);
     let first = Waiting {
         state,
         cursor: start_of(plan),
     };
-    write_nodes(alloc, &mut w, table, first, trees)?;
-    let lean = lean_text(alloc, w.text.as_slice())?;
-    finished(alloc, lean.as_slice(), w.exact, task.assumed.is_some())
+    write_nodes(alloc, w, table, first, trees)
 }

@@ -1,184 +1,22 @@
--- By the kind of the line.
-use Rattle.std.proofs.Common.{◌≡◌, ℕ, List, [], ◌∷◌, ◌++◌, refl, ap, sym, subst, ◌∙◌, nat_eq}
+-- The line has the numbers that its terms have in the file.
+use Rattle.std.proofs.Common.{◌≡◌, ℕ, ◌++◌, ap, ◌∙◌, subst, nat_eq}
 use Rattle.std.specs.Prelude.{OnOk}
 use Rattle.std.specs.HashMap.{get}
-use Rattle.sm_theory.specs.declared.line.CertLine.{CertLine}
-use Rattle.sm_theory.specs.declared.line.CertLine.TheVariants as v
-use Rattle.sm_proof.specs.declared.word.Head.TheVariants as head
-use Rattle.sm_proof.specs.HeadWords.{head_word}
-use Rattle.sm_proof.specs.Lines.{Cert}
-use Rattle.sm_write.specs.Bytes.{line_text, one_word}
-use Rattle.sm_write.specs.Written.{written, file_number}
-use Rattle.sm_write.proofs.BytesLemmas.{one_word_line}
+use Rattle.sm_proof.specs.Lines.{NumberedLine, Cert}
+use Rattle.sm_write.specs.Bytes.{line_text}
+use Rattle.sm_write.specs.LineTerms.{first_term}
+use Rattle.sm_write.specs.Written.{line_with, number_in, written}
+use Rattle.sm_write.proofs.LinesWith.{written_with}
 use Rattle.sm_write.proofs.certs.put_cert.Goals as goal
 
-pub returns-in-Both : goal.returns-in-Both
-returns-in-Both c =
+pub returns : goal.returns
+returns c =
     let names = get nat_eq c.args.names.now in
-    let old = c.args.text.now.items in
-    let new = c.put_head.new.text.items in
-    subst (λ (l : CertLine). OnOk c.put_head.result (new ≡ old ++ line_text (Cert (written names l)))) (sym c.in-Both.is)
-    (subst (λ (b : List ℕ). OnOk c.put_head.result (new ≡ old ++ b))
-    (one_word_line (Cert (written names (v.Both c.in-Both.n))) (head_word head.Both) (c.in-Both.n ∷ []) refl) c.put_head.ensures)
-
-pub returns-in-Either : goal.returns-in-Either
-returns-in-Either c =
-    let names = get nat_eq c.args.names.now in
-    let old = c.args.text.now.items in
-    let new = c.put_head-in-Either.new.text.items in
-    subst (λ (l : CertLine). OnOk c.put_head-in-Either.result (new ≡ old ++ line_text (Cert (written names l)))) (sym c.in-Either.is)
-    (subst (λ (b : List ℕ). OnOk c.put_head-in-Either.result (new ≡ old ++ b))
-    (one_word_line (Cert (written names (v.Either c.in-Either.n))) (head_word head.Either) (c.in-Either.n ∷ []) refl) c.put_head-in-Either.ensures)
-
-pub returns-in-Order : goal.returns-in-Order
-returns-in-Order c =
-    let names = get nat_eq c.args.names.now in
-    let old = c.args.text.now.items in
-    let new = c.put_head-in-Order.new.text.items in
-    subst (λ (l : CertLine). OnOk c.put_head-in-Order.result (new ≡ old ++ line_text (Cert (written names l)))) (sym c.in-Order.is)
-    (subst (λ (b : List ℕ). OnOk c.put_head-in-Order.result (new ≡ old ++ b))
-    (one_word_line (Cert (written names (v.Order c.in-Order.n))) (head_word head.Order) (c.in-Order.n ∷ []) refl) c.put_head-in-Order.ensures)
-
-pub returns-in-Sym : goal.returns-in-Sym
-returns-in-Sym c =
-    let names = get nat_eq c.args.names.now in
-    let old = c.args.text.now.items in
-    let new = c.put_head-in-Sym.new.text.items in
-    subst (λ (l : CertLine). OnOk c.put_head-in-Sym.result (new ≡ old ++ line_text (Cert (written names l)))) (sym c.in-Sym.is)
-    (subst (λ (b : List ℕ). OnOk c.put_head-in-Sym.result (new ≡ old ++ b))
-    (one_word_line (Cert (written names (v.Sym c.in-Sym.n))) (head_word head.Sym) (c.in-Sym.n ∷ []) refl) c.put_head-in-Sym.ensures)
-
-pub returns-in-Trans : goal.returns-in-Trans
-returns-in-Trans c =
-    let names = get nat_eq c.args.names.now in
-    let old = c.args.text.now.items in
-    let new = c.put_head-in-Trans.new.text.items in
-    subst (λ (l : CertLine). OnOk c.put_head-in-Trans.result (new ≡ old ++ line_text (Cert (written names l)))) (sym c.in-Trans.is)
-    (subst (λ (b : List ℕ). OnOk c.put_head-in-Trans.result (new ≡ old ++ b))
-    (one_word_line (Cert (written names (v.Trans c.in-Trans.m c.in-Trans.n))) (head_word head.Trans) (c.in-Trans.m ∷ c.in-Trans.n ∷ []) refl) c.put_head-in-Trans.ensures)
-
-pub returns-in-Subst : goal.returns-in-Subst
-returns-in-Subst c =
-    let names = get nat_eq c.args.names.now in
-    let old = c.args.text.now.items in
-    let new = c.put_head-in-Subst.new.text.items in
-    subst (λ (l : CertLine). OnOk c.put_head-in-Subst.result (new ≡ old ++ line_text (Cert (written names l)))) (sym c.in-Subst.is)
-    (subst (λ (b : List ℕ). OnOk c.put_head-in-Subst.result (new ≡ old ++ b))
-    (one_word_line (Cert (written names (v.Subst c.in-Subst.m c.in-Subst.n))) (head_word head.Subst) (c.in-Subst.m ∷ c.in-Subst.n ∷ []) refl) c.put_head-in-Subst.ensures)
-
-pub returns-in-Lin : goal.returns-in-Lin
-returns-in-Lin c =
-    let names = get nat_eq c.args.names.now in
-    let old = c.args.text.now.items in
-    let new = c.put_head-in-Lin.new.text.items in
-    subst (λ (l : CertLine). OnOk c.put_head-in-Lin.result (new ≡ old ++ line_text (Cert (written names l)))) (sym c.in-Lin.is)
-    (subst (λ (b : List ℕ). OnOk c.put_head-in-Lin.result (new ≡ old ++ b))
-    (one_word_line (Cert (written names (v.Lin c.in-Lin.n))) (head_word head.Lin) (c.in-Lin.n ∷ []) refl) c.put_head-in-Lin.ensures)
-
-pub returns-in-Tight : goal.returns-in-Tight
-returns-in-Tight c =
-    let names = get nat_eq c.args.names.now in
-    let old = c.args.text.now.items in
-    let new = c.put_head-in-Tight.new.text.items in
-    subst (λ (l : CertLine). OnOk c.put_head-in-Tight.result (new ≡ old ++ line_text (Cert (written names l)))) (sym c.in-Tight.is)
-    (subst (λ (b : List ℕ). OnOk c.put_head-in-Tight.result (new ≡ old ++ b))
-    (one_word_line (Cert (written names (v.Tight c.in-Tight.n))) (head_word head.Tight) (c.in-Tight.n ∷ []) refl) c.put_head-in-Tight.ensures)
-
-pub returns-in-Exact : goal.returns-in-Exact
-returns-in-Exact c =
-    let names = get nat_eq c.args.names.now in
-    let old = c.args.text.now.items in
-    let new = c.put_head-in-Exact.new.text.items in
-    subst (λ (l : CertLine). OnOk c.put_head-in-Exact.result (new ≡ old ++ line_text (Cert (written names l)))) (sym c.in-Exact.is)
-    (subst (λ (b : List ℕ). OnOk c.put_head-in-Exact.result (new ≡ old ++ b))
-    (one_word_line (Cert (written names (v.Exact c.in-Exact.n))) (head_word head.Exact) (c.in-Exact.n ∷ []) refl) c.put_head-in-Exact.ensures)
-
-pub returns-in-Close : goal.returns-in-Close
-returns-in-Close c =
-    let names = get nat_eq c.args.names.now in
-    let old = c.args.text.now.items in
-    let new = c.put_head-in-Close.new.text.items in
-    subst (λ (l : CertLine). OnOk c.put_head-in-Close.result (new ≡ old ++ line_text (Cert (written names l)))) (sym c.in-Close.is)
-    (subst (λ (b : List ℕ). OnOk c.put_head-in-Close.result (new ≡ old ++ b))
-    (one_word_line (Cert (written names (v.Close c.in-Close.n))) (head_word head.Close) (c.in-Close.n ∷ []) refl) c.put_head-in-Close.ensures)
-
-pub returns-in-Clash : goal.returns-in-Clash
-returns-in-Clash c =
-    let names = get nat_eq c.args.names.now in
-    let old = c.args.text.now.items in
-    let new = c.put_head-in-Clash.new.text.items in
-    subst (λ (l : CertLine). OnOk c.put_head-in-Clash.result (new ≡ old ++ line_text (Cert (written names l)))) (sym c.in-Clash.is)
-    (subst (λ (b : List ℕ). OnOk c.put_head-in-Clash.result (new ≡ old ++ b))
-    (one_word_line (Cert (written names (v.Clash c.in-Clash.m c.in-Clash.n))) (head_word head.Clash) (c.in-Clash.m ∷ c.in-Clash.n ∷ []) refl) c.put_head-in-Clash.ensures)
-
-pub returns-in-Cases : goal.returns-in-Cases
-returns-in-Cases c =
-    let names = get nat_eq c.args.names.now in
-    let old = c.args.text.now.items in
-    let new = c.put_head-in-Cases.new.text.items in
-    subst (λ (l : CertLine). OnOk c.put_head-in-Cases.result (new ≡ old ++ line_text (Cert (written names l)))) (sym c.in-Cases.is)
-    (subst (λ (b : List ℕ). OnOk c.put_head-in-Cases.result (new ≡ old ++ b))
-    (ap (λ (x : ℕ). one_word (head_word head.Cases) (x ∷ c.file_number-b.result ∷ [])) c.file_number-a.ensures ∙ (ap (λ (x : ℕ). one_word (head_word head.Cases) ((file_number names c.in-Cases.t) ∷ x ∷ [])) c.file_number-b.ensures ∙ (one_word_line (Cert (written names (v.Cases c.in-Cases.t c.in-Cases.u))) (head_word head.Cases) ((file_number names c.in-Cases.t) ∷ (file_number names c.in-Cases.u) ∷ []) refl))) c.put_head-in-Cases.ensures)
-
-pub returns-in-Refl : goal.returns-in-Refl
-returns-in-Refl c =
-    let names = get nat_eq c.args.names.now in
-    let old = c.args.text.now.items in
-    let new = c.put_head-in-Refl.new.text.items in
-    subst (λ (l : CertLine). OnOk c.put_head-in-Refl.result (new ≡ old ++ line_text (Cert (written names l)))) (sym c.in-Refl.is)
-    (subst (λ (b : List ℕ). OnOk c.put_head-in-Refl.result (new ≡ old ++ b))
-    (ap (λ (x : ℕ). one_word (head_word head.Refl) (x ∷ [])) c.file_number-a-in-Refl.ensures ∙ (one_word_line (Cert (written names (v.Refl c.in-Refl.t))) (head_word head.Refl) ((file_number names c.in-Refl.t) ∷ []) refl)) c.put_head-in-Refl.ensures)
-
-pub returns-in-Cong : goal.returns-in-Cong
-returns-in-Cong c =
-    let names = get nat_eq c.args.names.now in
-    let old = c.args.text.now.items in
-    let new = c.put_cong.new.text.items in
-    subst (λ (l : CertLine). OnOk c.put_cong.result (new ≡ old ++ line_text (Cert (written names l)))) (sym c.in-Cong.is)
-    (subst (λ (b : List ℕ). OnOk c.put_cong.result (new ≡ old ++ b))
-    (ap (λ (x : ℕ). one_word (head_word head.Cong) (x ∷ c.file_number-b-in-Cong.result ∷ c.as_slice.result.now)) c.file_number-a-in-Cong.ensures ∙ (ap (λ (x : ℕ). one_word (head_word head.Cong) ((file_number names c.in-Cong.t) ∷ x ∷ c.as_slice.result.now)) c.file_number-b-in-Cong.ensures ∙ (ap (λ (x : List ℕ). one_word (head_word head.Cong) ((file_number names c.in-Cong.t) ∷ (file_number names c.in-Cong.u) ∷ x)) c.as_slice.ensures.value ∙ (one_word_line (Cert (written names (v.Cong c.in-Cong.t c.in-Cong.u c.in-Cong.facts))) (head_word head.Cong) ((file_number names c.in-Cong.t) ∷ (file_number names c.in-Cong.u) ∷ c.in-Cong.facts.list.items) refl)))) c.put_cong.ensures)
-
-pub returns-in-Same : goal.returns-in-Same
-returns-in-Same c =
-    let names = get nat_eq c.args.names.now in
-    let old = c.args.text.now.items in
-    let new = c.put_head-in-Same.new.text.items in
-    subst (λ (l : CertLine). OnOk c.put_head-in-Same.result (new ≡ old ++ line_text (Cert (written names l)))) (sym c.in-Same.is)
-    (subst (λ (b : List ℕ). OnOk c.put_head-in-Same.result (new ≡ old ++ b))
-    (ap (λ (x : ℕ). one_word (head_word head.Same) (x ∷ c.file_number-b-in-Same.result ∷ [])) c.file_number-a-in-Same.ensures ∙ (ap (λ (x : ℕ). one_word (head_word head.Same) ((file_number names c.in-Same.t) ∷ x ∷ [])) c.file_number-b-in-Same.ensures ∙ (one_word_line (Cert (written names (v.Same c.in-Same.t c.in-Same.u))) (head_word head.Same) ((file_number names c.in-Same.t) ∷ (file_number names c.in-Same.u) ∷ []) refl))) c.put_head-in-Same.ensures)
-
-pub returns-in-Apart : goal.returns-in-Apart
-returns-in-Apart c =
-    let names = get nat_eq c.args.names.now in
-    let old = c.args.text.now.items in
-    let new = c.put_head-in-Apart.new.text.items in
-    subst (λ (l : CertLine). OnOk c.put_head-in-Apart.result (new ≡ old ++ line_text (Cert (written names l)))) (sym c.in-Apart.is)
-    (subst (λ (b : List ℕ). OnOk c.put_head-in-Apart.result (new ≡ old ++ b))
-    (ap (λ (x : ℕ). one_word (head_word head.Apart) (x ∷ c.file_number-b-in-Apart.result ∷ [])) c.file_number-a-in-Apart.ensures ∙ (ap (λ (x : ℕ). one_word (head_word head.Apart) ((file_number names c.in-Apart.t) ∷ x ∷ [])) c.file_number-b-in-Apart.ensures ∙ (one_word_line (Cert (written names (v.Apart c.in-Apart.t c.in-Apart.u))) (head_word head.Apart) ((file_number names c.in-Apart.t) ∷ (file_number names c.in-Apart.u) ∷ []) refl))) c.put_head-in-Apart.ensures)
-
-pub returns-in-Hit : goal.returns-in-Hit
-returns-in-Hit c =
-    let names = get nat_eq c.args.names.now in
-    let old = c.args.text.now.items in
-    let new = c.put_head-in-Hit.new.text.items in
-    subst (λ (l : CertLine). OnOk c.put_head-in-Hit.result (new ≡ old ++ line_text (Cert (written names l)))) (sym c.in-Hit.is)
-    (subst (λ (b : List ℕ). OnOk c.put_head-in-Hit.result (new ≡ old ++ b))
-    (ap (λ (x : ℕ). one_word (head_word head.Hit) (x ∷ c.in-Hit.n ∷ [])) c.file_number-a-in-Hit.ensures ∙ (one_word_line (Cert (written names (v.Hit c.in-Hit.t c.in-Hit.n))) (head_word head.Hit) ((file_number names c.in-Hit.t) ∷ c.in-Hit.n ∷ []) refl)) c.put_head-in-Hit.ensures)
-
-pub returns-in-Miss : goal.returns-in-Miss
-returns-in-Miss c =
-    let names = get nat_eq c.args.names.now in
-    let old = c.args.text.now.items in
-    let new = c.put_head-in-Miss.new.text.items in
-    subst (λ (l : CertLine). OnOk c.put_head-in-Miss.result (new ≡ old ++ line_text (Cert (written names l)))) (sym c.in-Miss.is)
-    (subst (λ (b : List ℕ). OnOk c.put_head-in-Miss.result (new ≡ old ++ b))
-    (ap (λ (x : ℕ). one_word (head_word head.Miss) (x ∷ c.file_number-b-in-Miss.result ∷ c.in-Miss.n ∷ [])) c.file_number-a-in-Miss.ensures ∙ (ap (λ (x : ℕ). one_word (head_word head.Miss) ((file_number names c.in-Miss.t) ∷ x ∷ c.in-Miss.n ∷ [])) c.file_number-b-in-Miss.ensures ∙ (one_word_line (Cert (written names (v.Miss c.in-Miss.t c.in-Miss.u c.in-Miss.n))) (head_word head.Miss) ((file_number names c.in-Miss.t) ∷ (file_number names c.in-Miss.u) ∷ c.in-Miss.n ∷ []) refl))) c.put_head-in-Miss.ensures)
-
-pub returns-in-Elim : goal.returns-in-Elim
-returns-in-Elim c =
-    let names = get nat_eq c.args.names.now in
-    let old = c.args.text.now.items in
-    let new = c.put_head-in-Elim.new.text.items in
-    subst (λ (l : CertLine). OnOk c.put_head-in-Elim.result (new ≡ old ++ line_text (Cert (written names l)))) (sym c.in-Elim.is)
-    (subst (λ (b : List ℕ). OnOk c.put_head-in-Elim.result (new ≡ old ++ b))
-    (ap (λ (x : ℕ). one_word (head_word head.Elim) (c.in-Elim.m ∷ c.in-Elim.n ∷ x ∷ [])) c.file_number-a-in-Elim.ensures ∙ (one_word_line (Cert (written names (v.Elim c.in-Elim.m c.in-Elim.n c.in-Elim.t))) (head_word head.Elim) (c.in-Elim.m ∷ c.in-Elim.n ∷ (file_number names c.in-Elim.t) ∷ []) refl)) c.put_head-in-Elim.ensures)
+    let l = c.args.line.now in
+    let t = c.number_in-t.ensures ∙ ap (number_in names) c.first_term.ensures in
+    let u = c.number_in-u.ensures ∙ ap (number_in names) c.second_term.ensures in
+    let is : line_with l c.number_in-t.result c.number_in-u.result ≡ written names l =
+    ap (λ (x : ℕ). line_with l x c.number_in-u.result) t ∙ (ap (line_with l (number_in names (first_term l))) u ∙ written_with names l) in
+    subst
+    (λ (n : NumberedLine). OnOk c.put_line_with.result (c.put_line_with.new.text.items ≡ c.args.text.now.items ++ line_text (Cert n)))
+    is c.put_line_with.ensures

@@ -31,8 +31,8 @@ returns-clause-written c = λ s u.
     let left = opening_left s v w c.in_ok-opened.ensures.widens (value_of c.args.w.now) mid c.args.next xs o c.args.certs.now
     c.requires.states c.requires.trees c.in_ok-opened.ensures.written u in
     subst (λ (l : List Waiting). IsUnderway s w new l c.in_ok-left.left.now) (sym c.in_ok-put_states.ensures)
-    (goals_done s w mid new o xs c.len.result c.args.certs.now c.in_ok-left.left.now left
-    (c.len.ensures ∙ c.in_ok-opened.opened.goals.list.ok.0) c.in_ok-left.ensures.written)
+    (goals_done s w mid new o xs c.len-goals.result c.args.certs.now c.in_ok-left.left.now left
+    (c.len-goals.ensures ∙ c.in_ok-opened.opened.goals.list.ok.0) c.in_ok-left.ensures.written)
 
 pub returns-clause-ready : goal.returns-clause-ready
 returns-clause-ready c =
