@@ -4,8 +4,10 @@ ghost use Rattle.std.specs.Prelude.{count_by};
 ghost use Rattle.sm_io.specs.Causes.{HasCause};
 ghost use Rattle.sm_io.specs.Reads.{ReadsWhole};
 ghost use Rattle.sm_proof.specs.Verdicts.{Passes, subject_of};
-ghost use Rattle.sm_prune.specs.UsedLines.{HasUsedLines};
+ghost use Rattle.sm_prune.specs.UsedLines.{HasNamedLines, HasUsedLines};
+ghost use Rattle.sm_syntax.specs.text.Parts.{sort_of};
 ghost use Rattle.sm_task.specs.Tasks.{parts_of};
+ghost use Rattle.sm_term.specs.Tables.{sorts_in};
 ghost use Rattle.sm_write.specs.Versions.{HasVersion};
 ghost use Rattle.sm_answers.specs.Exit.{ExitsWith};
 ghost use Rattle.sm_check.specs.Checkable.{IsCheckable};
@@ -22,7 +24,7 @@ use sm_audit::is_writable;
 use sm_cert::CertTree;
 use sm_check::{Checked, check_bytes};
 use sm_io::{ReadError, Shelf, read_all};
-use sm_load::load_bytes;
+use sm_load::{Loaded, load_bytes};
 use sm_task::Task;
 use sm_trim::trim_tree;
 use sm_used::has_used_lines;
@@ -213,6 +215,56 @@ fn trimmed_trees(
     Ok(trimmed)
 }
 
+// The text of a proof that was loaded, with other certificates, where they can be written.
+fn written(
+    alloc: Global,
+    task: &Task,
+    loaded: &mut Loaded,
+    trees: &[CertTree],
+) -> Result<Option<Vec<u8>>, AllocError>
+    requires task { IsCheckable (parts_of task.now) }
+    requires declared { sorts_in loaded.old.table ≡ sort_of (parts_of task.now).declared }
+    ensures passes { IfOk result (λ o. IfSome o (λ text. Passes (parts_of task.now) text.items)) }
+    ensures version { IfOk result (λ o.
+        IfSome o (λ text. HasVersion (parts_of task.now) text.items)) }
+    ensures named { IfOk result (λ o. IfSome o (λ text. HasNamedLines text.items)) }
+{
+    let table = &mut loaded.table;
+    if !is_writable(alloc, table, task, &loaded.plan, trees)? {
+        return Ok(None);
+    }
+    Ok(Some(sm_write::write_proof(alloc, table, task, &loaded.plan, trees)?))
+}
+
+// The text of a proof that was loaded, with trimmed certificates.
+fn lean_text(alloc: Global, task: &Task, loaded: Loaded) -> Result<Option<Vec<u8>>, AllocError>
+    requires task { IsCheckable (parts_of task.now) }
+    requires declared { sorts_in loaded.table ≡ sort_of (parts_of task.now).declared }
+    ensures passes { IfOk result (λ o. IfSome o (λ text. Passes (parts_of task.now) text.items)) }
+    ensures version { IfOk result (λ o.
+        IfSome o (λ text. HasVersion (parts_of task.now) text.items)) }
+    ensures named { IfOk result (λ o. IfSome o (λ text. HasNamedLines text.items)) }
+{
+    let list = trimmed_trees(alloc, &loaded.trees, &loaded.starts)?;
+    let mut loaded = loaded;
+    written(alloc, task, &mut loaded, &list)
+}
+
+// A text, where each of its lines is used.
+fn if_used(alloc: Global, task: &Task, text: Vec<u8>) -> Result<Option<Vec<u8>>, AllocError>
+    requires task { IsCheckable (parts_of task.now) }
+    requires named { HasNamedLines text.items }
+    ensures text { IfOk result (λ o. IfSome o (λ used. used ≡ text)) }
+    ensures used { IfOk result (λ o. IfSome o (λ used.
+        HasUsedLines (subject_of (parts_of task.now)) used.items)) }
+{
+    if has_used_lines(alloc, task, &text)? {
+        Ok(Some(text))
+    } else {
+        Ok(None)
+    }
+}
+
 // The proof without lines that nobody uses, of the bytes of one that passes for the task. It is none
 // only where what they say can't be written again, or a line of what is written isn't used.
 fn lean_proof(alloc: Global, task: &Task, bytes: &[u8]) -> Result<Option<Vec<u8>>, AllocError>
@@ -227,17 +279,8 @@ fn lean_proof(alloc: Global, task: &Task, bytes: &[u8]) -> Result<Option<Vec<u8>
         Some(loaded) => loaded,
         None => return Ok(None),
     };
-    let mut table = loaded.table;
-    let plan = loaded.plan;
-    let list = trimmed_trees(alloc, &loaded.trees, &loaded.starts)?;
-    let trees = list.as_slice();
-    if !is_writable(alloc, &mut table, task, &plan, trees)? {
-        return Ok(None);
-    }
-    let lean = sm_write::write_proof(alloc, &mut table, task, &plan, trees)?;
-    if has_used_lines(alloc, task, &lean)? {
-        Ok(Some(lean))
-    } else {
-        Ok(None)
+    match lean_text(alloc, task, loaded)? {
+        Some(text) => if_used(alloc, task, text),
+        None => Ok(None),
     }
 }
