@@ -7,6 +7,7 @@ pub mod AnswerUnique
 pub mod SpelledLemmas
 pub mod ReadingsLemmas
 pub mod WhySaid
+pub mod CheckAnswers
 pub mod BatchTold
 pub mod BatchGiven
 pub mod BatchText

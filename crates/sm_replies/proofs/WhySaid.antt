@@ -21,12 +21,23 @@ shown_rests t effort status text Proved h = absurd h
 shown_rests t effort status text (Input store) h = h
 shown_rests t effort status text (Stopped stop) h = absurd h
 
+-- no proof comes with an answer that isn't accepted
+none_comes : (t : Parts) (status : Status) (o : Option (Vec ℕ Global)) → o ≡ None → (status ≡ Accepted → ⊥)
+    → ComesWith t status (option_map (λ (v : Vec ℕ Global). v.items) o)
+none_comes t status o none other =
+    subst (λ (x : Option (Vec ℕ Global)). ComesWith t status (option_map (λ (v : Vec ℕ Global). v.items) x)) (sym none) other
+
 -- no proof comes with a conflict
 pub shown_comes : (t : Parts) (status : Status) (o : Option (Vec ℕ Global)) → o ≡ None → status ≡ Conflict
     → ComesWith t status (option_map (λ (v : Vec ℕ Global). v.items) o)
 shown_comes t status o none is =
-    subst (λ (x : Option (Vec ℕ Global)). ComesWith t status (option_map (λ (v : Vec ℕ Global). v.items) x)) (sym none)
-    (λ (accepted : status ≡ Accepted). absurd (let both : Conflict ≡ Accepted = sym is ∙ accepted in cc))
+    none_comes t status o none (λ (accepted : status ≡ Accepted). absurd (let both : Conflict ≡ Accepted = sym is ∙ accepted in cc))
+
+-- none comes where the search decides nothing
+pub unknown_comes : (t : Parts) (status : Status) (o : Option (Vec ℕ Global)) → o ≡ None → status ≡ Unknown
+    → ComesWith t status (option_map (λ (v : Vec ℕ Global). v.items) o)
+unknown_comes t status o none is =
+    none_comes t status o none (λ (accepted : status ≡ Accepted). absurd (let both : Unknown ≡ Accepted = sym is ∙ accepted in cc))
 
 -- an answer that shows an input is a Conflict
 pub shown_is : (t : Parts) (status : Status) (text : List ℕ) (g : Ground) → IsShownBy t status text g → status ≡ Conflict

@@ -3,6 +3,7 @@ pub mod Gen
 pub mod Seconds
 pub mod Suggest
 pub mod Grounds
+pub mod Undecided
 pub mod Batch
 pub mod HeadlineBatch
 pub mod Taken

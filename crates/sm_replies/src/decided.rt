@@ -1,30 +1,32 @@
 // What `check` answers to a task.
-ghost use Rattle.std.specs.Prelude.{◌≡◌, ◌<◌, ◌≤◌, ◌++◌, List, ℕ, None, IfOk, option_map, codes};
+ghost use Rattle.std.specs.Prelude.{◌≡◌, ℕ, None, IfOk, option_map, codes};
 ghost use Rattle.sm_check.specs.Checkable.{IsCheckable};
 ghost use Rattle.sm_eval.specs.StoredValues.{meaning, sorts_of};
+ghost use Rattle.sm_goals.specs.Whole.{IsWhole};
 ghost use Rattle.sm_replay.specs.Sorted.{sort_fault};
 ghost use Rattle.sm_replay.specs.Trials.{IsLeast};
 ghost use Rattle.sm_replay.specs.InputText.{AreNamed};
+ghost use Rattle.sm_syntax.specs.claim.ConflictFree.{ConflictFree};
 ghost use Rattle.sm_syntax.specs.text.Parts.{sort_of, task_of};
 ghost use Rattle.sm_syntax.specs.trees.Programs.{declared_of};
 ghost use Rattle.sm_task.specs.Tasks.{parts_of};
 ghost use Rattle.sm_text.specs.printing.Named.{HasText};
-ghost use Rattle.sm_replies.specs.Check.{AnswersCheck, IsNote, SaysNoted, ShowsFrom, ShowsTrial};
+ghost use Rattle.sm_replies.specs.Check.{AnswersCheck, SaysNoted, ShowsFrom, ShowsTrial};
 ghost use Rattle.sm_replies.specs.Grounds.{IsShownBy, RestsOn};
 ghost use Rattle.sm_replies.specs.Views.{ComesWith, verdict_at};
 ghost use Rattle.sm_words.specs.Views.{HasWorkers};
 
-use crate::ground::{Ground, at_goal};
-use sm_answers::{
-    Reply, Status, coefficient_line, goal_line, put_input_line, too_many_line, trial_line,
-};
+use crate::ground::Ground;
+use crate::notes::noted;
+use crate::undecided::{left_open, out_of_range, out_of_steps, too_many};
+use sm_answers::{Reply, Status, put_input_line, trial_line};
 use sm_eval::Store;
+use sm_goals::Proof;
 use sm_houdini::{Outcome, proof_text, search};
 use sm_par::Gate;
-use sm_replay::{Verdict, some_trial_meets, trial, write_input};
+use sm_replay::{Verdict, trial, write_input};
 use sm_syntax::Name;
 use sm_task::Task;
-use sm_why::{Manner, Stop};
 use sm_words::{Effort, line};
 use std::alloc::{AllocError, Global};
 use std::thread::Threads;
@@ -74,62 +76,39 @@ pub fn check<R: Threads + Sync, G: Gate>(
         effort.exact,
     )?;
     match outcome {
-        Outcome::Accepted(proof) => {
-            let text = proof_text(alloc, task, proof)?;
-            let reply = accepted(alloc, task)?;
-            Ok(Decided {
-                reply,
-                proof: Some(text),
-                ground: Ground::Proved,
-            })
-        }
-        Outcome::Conflict { trial, verdict } => {
-            let decided = conflict(alloc, task, trial, verdict)?;
-            Ok(decided)
-        }
-        Outcome::Open { node, goal } => {
-            let text = goal_line(alloc, "Open", node, goal)?;
-            let reply = unknown(alloc, task, text)?;
-            Ok(Decided {
-                reply,
-                proof: None,
-                ground: at_goal(Manner::Open, goal),
-            })
-        }
-        Outcome::Steps { node, goal } => {
-            let text = goal_line(alloc, "Steps", node, goal)?;
-            let reply = unknown(alloc, task, text)?;
-            Ok(Decided {
-                reply,
-                proof: None,
-                ground: at_goal(Manner::Steps, goal),
-            })
-        }
+        Outcome::Accepted(proof) => shown_by(alloc, task, proof),
+        Outcome::Conflict { trial, verdict } => conflict(alloc, task, trial, verdict),
+        Outcome::Open { node, goal } => left_open(alloc, task, node, goal),
+        Outcome::Steps { node, goal } => out_of_steps(alloc, task, node, goal),
         Outcome::Coefficient {
             node,
             goal,
             op,
             a,
             b,
-        } => {
-            let text = coefficient_line(alloc, node, goal, op, a, b)?;
-            let reply = unknown(alloc, task, text)?;
-            Ok(Decided {
-                reply,
-                proof: None,
-                ground: at_goal(Manner::Coefficient, goal),
-            })
-        }
-        Outcome::TooMany => {
-            let text = too_many_line(alloc)?;
-            let reply = unknown(alloc, task, text)?;
-            Ok(Decided {
-                reply,
-                proof: None,
-                ground: Ground::Stopped(Stop::TooMany),
-            })
-        }
+        } => out_of_range(alloc, task, node, goal, op, a, b),
+        Outcome::TooMany => too_many(alloc, task),
     }
+}
+
+// The answer that a proof shows the task.
+fn shown_by(alloc: Global, task: &Task, proof: Proof) -> Result<Decided, AllocError>
+    requires spelled { HasText (parts_of task.now) }
+    requires proof { IsWhole (parts_of task.now) proof }
+    ensures free { IfOk result (λ d. ConflictFree (task_of (parts_of task.now))) }
+    ensures says { IfOk result (λ d. SaysNoted (parts_of task.now) Status.Accepted (codes "Accepted\n")
+        d.reply.status d.reply.text.items) }
+    ensures proof { IfOk result (λ d. ComesWith (parts_of task.now) d.reply.status
+        (option_map (λ v. v.items) d.proof)) }
+    ensures ground { IfOk result (λ d. d.ground ≡ Ground.Proved) }
+{
+    let text = proof_text(alloc, task, proof)?;
+    let reply = accepted(alloc, task)?;
+    Ok(Decided {
+        reply,
+        proof: Some(text),
+        ground: Ground::Proved,
+    })
 }
 
 // The answer that a trial violates.
@@ -232,37 +211,4 @@ pub fn accepted(alloc: Global, task: &Task) -> Result<Reply, AllocError>
 {
     let text = line(alloc, "Accepted", &[])?;
     noted(alloc, task, Status::Accepted, text)
-}
-
-// The answer that the task is not decided, with this line.
-fn unknown(alloc: Global, task: &Task, text: Vec<u8>) -> Result<Reply, AllocError>
-    requires { sort_fault (parts_of task.now) ≡ None }
-    ensures { IfOk result (λ r. SaysNoted (parts_of task.now) Status.Unknown text.items
-        r.status r.text.items) }
-{
-    noted(alloc, task, Status::Unknown, text)
-}
-
-// A line with the note behind it.
-fn noted(alloc: Global, task: &Task, status: Status, text: Vec<u8>) -> Result<Reply, AllocError>
-    requires { sort_fault (parts_of task.now) ≡ None }
-    ensures { IfOk result (λ r. SaysNoted (parts_of task.now) status text.items
-        r.status r.text.items) }
-{
-    let note = note_of(alloc, task)?;
-    let mut text = text;
-    text.extend_from_slice(note.as_bytes())?;
-    Ok(Reply { status, text })
-}
-
-// What comes after the decision.
-fn note_of(alloc: Global, task: &Task) -> Result<&'static str, AllocError>
-    requires { sort_fault (parts_of task.now) ≡ None }
-    ensures { IfOk result (λ note. IsNote (parts_of task.now) note.now) }
-{
-    if some_trial_meets(alloc, task)? {
-        Ok("")
-    } else {
-        Ok("no trial meets the assumption\n")
-    }
 }

@@ -21,7 +21,9 @@ mod gathering;
 mod ground;
 mod limit;
 mod making;
+mod notes;
 mod suggesting;
+mod undecided;
 
 pub use batching::batch_in;
 pub use decided::{Decided, Place, accepted, check, violated};
