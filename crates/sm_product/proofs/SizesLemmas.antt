@@ -1,5 +1,6 @@
 -- Goals and facts of obligations, counted one by one.
-use Rattle.std.proofs.Common.{Bool, false, ◌&&◌, nat_le, Result, Ok, Err}
+use Rattle.std.proofs.Common.{Bool, false, ◌&&◌, nat_le, Result, Ok, Err, IfOk}
+use Rattle.std.specs.declared.alloc.AllocError.{AllocError}
 use Rattle.std.proofs.lemmas.Bool.{lt-leb}
 use Rattle.std.proofs.Common.{◌≡◌, ℕ, zero, suc, ◌+◌, ◌<◌, ◌≤◌, List, [], ◌∷◌, ◌++◌, length, take, get_or, refl, sym, ap, ◌∙◌, arith}
 use Rattle.std.proofs.lemmas.List.{take_more, map-append}
@@ -66,17 +67,18 @@ pub within_is : (n : ℕ) (ds : List plain.Due) (b : Bool) → b ≡ (nat_le (n 
 unfolding is_within
 within_is n ds b e = e
 
-none_within : (n : ℕ) (w : Fault) → false ≡ is_within n (Err w)
+-- a plan without obligations is not within the limits
+pub fault_within : (n : ℕ) (r : Result (List plain.Due) Fault) (w : Fault) → r ≡ Err w → false ≡ is_within n r
 unfolding is_within
-none_within n w = refl
+fault_within n r w e = ap (is_within n) (sym e)
 
 -- whether a task is small, by the obligations of its plan
-pub small_is : (t : Parts) (n : ℕ) (p : Plan) (r : Result (List plain.Due) Fault) (b : Bool) → p ≡ plan_of t (full_choice t) →
-    n ≡ sketch_size (sketch_of t) → obligations (task_of t) p ≡ r → b ≡ is_within n r → b ≡ is_small t
-small_is t n p r b same nodes asks h =
-    h ∙ (λ k. is_within ((nodes ∙ sym (plan_size (kept_by (full_choice t)) 0 (sketch_of t))) k)
-    ((sym asks ∙ ap (obligations (task_of t)) same) k))
+small_is : (t : Parts) (n : ℕ) (p : Plan) (b : Bool) → p ≡ plan_of t (full_choice t) → n ≡ sketch_size (sketch_of t) →
+    b ≡ is_within n (obligations (task_of t) p) → b ≡ is_small t
+small_is t n p b same nodes h =
+    h ∙ (λ k. is_within ((nodes ∙ sym (plan_size (kept_by (full_choice t)) 0 (sketch_of t))) k) (obligations (task_of t) (same k)))
 
-pub not_small : (t : Parts) (n : ℕ) (p : Plan) (w : Fault) → p ≡ plan_of t (full_choice t) → n ≡ sketch_size (sketch_of t) →
-    obligations (task_of t) p ≡ Err w → false ≡ is_small t
-not_small t n p w same nodes asks = small_is t n p (Err w) false same nodes asks (none_within n w)
+pub small_ok : (t : Parts) (n : ℕ) (p : Plan) → p ≡ plan_of t (full_choice t) → n ≡ sketch_size (sketch_of t) →
+    (r : Result Bool AllocError) → IfOk r (λ b. b ≡ is_within n (obligations (task_of t) p)) → IfOk r (λ b. b ≡ is_small t)
+small_ok t n p same nodes (Err e) h = h
+small_ok t n p same nodes (Ok b) h = small_is t n p b same nodes h

@@ -7,6 +7,7 @@ ghost use Rattle.sm_plan.specs.SortedStates.{IsTaskSorted};
 ghost use Rattle.sm_plan.specs.Starts.{AreNumbered};
 ghost use Rattle.sm_sketch.specs.SketchViews.{sketch_in, IsSketchReady};
 ghost use Rattle.sm_term.specs.Tables.{trees_in, sorts_in};
+ghost use Rattle.sm_term.specs.TableLaws.{ExtendsTable};
 ghost use Rattle.sm_product.specs.Errors.{TellsTask};
 ghost use Rattle.sm_product.specs.Laws.{HaveNoHole};
 ghost use Rattle.sm_product.specs.ProductPlans.{site_count};
@@ -39,8 +40,8 @@ pub fn sites(alloc: Global, task: &Task) -> Result<u64, ProductError>
     sites_within(alloc, &mut table, task, &sketch)
 }
 
-// How many sites the sketch of a task has, where the plan of all its templates is within the limits.
-fn sites_within(
+/// How many sites the sketch of a task has, where the plan of all its templates is within the limits.
+pub(crate) fn sites_within(
     alloc: Global,
     table: &mut TermTable,
     task: &Task,
@@ -56,6 +57,7 @@ fn sites_within(
     ensures ok { IfOk result (λ n. n ≡ site_count (parts_of task.now)) }
     ensures small { OnOk result (sizes.is_small (parts_of task.now) ≡ true) }
     ensures err { IfErr result (λ e. TellsTask e (parts_of task.now)) }
+    ensures widens { ExtendsTable table.old table.new }
 {
     let full = all_templates(alloc, sketch)?;
     if !is_task_small(alloc, table, task, sketch, &full)? {

@@ -1,5 +1,5 @@
 // The product of a hole of the shared code.
-ghost use Rattle.std.specs.Prelude.{◌≡◌, ◌≤◌, ◌&&◌, ◌||◌, not, false, if◌then◌else◌, IfOk};
+ghost use Rattle.std.specs.Prelude.{◌≡◌, ◌≤◌, ◌&&◌, ◌||◌, not, if◌then◌else◌};
 ghost use Rattle.std.specs.List.{list_any};
 ghost use Rattle.sm_syntax.specs.claim.ConflictFree.{Copy};
 ghost use Rattle.sm_syntax.specs.claim.Fill.{filling};
@@ -14,28 +14,22 @@ ghost use Rattle.sm_term.specs.TableLaws.{ExtendsTable};
 ghost use Rattle.sm_text.specs.Tasks.{parts_of};
 ghost use Rattle.sm_plan.specs.Copies as sets;
 ghost use Rattle.sm_plan.specs.Masks.{set_of};
-ghost use Rattle.sm_plan.specs.Views.{rest_code};
 ghost use Rattle.sm_moves.specs.CodeShapes as shapes;
 ghost use Rattle.sm_moves.specs.CopySets.{members, only_in};
 ghost use Rattle.sm_moves.specs.FilledCode.{block_codes};
 ghost use Rattle.sm_moves.specs.Moves as moves;
-ghost use Rattle.sm_template.specs.Templates as formulas;
-ghost use Rattle.sm_sketch.specs.Sketches as sketches;
 ghost use Rattle.sm_sketch.specs.SketchViews.{sketch_in, IsSketchReady};
 ghost use Rattle.sm_product.specs.Drawn.{IsDrawn};
 ghost use Rattle.sm_product.specs.ProductContexts.{IsContextReady};
-ghost use Rattle.sm_product.specs.MiniProducts as beside;
 ghost use Rattle.sm_product.specs.Products as plain;
 
-use crate::beside::side_by_side;
+use crate::blocks::{apart_blocks, blocks_beside};
 use crate::product::ProductContext;
 use sm_moves::{filling_at, has, least};
-use sm_plan::Continuation;
-use sm_sketch::{ProductError, Sketch, apart, ends};
+use sm_sketch::{ProductError, Sketch};
 use sm_syntax::{Block, CopyName, Fillings, PerCopy, Stmt, same_block};
-use sm_template::block_templates;
 use sm_term::TermTable;
-use std::alloc::{AllocError, Global};
+use std::alloc::Global;
 
 // The filling of a hole, or a block that has no statement.
 fn filling_or<'a>(fillings: &'a Fillings, hole: u32, none: &'a Block) -> &'a Block
@@ -168,65 +162,6 @@ fn is_apart(blocks: &PerCopy<&Block>, set: u8) -> bool
     !is_shared(blocks, set) && may_fork(blocks, set)
 }
 
-// How many statements the block of each copy has.
-fn counts(blocks: &PerCopy<&Block>) -> PerCopy<u64>
-    ensures { (c : Copy) → of_copy result c ≡ shapes.own_statements (block_codes blocks.now c) }
-{
-    PerCopy {
-        base: blocks.base.list.len() as u64,
-        variant_a: blocks.variant_a.list.len() as u64,
-        variant_b: blocks.variant_b.list.len() as u64,
-        candidate: blocks.candidate.list.len() as u64,
-    }
-}
-
-// What is left of each copy before its block.
-fn whole<'a>(
-    alloc: Global,
-    blocks: &PerCopy<&'a Block>,
-) -> Result<PerCopy<Continuation<'a>>, AllocError>
-    ensures { (c : Copy) →
-        IfOk result (λ p. rest_code (of_copy p c) ≡ block_codes blocks.now c) }
-{
-    Ok(PerCopy {
-        base: Continuation::of(alloc, blocks.base)?,
-        variant_a: Continuation::of(alloc, blocks.variant_a)?,
-        variant_b: Continuation::of(alloc, blocks.variant_b)?,
-        candidate: Continuation::of(alloc, blocks.candidate)?,
-    })
-}
-
-// The blocks of a set's copies side by side, proved apart.
-fn apart_blocks(
-    alloc: Global,
-    table: &mut TermTable,
-    cx: &ProductContext<'_>,
-    blocks: &PerCopy<&Block>,
-    set: u8,
-    next: Sketch,
-) -> Result<Sketch, ProductError>
-    requires set { set ≤ 15 }
-    requires context { IsContextReady (sorts_in table.old) cx.now }
-    requires sorted { (c : Copy) → IsWellSorted (sorts_in table.old) (block_codes blocks.now c) }
-    requires no_hole { (c : Copy) → shapes.has_hole (block_codes blocks.now c) ≡ false }
-    requires outside { (c : Copy) → sets.has (set_of set) c ≡ false →
-        block_codes blocks.now c ≡ End }
-    requires next { IsSketchReady (sorts_in table.old) (trees_in table.old) next }
-    ensures drawn { let t = parts_of cx.now.task.now in let code = block_codes blocks.now in
-        let p = sketch_in (sorts_in table.old) (trees_in table.old) next in
-        let inner = beside.side_by_side t (set_of set) code sketches.ends in
-        let templates = formulas.block_templates t code in
-        IsDrawn table.new (sketches.apart templates
-        (λ (c : Copy). shapes.own_statements (code c)) inner p) result }
-    ensures widens { ExtendsTable table.old table.new }
-{
-    let rests = whole(alloc, blocks)?;
-    let inner = side_by_side(alloc, table, &cx.site, set, rests, ends(alloc))?;
-    let code = whole(alloc, blocks)?;
-    let templates = block_templates(alloc, table, &cx.site, &code)?;
-    apart(alloc, counts(blocks), templates, inner, next)
-}
-
 /// The product of a hole of the shared code, and what follows.
 pub(crate) fn product_hole(
     alloc: Global,
@@ -254,6 +189,5 @@ pub(crate) fn product_hole(
     if is_apart(&blocks, set) {
         return apart_blocks(alloc, table, cx, &blocks, set, next);
     }
-    let rests = whole(alloc, &blocks)?;
-    side_by_side(alloc, table, &cx.site, set, rests, next)
+    blocks_beside(alloc, table, cx, &blocks, set, next)
 }

@@ -18,6 +18,7 @@
 
 mod asking;
 mod beside;
+mod blocks;
 mod counting;
 mod hole;
 mod ifs;

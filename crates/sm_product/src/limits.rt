@@ -8,9 +8,11 @@ ghost use Rattle.sm_term.specs.TableLaws.{ExtendsTable};
 ghost use Rattle.sm_term.specs.Terms.{Tree};
 ghost use Rattle.sm_text.specs.Tasks.{parts_of};
 ghost use Rattle.sm_task.specs.Filling.{AreFilled};
+ghost use Rattle.sm_plan.specs.Plans.{obligations};
 ghost use Rattle.sm_plan.specs.SortedStates.{IsTaskSorted};
 ghost use Rattle.sm_plan.specs.Starts.{AreNumbered};
-ghost use Rattle.sm_expand.specs.Views.{dues_in};
+ghost use Rattle.sm_expand.specs.NumberedPlans.{IsPlanReady};
+ghost use Rattle.sm_expand.specs.Views.{numbered_plan, plan_in, dues_in};
 ghost use Rattle.sm_sketch.specs.ChoiceViews.{choice_in};
 ghost use Rattle.sm_sketch.specs.SketchViews.{sketch_in, IsSketchReady};
 ghost use Rattle.sm_product.specs.ProductPlans.{full_choice};
@@ -19,7 +21,7 @@ ghost use Rattle.sm_product.specs.Sizes as plain;
 ghost use Rattle.sm_product.specs.Sizes.{goals_in, facts_in};
 
 use crate::asking::obligations_of;
-use sm_expand::{Due, PlanFault};
+use sm_expand::{Due, Plan, PlanFault};
 use sm_sketch::{Sketch, TemplateChoice, plan_with};
 use sm_syntax::{Block, PerCopy};
 use sm_task::fill_all;
@@ -153,11 +155,33 @@ fn is_within_limits(
     ensures widens { ExtendsTable table.old table.new }
 {
     let plan = plan_with(alloc, sketch, full)?;
-    match obligations_of(alloc, table, task, programs, &plan) {
-        Ok(dues) => {
-            let nodes = sketch.extent.nodes;
-            Ok(are_within(nodes, &dues.list))
-        }
+    let nodes = sketch.extent.nodes;
+    is_plan_within(alloc, table, task, programs, &plan, nodes)
+}
+
+// Whether a plan with so many nodes has obligations that are within the limits.
+fn is_plan_within(
+    alloc: Global,
+    table: &mut TermTable,
+    task: &Task,
+    programs: &PerCopy<Block>,
+    plan: &Plan,
+    nodes: u64,
+) -> Result<bool, AllocError>
+    requires declared { sorts_in table.old ≡ sort_of (declared_of task.now.shared.decls) }
+    requires numbered { AreNumbered (declared_of task.now.shared.decls) }
+    requires sorted { IsTaskSorted (sort_of (declared_of task.now.shared.decls))
+        (task_of (parts_of task.now)) }
+    requires filled { AreFilled (parts_of task.now) programs.now }
+    requires plan { IsPlanReady (sorts_in table.old) (trees_in table.old) (numbered_plan plan.now) }
+    ensures within { let p = plan_in (sorts_in table.old) (trees_in table.old) plan.now in
+        IfOk result (λ b. b ≡ plain.is_within nodes (obligations (task_of (parts_of task.now)) p)) }
+
+    // Each term keeps its number.
+    ensures widens { ExtendsTable table.old table.new }
+{
+    match obligations_of(alloc, table, task, programs, plan) {
+        Ok(dues) => Ok(are_within(nodes, &dues.list)),
         Err(PlanFault::Wrong { .. }) => Ok(false),
         Err(PlanFault::Deep) => Ok(false),
         Err(PlanFault::Memory) => Err(AllocError),

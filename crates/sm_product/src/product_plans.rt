@@ -23,11 +23,11 @@ ghost use Rattle.sm_product.specs.ProductPlans.{site_count};
 ghost use Rattle.sm_product.specs.Products.{sketch_of};
 ghost use Rattle.sm_product.specs.Sizes as sizes;
 
-use crate::limits::is_task_small;
+use crate::counting::sites_within;
 use crate::sketching::sketch_of;
 use sm_expand::Plan;
 use sm_plan::Formulas;
-use sm_sketch::{ProductError, TemplateChoice, all_templates, plan_with, sites};
+use sm_sketch::{ProductError, TemplateChoice, plan_with, sites};
 use sm_term::TermTable;
 use sm_text::Task;
 use std::alloc::Global;
@@ -100,10 +100,8 @@ fn made_plan(
     ensures widens { ExtendsTable table.old table.new }
 {
     let sketch = sketch_of(alloc, table, task)?;
-    let full = all_templates(alloc, &sketch)?;
-    if !is_task_small(alloc, table, task, &sketch, &full)? {
-        return Err(ProductError::TooMany);
-    }
+    // A task that isn't small has no plan.
+    sites_within(alloc, table, task, &sketch)?;
     Ok(plan_with(alloc, &sketch, choice)?)
 }
 

@@ -5,19 +5,14 @@ use Rattle.sm_syntax.specs.claim.ConflictFree.{Copy}
 use Rattle.sm_syntax.specs.claim.Fill.{filling}
 use Rattle.sm_syntax.specs.claim.Syntax.{Code, End}
 use Rattle.sm_syntax.specs.text.Sorts.{IsWellSorted}
-use Rattle.sm_syntax.specs.trees.Copies.{of_copy}
 use Rattle.sm_term.specs.Tables.{trees_in, sorts_in}
 use Rattle.sm_text.specs.Tasks.{parts_of}
 use Rattle.sm_plan.specs.Copies.{has}
 use Rattle.sm_plan.specs.Masks.{set_of}
-use Rattle.sm_plan.specs.Views.{rest_code}
 use Rattle.sm_moves.specs.CodeShapes.{has_hole}
 use Rattle.sm_moves.specs.CopySets.{only_in}
 use Rattle.sm_moves.specs.FilledCode.{block_codes}
 use Rattle.sm_sketch.specs.SketchViews.{sketch_in}
-use Rattle.sm_product.specs.Drawn.{IsDrawn}
-use Rattle.sm_product.specs.MiniProducts.{side_by_side}
-use Rattle.sm_product.proofs.DrawnLemmas.{drawn_by}
 use Rattle.sm_product.proofs.HoleDrawn.{hole_apart, hole_beside}
 use Rattle.sm_product.proofs.hole.product_hole.Goals as goal
 
@@ -46,23 +41,22 @@ apart_blocks-requires-clause-outside c = λ (d : Copy) out.
     not_in (has (set_of c.args.set) d) (block_codes c.fillings_in-blocks.result d)
     (filling ((parts_of c.args.cx.now.task.now).fillings d) c.args.hole) (c.fillings_in-blocks.ensures d) out
 
-pub side_by_side-requires-clause-sorted : goal.side_by_side-requires-clause-sorted
-side_by_side-requires-clause-sorted c = λ (d : Copy).
-    in_set (λ (k : Code). IsWellSorted (sorts_in c.args.table.now) k) (has (set_of c.args.set) d) (rest_code
-    (of_copy c.in_ok-rests.rests d))
-    (filling ((parts_of c.args.cx.now.task.now).fillings d) c.args.hole) (c.in_ok-rests.ensures d ∙ c.fillings_in-blocks.ensures d)
-    (c.requires.sorted d) tt
+pub blocks_beside-requires-clause-sorted : goal.blocks_beside-requires-clause-sorted
+blocks_beside-requires-clause-sorted c = λ (d : Copy).
+    in_set (λ (k : Code). IsWellSorted (sorts_in c.args.table.now) k) (has (set_of c.args.set) d)
+    (block_codes c.fillings_in-blocks.result d)
+    (filling ((parts_of c.args.cx.now.task.now).fillings d) c.args.hole) (c.fillings_in-blocks.ensures d) (c.requires.sorted d) tt
 
-pub side_by_side-requires-clause-no_hole : goal.side_by_side-requires-clause-no_hole
-side_by_side-requires-clause-no_hole c = λ (d : Copy).
-    in_set (λ (k : Code). has_hole k ≡ false) (has (set_of c.args.set) d) (rest_code (of_copy c.in_ok-rests.rests d))
-    (filling ((parts_of c.args.cx.now.task.now).fillings d) c.args.hole) (c.in_ok-rests.ensures d ∙ c.fillings_in-blocks.ensures d)
+pub blocks_beside-requires-clause-no_hole : goal.blocks_beside-requires-clause-no_hole
+blocks_beside-requires-clause-no_hole c = λ (d : Copy).
+    in_set (λ (k : Code). has_hole k ≡ false) (has (set_of c.args.set) d) (block_codes c.fillings_in-blocks.result d)
+    (filling ((parts_of c.args.cx.now.task.now).fillings d) c.args.hole) (c.fillings_in-blocks.ensures d)
     (c.requires.context.no_hole d c.args.hole) refl
 
-pub side_by_side-requires-clause-outside : goal.side_by_side-requires-clause-outside
-side_by_side-requires-clause-outside c = λ (d : Copy) out.
-    not_in (has (set_of c.args.set) d) (rest_code (of_copy c.in_ok-rests.rests d))
-    (filling ((parts_of c.args.cx.now.task.now).fillings d) c.args.hole) (c.in_ok-rests.ensures d ∙ c.fillings_in-blocks.ensures d) out
+pub blocks_beside-requires-clause-outside : goal.blocks_beside-requires-clause-outside
+blocks_beside-requires-clause-outside c = λ (d : Copy) out.
+    not_in (has (set_of c.args.set) d) (block_codes c.fillings_in-blocks.result d)
+    (filling ((parts_of c.args.cx.now.task.now).fillings d) c.args.hole) (c.fillings_in-blocks.ensures d) out
 
 pub returns-then-is_apart-clause-drawn : goal.returns-then-is_apart-clause-drawn
 returns-then-is_apart-clause-drawn c =
@@ -78,17 +72,10 @@ returns-then-is_apart-clause-drawn c =
 pub returns-clause-drawn : goal.returns-clause-drawn
 returns-clause-drawn c =
     let v = c.args.table.now in
-    let w = c.side_by_side.new.table in
     let parts = parts_of c.args.cx.now.task.now in
     let set = set_of c.args.set in
-    let p = sketch_in (sorts_in v) (trees_in v) c.args.next in
     let given = block_codes c.fillings_in-blocks.result in
     let code = only_in set (λ (d : Copy). filling (parts.fillings d) c.args.hole) in
     let same : given ≡ code = fun_ext c.fillings_in-blocks.ensures in
-    let rests : Copy → Code = λ (d : Copy). rest_code (of_copy c.in_ok-rests.rests d) in
-    let left : rests ≡ given = fun_ext c.in_ok-rests.ensures in
-    let r = c.side_by_side.result in
-    hole_beside parts w set given code same p r (sym c.is_apart.ensures ∙ c.if-is_apart.false)
-    (subst (λ (f : Copy → Code). IsDrawn w (side_by_side parts set f p) r) left
-    (drawn_by w (side_by_side parts set rests p) r (c.side_by_side.ensures.drawn parts c.requires.context.site) c.side_by_side.ensures.ready
-    (c.side_by_side.ensures.err parts c.requires.context.site)))
+    hole_beside parts c.blocks_beside.new.table set given code same (sketch_in (sorts_in v) (trees_in v) c.args.next)
+    c.blocks_beside.result (sym c.is_apart.ensures ∙ c.if-is_apart.false) c.blocks_beside.ensures.drawn
