@@ -1,6 +1,7 @@
 // Candidates that are affine equalities, also under a guard.
 ghost use Rattle.sm_term.specs.TableLaws.{AddsTerms};
 
+use crate::clauses::clause_of;
 use crate::columns::Columns;
 use crate::filter::{is_in, put_new};
 use crate::guards::Guards;
@@ -8,8 +9,8 @@ use crate::rows::rows_at;
 use crate::scene::{Scene, view_at};
 use crate::sums::put_equality;
 use crate::truth::truth_at;
-use sm_affine::equalities;
-use sm_term::{Formula, TermTable, copy_formula, negate};
+use sm_affine::{Equality, equalities};
+use sm_term::{Formula, TermTable};
 use std::alloc::{AllocError, Global};
 
 /// What runs show at a site, and the columns among which equalities are looked for.
@@ -65,7 +66,35 @@ fn places_where(
     Ok(places)
 }
 
-// The equalities that hold at the visits at some places.
+// The equalities among columns that hold at the visits at some places.
+fn equalities_at(
+    alloc: Global,
+    table: &TermTable,
+    sight: &Sight<'_>,
+    places: &[usize],
+) -> Result<Vec<Equality>, AllocError> {
+    let columns = sight.columns;
+    let rows = rows_at(alloc, table, sight.scene, columns, places)?;
+    equalities(alloc, &rows, columns.first, columns.terms.len())
+}
+
+// All forms of equalities among columns.
+fn formulas_of(
+    alloc: Global,
+    table: &mut TermTable,
+    columns: &Columns,
+    found: &[Equality],
+) -> Result<Vec<Formula>, AllocError>
+    ensures { AddsTerms table.old table.new }
+{
+    let mut list = Vec::new(alloc);
+    for equality in found {
+        put_equality(alloc, table, columns, equality, &mut list)?;
+    }
+    Ok(list)
+}
+
+// The equalities that hold at the visits at some places, in all their forms.
 fn formulas_at(
     alloc: Global,
     table: &mut TermTable,
@@ -74,14 +103,8 @@ fn formulas_at(
 ) -> Result<Vec<Formula>, AllocError>
     ensures { AddsTerms table.old table.new }
 {
-    let columns = sight.columns;
-    let rows = rows_at(alloc, table, sight.scene, columns, places)?;
-    let found = equalities(alloc, &rows, columns.first, columns.terms.len())?;
-    let mut list = Vec::new(alloc);
-    for equality in &found {
-        put_equality(alloc, table, columns, equality, &mut list)?;
-    }
-    Ok(list)
+    let found = equalities_at(alloc, table, sight, places)?;
+    formulas_of(alloc, table, sight.columns, &found)
 }
 
 /// The affine equalities of all visits.
@@ -96,23 +119,6 @@ pub(crate) fn affine_formulas(
     formulas_at(alloc, table, sight, &places)
 }
 
-// That a formula holds, or that a guard isn't as it is to be.
-fn clause_of(
-    alloc: Global,
-    guard: &Formula,
-    wanted: bool,
-    f: &Formula,
-) -> Result<Formula, AllocError> {
-    let other = if wanted {
-        negate(alloc, guard)?
-    } else {
-        copy_formula(alloc, guard)?
-    };
-    let first = Box::new(alloc, other)?;
-    let second = Box::new(alloc, copy_formula(alloc, f)?)?;
-    Ok(Formula::Or(first, second))
-}
-
 // Puts the clauses of a guard and of formulas behind others, but for formulas that are known.
 fn put_clauses_of(
     alloc: Global,
@@ -124,7 +130,7 @@ fn put_clauses_of(
 ) -> Result<(), AllocError> {
     for f in found {
         if !is_in(known, f) {
-            let clause = clause_of(alloc, guard, wanted, f)?;
+            let clause = clause_of(alloc, guard, !wanted, f, true)?;
             put_new(list, clause)?;
         }
     }
@@ -152,6 +158,22 @@ fn put_under(
     put_clauses_of(alloc, guard, wanted, &found, known, list)
 }
 
+// Puts the equalities of the visits at which a guard holds, and of those at which it doesn't, behind
+// others, but for those that are known to hold at all visits.
+fn put_both_ways(
+    alloc: Global,
+    table: &mut TermTable,
+    sight: &Sight<'_>,
+    guard: &Formula,
+    known: &[Formula],
+    list: &mut Vec<Formula>,
+) -> Result<(), AllocError>
+    ensures { AddsTerms table.old table.new }
+{
+    put_under(alloc, table, sight, guard, true, known, list)?;
+    put_under(alloc, table, sight, guard, false, known, list)
+}
+
 /// Puts equalities under the guards of loops behind others, but for those that are known to hold at
 /// all visits.
 pub(crate) fn put_guarded(
@@ -165,8 +187,7 @@ pub(crate) fn put_guarded(
     ensures { AddsTerms table.old table.new }
 {
     for guard in &guards.whole {
-        put_under(alloc, table, sight, guard, true, known, list)?;
-        put_under(alloc, table, sight, guard, false, known, list)?;
+        put_both_ways(alloc, table, sight, guard, known, list)?;
     }
     Ok(())
 }

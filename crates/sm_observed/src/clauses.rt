@@ -26,6 +26,28 @@ fn either(alloc: Global, p: Formula, q: Formula) -> Result<Formula, AllocError> 
     Ok(Formula::Or(first, second))
 }
 
+// That a formula is as it is to be.
+fn wanted_form(alloc: Global, f: &Formula, wanted: bool) -> Result<Formula, AllocError> {
+    if wanted {
+        copy_formula(alloc, f)
+    } else {
+        negate(alloc, f)
+    }
+}
+
+/// That one of two formulas is as it is to be.
+pub(crate) fn clause_of(
+    alloc: Global,
+    p: &Formula,
+    p_wanted: bool,
+    q: &Formula,
+    q_wanted: bool,
+) -> Result<Formula, AllocError> {
+    let first = wanted_form(alloc, p, p_wanted)?;
+    let second = wanted_form(alloc, q, q_wanted)?;
+    either(alloc, first, second)
+}
+
 // Puts the bounds between a name and what a copy has for it at the entry.
 fn put_bounds_at(
     entered: &SymStore,
@@ -154,6 +176,23 @@ fn put_values(
     }
 }
 
+// Puts that a name has few values in a copy.
+fn put_values_at(
+    alloc: Global,
+    table: &mut TermTable,
+    scene: &Scene<'_>,
+    places: &SymStore,
+    x: Name,
+    list: &mut Vec<Formula>,
+) -> Result<(), AllocError>
+    ensures { AddsTerms table.old table.new }
+{
+    match places.list.get(x.0 as usize) {
+        Some(t) => put_values(alloc, table, scene, *t, list),
+        None => Ok(()),
+    }
+}
+
 // Puts that names have few values in a copy.
 fn put_values_of(
     alloc: Global,
@@ -166,9 +205,7 @@ fn put_values_of(
     ensures { AddsTerms table.old table.new }
 {
     for x in names {
-        if let Some(t) = places.list.get(x.0 as usize) {
-            put_values(alloc, table, scene, *t, list)?;
-        }
+        put_values_at(alloc, table, scene, places, *x, list)?;
     }
     Ok(())
 }
@@ -193,6 +230,19 @@ pub(crate) fn put_few_values(
     Ok(())
 }
 
+// Puts a clause of two comparisons.
+fn put_clause(
+    alloc: Global,
+    p: &Formula,
+    p_wanted: bool,
+    q: &Formula,
+    q_wanted: bool,
+    list: &mut Vec<Formula>,
+) -> Result<(), AllocError> {
+    let clause = clause_of(alloc, p, p_wanted, q, q_wanted)?;
+    put_new(list, clause)
+}
+
 // Puts the four clauses of two comparisons.
 fn put_pair(
     alloc: Global,
@@ -200,14 +250,10 @@ fn put_pair(
     q: &Formula,
     list: &mut Vec<Formula>,
 ) -> Result<(), AllocError> {
-    let clause = either(alloc, copy_formula(alloc, p)?, copy_formula(alloc, q)?)?;
-    put_new(list, clause)?;
-    let clause = either(alloc, copy_formula(alloc, p)?, negate(alloc, q)?)?;
-    put_new(list, clause)?;
-    let clause = either(alloc, negate(alloc, p)?, copy_formula(alloc, q)?)?;
-    put_new(list, clause)?;
-    let clause = either(alloc, negate(alloc, p)?, negate(alloc, q)?)?;
-    put_new(list, clause)
+    put_clause(alloc, p, true, q, true, list)?;
+    put_clause(alloc, p, true, q, false, list)?;
+    put_clause(alloc, p, false, q, true, list)?;
+    put_clause(alloc, p, false, q, false, list)
 }
 
 /// Puts the clauses of two comparisons of guards each.

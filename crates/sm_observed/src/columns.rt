@@ -59,6 +59,37 @@ fn put_places(
     Ok(())
 }
 
+// Puts the terms of numbers with which the copies enter, and of what their loops read.
+fn put_inputs(
+    table: &mut TermTable,
+    terms: &mut Vec<TermId>,
+    decls: &Decls,
+    places: &PerCopy<SymStore>,
+    state: &LoopState<'_>,
+) -> Result<(), AllocError>
+    ensures { AddsTerms table.old table.new }
+{
+    for copy in COPIES {
+        put_entered(table, terms, decls, state.stores.get(copy))?;
+    }
+    for copy in COPIES {
+        put_loop_reads(table, terms, places, state, copy)?;
+    }
+    Ok(())
+}
+
+// Puts the places of names in each copy.
+fn put_all_places(
+    terms: &mut Vec<TermId>,
+    places: &PerCopy<SymStore>,
+    names: &[Name],
+) -> Result<(), AllocError> {
+    for copy in COPIES {
+        put_places(terms, places.get(copy), names)?;
+    }
+    Ok(())
+}
+
 /// The columns of a site, where the loops write these names.
 pub(crate) fn columns_of(
     alloc: Global,
@@ -71,15 +102,8 @@ pub(crate) fn columns_of(
     ensures { AddsTerms table.old table.new }
 {
     let mut terms = Vec::new(alloc);
-    for copy in COPIES {
-        put_entered(table, &mut terms, decls, state.stores.get(copy))?;
-    }
-    for copy in COPIES {
-        put_loop_reads(table, &mut terms, places, state, copy)?;
-    }
+    put_inputs(table, &mut terms, decls, places, state)?;
     let first = terms.len();
-    for copy in COPIES {
-        put_places(&mut terms, places.get(copy), written)?;
-    }
+    put_all_places(&mut terms, places, written)?;
     Ok(Columns { terms, first })
 }

@@ -69,6 +69,17 @@ pub(crate) fn places_of(
     })
 }
 
+// The numbers of some declarations, in order.
+fn numbers_in(alloc: Global, decls: &Decls) -> Result<Vec<Name>, AllocError> {
+    let mut list = Vec::new(alloc);
+    for d in &decls.list {
+        if d.1 == Sort::Num {
+            list.push(d.0)?;
+        }
+    }
+    Ok(list)
+}
+
 /// The numbers that a body of the loops of a state writes, in the order of the declarations.
 pub(crate) fn numbers_written(
     alloc: Global,
@@ -77,11 +88,5 @@ pub(crate) fn numbers_written(
 ) -> Result<Vec<Name>, AllocError> {
     let bodies = bodies_write(alloc, state.set, &state.rests)?;
     let written = names_written(alloc, decls, &bodies)?;
-    let mut list = Vec::new(alloc);
-    for d in &written.list {
-        if d.1 == Sort::Num {
-            list.push(d.0)?;
-        }
-    }
-    Ok(list)
+    numbers_in(alloc, &written)
 }

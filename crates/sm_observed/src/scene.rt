@@ -1,7 +1,7 @@
 // The values that terms have at a visit.
 use crate::names::COPIES;
 use crate::states::LoopState;
-use crate::terms::{cell_of, cells_of, number_of, term_at};
+use crate::terms::{Operation, cell_of, cells_of, number_of, term_at};
 use crate::visits::{Entry, Visit, Visits};
 use sm_eval::Store;
 use sm_syntax::{CopyName, Decls, Name, Sort};
@@ -87,6 +87,34 @@ fn note_copy(
     Ok(())
 }
 
+// The terms that the copies have for their numbers at the entry.
+fn terms_entered(
+    alloc: Global,
+    table: &TermTable,
+    decls: &Decls,
+    state: &LoopState<'_>,
+) -> Result<HashMap<u64, CopyCell>, AllocError> {
+    let mut entered = HashMap::new(alloc);
+    for copy in COPIES {
+        note_copy(table, &mut entered, decls, state, copy)?;
+    }
+    Ok(entered)
+}
+
+// The indices at which formulas about cells are tried at each visit.
+fn all_cells(
+    alloc: Global,
+    decls: &Decls,
+    inputs: &[Store],
+    visits: &Visits,
+) -> Result<Vec<Vec<i128>>, AllocError> {
+    let mut cells = Vec::new(alloc);
+    for place in 0..visits.list.len() {
+        cells.push(cells_at(alloc, decls, inputs, visits, place)?)?;
+    }
+    Ok(cells)
+}
+
 /// The scene of a site.
 pub(crate) fn scene_of<'s>(
     alloc: Global,
@@ -96,14 +124,8 @@ pub(crate) fn scene_of<'s>(
     inputs: &'s [Store],
     visits: &'s Visits,
 ) -> Result<Scene<'s>, AllocError> {
-    let mut entered = HashMap::new(alloc);
-    for copy in COPIES {
-        note_copy(table, &mut entered, decls, state, copy)?;
-    }
-    let mut cells = Vec::new(alloc);
-    for place in 0..visits.list.len() {
-        cells.push(cells_at(alloc, decls, inputs, visits, place)?)?;
-    }
+    let cells = all_cells(alloc, decls, inputs, visits)?;
+    let entered = terms_entered(alloc, table, decls, state)?;
     Ok(Scene {
         inputs,
         visits,
@@ -158,6 +180,37 @@ pub(crate) fn are_same_arrays(
     Some(cells == others)
 }
 
+// The number that a term without parts has at a visit and a cell, where it has one.
+fn leaf_number(view: &View<'_>, cell: i128, term: &Term) -> Option<i128> {
+    match term {
+        Term::Lit(z) => Some(*z),
+        Term::Cell => Some(cell),
+        Term::Start(name) => number_of(view.input, *name),
+        Term::Slot { copy, name } => {
+            number_of(view.visit.stores.get(CopyName::of_number(*copy)), *name)
+        }
+        _ => None,
+    }
+}
+
+// The number at an index of the array that a term stands for, where both are there.
+fn number_in(table: &TermTable, view: &View<'_>, t: TermId, index: Option<i128>) -> Option<i128> {
+    let (store, name) = array_at(table, view, t)?;
+    cell_of(store, name, index?)
+}
+
+// The sum, the difference or the product of a number and another, where that is there and the outcome
+// is inside 128 bits.
+fn computed(operation: Operation, y: i128, z: Option<i128>) -> Option<i128> {
+    let z = z?;
+    match operation {
+        Operation::Add => y.checked_add(z),
+        Operation::Sub => y.checked_sub(z),
+        Operation::Mul => y.checked_mul(z),
+        Operation::Read => None,
+    }
+}
+
 /// The number that a term has at a visit and a cell, where it has one inside 128 bits.
 pub(crate) fn number_at(
     table: &TermTable,
@@ -170,39 +223,30 @@ pub(crate) fn number_at(
         return number_of(view.entry.stores.get(at.copy), at.name);
     }
     match term_at(table, t)? {
-        Term::Lit(z) => Some(*z),
-        Term::Cell => Some(cell),
-        Term::Start(name) => number_of(view.input, *name),
-        Term::Slot { copy, name } => {
-            number_of(view.visit.stores.get(CopyName::of_number(*copy)), *name)
-        }
         Term::Read(a, i) => {
-            let index = number_at(table, scene, view, cell, *i)?;
-            let (store, name) = array_at(table, view, *a)?;
-            cell_of(store, name, index)
+            let index = number_at(table, scene, view, cell, *i);
+            number_in(table, view, *a, index)
         }
         Term::Neg(a) => {
-            let z = number_at(table, scene, view, cell, *a)?;
-            z.checked_neg()
+            let z = number_at(table, scene, view, cell, *a);
+            computed(Operation::Sub, 0, z)
         }
         Term::Add(a, b) => {
             let y = number_at(table, scene, view, cell, *a)?;
-            let z = number_at(table, scene, view, cell, *b)?;
-            y.checked_add(z)
+            let z = number_at(table, scene, view, cell, *b);
+            computed(Operation::Add, y, z)
         }
         Term::Sub(a, b) => {
             let y = number_at(table, scene, view, cell, *a)?;
-            let z = number_at(table, scene, view, cell, *b)?;
-            y.checked_sub(z)
+            let z = number_at(table, scene, view, cell, *b);
+            computed(Operation::Sub, y, z)
         }
         Term::Mul(a, b) => {
             let y = number_at(table, scene, view, cell, *a)?;
-            let z = number_at(table, scene, view, cell, *b)?;
-            y.checked_mul(z)
+            let z = number_at(table, scene, view, cell, *b);
+            computed(Operation::Mul, y, z)
         }
-        Term::Havoc { .. } => None,
-        Term::Fun { .. } => None,
-        Term::Write(_, _, _) => None,
+        leaf => leaf_number(view, cell, leaf),
     }
 }
 

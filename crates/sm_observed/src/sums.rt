@@ -212,6 +212,26 @@ fn put_parted(
     put_made(list, difference(table, z, x, y))
 }
 
+// Puts the other forms of an equality of so many parts behind others, by the terms that it adds on
+// either side.
+fn put_sides(
+    table: &mut TermTable,
+    parts: usize,
+    left: &[TermId],
+    right: &[TermId],
+    constant: i128,
+    list: &mut Vec<Formula>,
+) -> Result<(), AllocError>
+    ensures { AddsTerms table.old table.new }
+{
+    match (parts, left, right) {
+        (2, [x], [y]) if constant != 0 => put_made(list, shifted(table, *x, *y, constant)),
+        (3, [x], [y, z]) if constant == 0 => put_parted(table, *x, *y, *z, list),
+        (3, [y, z], [x]) if constant == 0 => put_parted(table, *x, *y, *z, list),
+        _ => Ok(()),
+    }
+}
+
 // Puts the other forms of an equality whose coefficients are 1 behind others, where it is between
 // two terms and a number, or three terms: so an index that is such a sum, or such a difference,
 // meets its class, however it is written.
@@ -226,13 +246,8 @@ fn put_turned(
 {
     let left = terms_with(alloc, table, columns, equality, 1)?;
     let right = terms_with(alloc, table, columns, equality, -1)?;
-    let constant = equality.constant;
-    match (equality.parts.len(), left.as_slice(), right.as_slice()) {
-        (2, [x], [y]) if constant != 0 => put_made(list, shifted(table, *x, *y, constant)),
-        (3, [x], [y, z]) if constant == 0 => put_parted(table, *x, *y, *z, list),
-        (3, [y, z], [x]) if constant == 0 => put_parted(table, *x, *y, *z, list),
-        _ => Ok(()),
-    }
+    let parts = equality.parts.len();
+    put_sides(table, parts, &left, &right, equality.constant, list)
 }
 
 /// Puts all forms of an equality behind others.
