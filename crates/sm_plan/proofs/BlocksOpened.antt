@@ -36,13 +36,13 @@ module _ (u w : TableValue) (wider : ExtendsTable u w) (k : ℕ) (st : SymState)
   form = assertion_in (sorts_in u) (trees_in u) (numbered keep)
 
   -- the block alone
-  pub inner_is : (facts none : List Assertion) → none ≡ [] →
-      state_in (sorts_in w) (trees_in w) (facts ++ (none ++ [])) (block_alone past made)
+  pub inner_is : (facts : List Assertion) →
+      state_in (sorts_in w) (trees_in w) (facts ++ []) (block_alone past made)
       ≡ inner_state (state_in (sorts_in u) (trees_in u) facts st) counts form
-  inner_is facts none e =
+  inner_is facts =
       let rest = fun_ext is.done in
       let stores = stores_stay u w wider st.stores ready.stores in
-      let more = ap (λ (l : List Assertion). facts ++ (l ++ [])) e ∙ append-nil facts in
+      let more = append-nil facts in
       λ i. record {
         rest = rest i;
         stores = stores i;

@@ -1,6 +1,7 @@
 -- Terms whose parts are known with their slots replaced.
 use Rattle.std.proofs.Common.{◌≡◌, ℕ, ◌<◌, true, Option, Some, None, List, [], ◌∷◌, length, map, slice_get, refl, sym, ap, ◌∙◌, subst}
-use Rattle.std.proofs.Common.{get_or, unwrap_or}
+use Rattle.std.proofs.Common.{get_or, unwrap_or, take, ◌+◌, ◌++◌}
+use Rattle.std.proofs.lemmas.List.{map_more, map-append}
 use Rattle.sm_syntax.specs.declared.tree.Name.{Name}
 use Rattle.sm_syntax.specs.declared.program.Outputs.{Outputs}
 use Rattle.sm_syntax.specs.declared.tree.Sort.{Sort}
@@ -221,3 +222,13 @@ module _ (v : TableValue) (s : Copy → SymbolicStore) (known : ℕ → Option T
 -- an argument stands where all do
 pub arg_before : (args : List TermId) (i : ℕ) (d : TermId) → i < length args → (n : ℕ) → AreBefore n args → (get_or args i d).0 < n
 arg_before args i d h n w = part_before n args i (get_or args i d) w (slice_get-get_or args i d h)
+
+-- one argument more is known
+pub known_push : (known : ℕ → Option TermId) (args ids all : List TermId) (i : ℕ) (d t : TermId) → i < length args →
+    known (get_or args i d).0 ≡ Some t →
+    map (λ (x : TermId). known x.0) (take i args) ≡ map (λ (x : TermId). Some x) ids → all ≡ ids ++ t ∷ [] →
+    map (λ (x : TermId). known x.0) (take (i + 1) args) ≡ map (λ (x : TermId). Some x) all
+known_push known args ids all i d t h e made pushed =
+    map_more (λ (x : TermId). known x.0) args i d h
+    ∙ (λ k. made k ++ e k ∷ [])
+    ∙ sym (ap (map (λ (x : TermId). Some x)) pushed ∙ map-append (λ (x : TermId). Some x) ids (t ∷ []))

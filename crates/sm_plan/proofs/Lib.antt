@@ -19,6 +19,7 @@ pub mod TablesWiden
 pub mod StoresSet
 pub mod ElementWritten
 pub mod PartsMoved
+pub mod EachMade
 pub mod OpeningsMade
 pub mod StepsOpened
 pub mod ForksOpened

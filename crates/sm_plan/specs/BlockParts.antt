@@ -1,5 +1,5 @@
 -- Private: what a block makes at a state, and the states that follow with it.
-use Rattle.std.specs.Prelude.{◌≡◌, ℕ, false, List, []}
+use Rattle.std.specs.Prelude.{◌≡◌, ℕ, false, List}
 use Rattle.sm_syntax.specs.claim.ConflictFree.{Copy}
 use Rattle.sm_syntax.specs.text.Sorts.{Sorts}
 use Rattle.sm_syntax.specs.trees.Copies.{of_copy}
@@ -29,7 +29,6 @@ pub record IsBlockOf (old new : TableValue) (k : ℕ) (st : SymState) (counts : 
   pub kept : forms_in (sorts_in new) (trees_in new) made.kept.value.list.items
       ≡ all_at_stores (stores_in (trees_in new) made.stores)
       (conj (assertion_in (sorts_in old) (trees_in old) (numbered keep)))
-  pub nothing : made.nothing.value.list.items ≡ []
 
 -- all of it is ready
 pub record IsBlockReady (sorts : Sorts) (trees : List Tree) (made : BlockParts) : Type 0 where

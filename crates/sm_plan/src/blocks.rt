@@ -1,12 +1,13 @@
 // What a block opens.
 ghost use Rattle.std.specs.Prelude.{◌≡◌, ◌&&◌, List, [], ◌∷◌, ◌++◌, map, IfOk};
 ghost use Rattle.sm_syntax.specs.text.Sorts.{Sorts};
-ghost use Rattle.sm_term.specs.Assertions.{Assertion};
+ghost use Rattle.sm_term.specs.Assertions.{Assertion, conj};
 ghost use Rattle.sm_term.specs.Terms.{Tree};
 ghost use Rattle.sm_plan.specs.ReadyStates.{AreFormsReady, AreStoresReady, AreSuccessorsReady};
 ghost use Rattle.sm_syntax.specs.claim.ConflictFree.{Copy};
 ghost use Rattle.sm_syntax.specs.trees.Copies.{of_copy};
 ghost use Rattle.sm_term.specs.Formulas.{numbered, assertion_in};
+ghost use Rattle.sm_term.specs.Slots.{all_at_stores};
 ghost use Rattle.sm_term.specs.Tables.{trees_in, sorts_in};
 ghost use Rattle.sm_term.specs.TableLaws.{ExtendsTable};
 ghost use Rattle.sm_plan.specs.BlockParts.{IsBlockOf, IsBlockReady, block_alone, after_block};
@@ -16,19 +17,20 @@ ghost use Rattle.sm_plan.specs.Nodes as plan;
 ghost use Rattle.sm_plan.specs.Openings.{IsOpening};
 ghost use Rattle.sm_plan.specs.ReadyStates.{IsStateReady, IsFormReady};
 ghost use Rattle.sm_plan.specs.Statements.{is_long, front, rest_after};
-ghost use Rattle.sm_plan.specs.Views.{rest_code, forms_in, state_in, successor_in};
+ghost use Rattle.sm_plan.specs.Views.{rest_code, forms_in, state_in, stores_in, successor_in};
 
 use crate::kept::{is_kept, shared_parts};
 use crate::opening::{Opened, Successor};
-use crate::parts::two_of;
+use crate::parts::{all_made, two_of};
 use crate::renew::renewed_stores;
 use crate::rest::Continuation;
 use crate::slots::shared_at;
 use crate::state::{Formulas, SymState};
-use crate::successors::{followed, no_formulas};
+use crate::successors::{followed, no_formulas, successor};
 use sm_syntax::PerCopy;
 use sm_term::{Formula, SymStore, TermTable};
 use std::alloc::{AllocError, Global};
+use std::mem::swap;
 use std::rc::Rc;
 
 // Whether each copy has so many statements left.
@@ -52,12 +54,12 @@ fn fronts<'a>(
     ensures { (c : Copy) → IfOk result (λ p. rest_code (of_copy p c)
         ≡ front (of_copy counts.now c) (rest_code (of_copy rests.now c))) }
 {
-    Ok(PerCopy {
-        base: rests.base.front(alloc, counts.base)?,
-        variant_a: rests.variant_a.front(alloc, counts.variant_a)?,
-        variant_b: rests.variant_b.front(alloc, counts.variant_b)?,
-        candidate: rests.candidate.front(alloc, counts.candidate)?,
-    })
+    all_made(
+        rests.base.front(alloc, counts.base),
+        rests.variant_a.front(alloc, counts.variant_a),
+        rests.variant_b.front(alloc, counts.variant_b),
+        rests.candidate.front(alloc, counts.candidate),
+    )
 }
 
 // Leaves what comes after them.
@@ -81,14 +83,40 @@ fn may_pass(rests: &PerCopy<Continuation<'_>>, counts: &PerCopy<u64>, keep: &For
 }
 
 // What a block at a state makes: what is done of each copy, the stores after that, the formula as
-// the block's target, what is kept of it after the block, and no facts.
+// the block's target, and what is kept of it after the block.
 #[derive(Drop)]
 pub(crate) struct BlockParts<'a> {
     pub done: PerCopy<Continuation<'a>>,
     pub stores: PerCopy<SymStore>,
     pub target: Rc<Formulas>,
     pub kept: Rc<Formulas>,
-    pub nothing: Rc<Formulas>,
+}
+
+// The parts of a formula, and those parts with the present terms of names in place of their slots.
+fn kept_forms(
+    alloc: Global,
+    table: &mut TermTable,
+    stores: &PerCopy<SymStore>,
+    keep: &Formula,
+) -> Result<(Rc<Formulas>, Rc<Formulas>), AllocError>
+    requires stores { AreStoresReady (sorts_in table.old) (trees_in table.old) stores.now }
+    requires keep { IsFormReady (sorts_in table.old) (trees_in table.old) keep.now }
+    ensures parts { (sorts : Sorts) (trees : List Tree) → IfOk result (λ p.
+        forms_in sorts trees p.0.value.list.items
+        ≡ conj (assertion_in sorts trees (numbered keep.now))) }
+    ensures kept { let sorts = sorts_in table.old in let trees = trees_in table.old in
+        let form = assertion_in sorts trees (numbered keep.now) in IfOk result (λ p.
+        forms_in (sorts_in table.new) (trees_in table.new) p.1.value.list.items
+        ≡ all_at_stores (stores_in trees stores.now) (conj form)) }
+    ensures parts_ready { (sorts : Sorts) (trees : List Tree) → IsFormReady sorts trees keep.now →
+        IfOk result (λ p. AreFormsReady sorts trees p.0.value.list.items) }
+    ensures kept_ready { IfOk result (λ p.
+        AreFormsReady (sorts_in table.new) (trees_in table.new) p.1.value.list.items) }
+    ensures widens { ExtendsTable table.old table.new }
+{
+    let parts = shared_parts(alloc, keep)?;
+    let kept = shared_at(alloc, table, stores, &parts)?;
+    Ok((parts, kept))
 }
 
 // What a block with a number makes at a state.
@@ -107,17 +135,14 @@ fn block_parts<'a>(
     ensures ready { IfOk result (IsBlockReady (sorts_in table.new) (trees_in table.new)) }
     ensures widens { ExtendsTable table.old table.new }
 {
-    let target = shared_parts(alloc, keep)?;
-    let nothing = Rc::new(alloc, no_formulas(alloc))?;
     let done = fronts(alloc, &state.rests, counts)?;
     let stores = renewed_stores(alloc, table, number, &done, &state.stores)?;
-    let kept = shared_at(alloc, table, &stores, &target)?;
+    let (target, kept) = kept_forms(alloc, table, &stores, keep)?;
     Ok(BlockParts {
         done,
         stores,
         target,
         kept,
-        nothing,
     })
 }
 
@@ -150,18 +175,16 @@ pub(crate) fn open_block<'a>(
 // The two states that follow, from the state past the block.
 fn block_states<'a>(
     alloc: Global,
-    state: SymState<'a>,
+    mut state: SymState<'a>,
     made: BlockParts<'a>,
 ) -> Result<Opened<'a>, AllocError>
     ensures states { (sorts : Sorts) (trees : List Tree) (facts : List Assertion) →
-        let none = forms_in sorts trees made.entry.nothing.value.list.items in
         let some = forms_in sorts trees made.entry.kept.value.list.items in
         IfOk result (λ o. map (successor_in sorts trees facts) o.states.items
-        ≡ state_in sorts trees (facts ++ (none ++ [])) (block_alone state.entry made.entry)
+        ≡ state_in sorts trees (facts ++ []) (block_alone state.entry made.entry)
         ∷ state_in sorts trees (facts ++ (some ++ [])) (after_block state.entry made.entry) ∷ []) }
     ensures ready { (sorts : Sorts) (trees : List Tree) →
         IsStateReady sorts trees (block_alone state.entry made.entry) →
-        AreFormsReady sorts trees made.entry.nothing.value.list.items →
         IsStateReady sorts trees (after_block state.entry made.entry) →
         AreFormsReady sorts trees made.entry.kept.value.list.items →
         IfOk result (λ o. AreSuccessorsReady sorts trees o.states.items) }
@@ -169,25 +192,18 @@ fn block_states<'a>(
     ensures asking { IfOk result (λ o.
         (sorts : Sorts) (trees : List Tree) → AreStoresReady sorts trees o.stores) }
 {
-    let first = Successor {
-        kept: made.nothing,
-        more: no_formulas(alloc),
-        state: SymState {
-            rests: made.done,
-            stores: state.stores,
-            target: made.target,
-            is_final: false,
-        },
+    let mut alone = SymState {
+        rests: made.done,
+        stores: made.stores,
+        target: made.target,
+        is_final: false,
     };
+    swap(&mut alone.stores, &mut state.stores);
+    let first = successor(alloc, alone, no_formulas(alloc))?;
     let second = Successor {
         kept: made.kept,
         more: no_formulas(alloc),
-        state: SymState {
-            rests: state.rests,
-            stores: made.stores,
-            target: state.target,
-            is_final: state.is_final,
-        },
+        state,
     };
     let states = two_of(alloc, first, second)?;
     Ok(followed(alloc, states))

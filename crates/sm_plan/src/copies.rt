@@ -4,6 +4,7 @@ ghost use Rattle.sm_syntax.specs.claim.ConflictFree.{Copy};
 ghost use Rattle.sm_syntax.specs.trees.Copies.{of_copy};
 ghost use Rattle.sm_plan.specs.Views.{rest_code};
 
+use crate::parts::all_made;
 use crate::rest::Continuation;
 use crate::state::SymState;
 use sm_syntax::PerCopy;
@@ -18,12 +19,12 @@ pub(crate) fn copy_rests<'a>(
     ensures { (c : Copy) →
         IfOk result (λ p. rest_code (of_copy p c) ≡ rest_code (of_copy rests.now c)) }
 {
-    Ok(PerCopy {
-        base: rests.base.copy(alloc)?,
-        variant_a: rests.variant_a.copy(alloc)?,
-        variant_b: rests.variant_b.copy(alloc)?,
-        candidate: rests.candidate.copy(alloc)?,
-    })
+    all_made(
+        rests.base.copy(alloc),
+        rests.variant_a.copy(alloc),
+        rests.variant_b.copy(alloc),
+        rests.candidate.copy(alloc),
+    )
 }
 
 // A copy of stores.
@@ -34,12 +35,12 @@ pub(crate) fn copy_stores(
     ensures { (c : Copy) →
         IfOk result (λ p. (of_copy p c).list.items ≡ (of_copy stores.now c).list.items) }
 {
-    Ok(PerCopy {
-        base: copy_store(alloc, &stores.base)?,
-        variant_a: copy_store(alloc, &stores.variant_a)?,
-        variant_b: copy_store(alloc, &stores.variant_b)?,
-        candidate: copy_store(alloc, &stores.candidate)?,
-    })
+    all_made(
+        copy_store(alloc, &stores.base),
+        copy_store(alloc, &stores.variant_a),
+        copy_store(alloc, &stores.variant_b),
+        copy_store(alloc, &stores.candidate),
+    )
 }
 
 // A copy of a store.

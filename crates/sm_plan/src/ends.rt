@@ -51,7 +51,7 @@ pub(crate) fn open_end<'a>(
     let goals = at_stores(alloc, table, &state.stores, &state.target.list)?;
     Ok(Some(Opened {
         goals,
-        stores: state.stores,
+        stores: state.into_stores(),
         states: Vec::new(alloc),
     }))
 }
@@ -69,7 +69,7 @@ pub(crate) fn open_dead<'a>(
     let goals = one_formula(alloc, Formula::No)?;
     Ok(Some(Opened {
         goals,
-        stores: state.stores,
+        stores: state.into_stores(),
         states: Vec::new(alloc),
     }))
 }

@@ -20,6 +20,7 @@ ghost use Rattle.sm_plan.specs.ReadyStates.{IsFormReady, AreFormsReady, IsStoreR
 ghost use Rattle.sm_plan.specs.Statements.{loop_body, loop_guard};
 ghost use Rattle.sm_plan.specs.Views.{rest_code, forms_in};
 
+use crate::parts::all_made;
 use crate::rest::Continuation;
 use crate::state::Formulas;
 use sm_syntax::{CopyName, PerCopy};
@@ -83,12 +84,12 @@ pub(crate) fn bodies<'a>(
         ≡ (if plain.has (set_of mask) c then loop_body (rest_code (of_copy rests.now c))
         else End)) }
 {
-    Ok(PerCopy {
-        base: body_in(alloc, &rests.base, mask, CopyName::O)?,
-        variant_a: body_in(alloc, &rests.variant_a, mask, CopyName::A)?,
-        variant_b: body_in(alloc, &rests.variant_b, mask, CopyName::B)?,
-        candidate: body_in(alloc, &rests.candidate, mask, CopyName::M)?,
-    })
+    all_made(
+        body_in(alloc, &rests.base, mask, CopyName::O),
+        body_in(alloc, &rests.variant_a, mask, CopyName::A),
+        body_in(alloc, &rests.variant_b, mask, CopyName::B),
+        body_in(alloc, &rests.candidate, mask, CopyName::M),
+    )
 }
 
 // The formula of the guard of a copy's loop, where the copy's bit is set.

@@ -251,19 +251,6 @@ pub(crate) fn open_loop<'a>(
         return Ok(None);
     }
     let made = loop_parts(alloc, table, number, &state, set, keep)?;
-    let LoopParts { goals, head, turns } = made;
-    let states = looped(
-        alloc,
-        state.rests,
-        head,
-        state.target,
-        state.is_final,
-        set,
-        turns,
-    )?;
-    Ok(Some(Opened {
-        goals,
-        stores: state.stores,
-        states,
-    }))
+    let opened = looped(alloc, state, made, set)?;
+    Ok(Some(opened))
 }

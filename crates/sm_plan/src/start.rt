@@ -18,6 +18,7 @@ ghost use Rattle.sm_plan.specs.Views.{rest_code, forms_in, state_in};
 
 use crate::copies::copy_store;
 use crate::kept::conjuncts;
+use crate::parts::all_made;
 use crate::rest::Continuation;
 use crate::state::{Formulas, SymState};
 use crate::steps::made;
@@ -80,24 +81,24 @@ fn whole<'a>(
     ensures { (c : Copy) →
         IfOk result (λ p. rest_code (of_copy p c) ≡ code_of (of_copy programs.now c)) }
 {
-    Ok(PerCopy {
-        base: Continuation::of(alloc, &programs.base)?,
-        variant_a: Continuation::of(alloc, &programs.variant_a)?,
-        variant_b: Continuation::of(alloc, &programs.variant_b)?,
-        candidate: Continuation::of(alloc, &programs.candidate)?,
-    })
+    all_made(
+        Continuation::of(alloc, &programs.base),
+        Continuation::of(alloc, &programs.variant_a),
+        Continuation::of(alloc, &programs.variant_b),
+        Continuation::of(alloc, &programs.candidate),
+    )
 }
 
 // One store for each copy.
 fn four(alloc: Global, store: SymStore) -> Result<PerCopy<SymStore>, AllocError>
     ensures { (c : Copy) → IfOk result (λ p. (of_copy p c).list.items ≡ store.list.items) }
 {
-    Ok(PerCopy {
-        base: copy_store(alloc, &store)?,
-        variant_a: copy_store(alloc, &store)?,
-        variant_b: copy_store(alloc, &store)?,
-        candidate: store,
-    })
+    all_made(
+        copy_store(alloc, &store),
+        copy_store(alloc, &store),
+        copy_store(alloc, &store),
+        Ok(store),
+    )
 }
 
 // The state of whole programs with one store and the last target.

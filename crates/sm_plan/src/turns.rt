@@ -17,12 +17,13 @@ ghost use Rattle.sm_plan.specs.Views.{rest_code, forms_in, stores_in, successor_
 
 use crate::copies::copy_stores;
 use crate::heads::{bodies, has, turned_guards};
-use crate::opening::Successor;
+use crate::opening::{Opened, Successor};
 use crate::rest::Continuation;
 use crate::state::{Formulas, SymState};
 use sm_syntax::{CopyName, PerCopy};
 use sm_term::{Formula, SymStore};
 use std::alloc::{AllocError, Global};
+use std::mem::swap;
 use std::rc::Rc;
 
 // What the head of loops has: stores with new values, the kept facts, and a guard for each copy of
@@ -160,66 +161,73 @@ fn pass_loops(rests: &mut PerCopy<Continuation<'_>>, set: u8)
     pass_loop(&mut rests.candidate, set, CopyName::M);
 }
 
-// What comes after the loops of a set.
+// What comes after the loops of a set, and the stores before them.
 fn after_loops<'a>(
     alloc: Global,
-    mut rests: PerCopy<Continuation<'a>>,
+    mut state: SymState<'a>,
     head: Head,
-    target: Rc<Formulas>,
-    is_final: bool,
     set: u8,
-) -> Result<Successor<'a>, AllocError>
+) -> Result<(Successor<'a>, PerCopy<SymStore>), AllocError>
     ensures made { (sorts : Sorts) (trees : List Tree) (facts : List Assertion) → IfOk result (λ n.
-        successor_in sorts trees facts n
-        ≡ heads.after_of (λ c. rest_code (of_copy rests.entry c)) facts
+        successor_in sorts trees facts n.0
+        ≡ heads.after_of (λ c. rest_code (of_copy state.entry.rests c)) facts
         (stores_in trees head.stores) (forms_in sorts trees head.kept.value.list.items)
         (heads.guard_forms sorts trees head.guards)
-        (forms_in sorts trees target.value.list.items) is_final (set_of set)) }
+        (forms_in sorts trees state.entry.target.value.list.items) state.entry.is_final
+        (set_of set)) }
     ensures ready { (sorts : Sorts) (trees : List Tree) →
-        ((c : Copy) → IsWellSorted sorts (rest_code (of_copy rests.entry c))) →
+        ((c : Copy) → IsWellSorted sorts (rest_code (of_copy state.entry.rests c))) →
         IsHeadReady sorts trees head →
-        AreFormsReady sorts trees target.value.list.items →
-        IfOk result (IsSuccessorReady sorts trees) }
+        AreFormsReady sorts trees state.entry.target.value.list.items →
+        IfOk result (λ n. IsSuccessorReady sorts trees n.0) }
+    ensures stores { IfOk result (λ n. n.1 ≡ state.entry.stores) }
 {
     let more = turned_guards(alloc, &head.guards, 0)?;
-    pass_loops(&mut rests, set);
-    Ok(Successor {
+    pass_loops(&mut state.rests, set);
+    let mut stores = head.stores;
+    swap(&mut state.stores, &mut stores);
+    let after = Successor {
         kept: head.kept,
         more,
-        state: SymState {
-            rests,
-            stores: head.stores,
-            target,
-            is_final,
-        },
-    })
+        state,
+    };
+    Ok((after, stores))
 }
 
-// The turns and what comes after the loops.
+// What loops open at a state: the goals before them, the turns, and what comes after.
 pub(crate) fn looped<'a>(
     alloc: Global,
-    rests: PerCopy<Continuation<'a>>,
-    head: Head,
-    target: Rc<Formulas>,
-    is_final: bool,
+    state: SymState<'a>,
+    made: LoopParts<'a>,
     set: u8,
-    mut turns: Vec<Successor<'a>>,
-) -> Result<Vec<Successor<'a>>, AllocError>
-    ensures states { (sorts : Sorts) (trees : List Tree) (facts : List Assertion) → IfOk result (λ o.
-        map (successor_in sorts trees facts) o.items
-        ≡ map (successor_in sorts trees facts) turns.entry.items
-        ++ heads.after_of (λ c. rest_code (of_copy rests.entry c)) facts
+) -> Result<Opened<'a>, AllocError>
+    ensures goals { IfOk result (λ o. o.goals.list.items ≡ made.entry.goals.list.items) }
+    ensures stores { IfOk result (λ o. o.stores ≡ state.entry.stores) }
+    ensures states { (sorts : Sorts) (trees : List Tree) (facts : List Assertion) →
+        let head = made.entry.head in
+        let target = forms_in sorts trees state.entry.target.value.list.items in
+        IfOk result (λ o. map (successor_in sorts trees facts) o.states.items
+        ≡ map (successor_in sorts trees facts) made.entry.turns.items
+        ++ heads.after_of (λ c. rest_code (of_copy state.entry.rests c)) facts
         (stores_in trees head.stores) (forms_in sorts trees head.kept.value.list.items)
-        (heads.guard_forms sorts trees head.guards)
-        (forms_in sorts trees target.value.list.items) is_final (set_of set) ∷ []) }
+        (heads.guard_forms sorts trees head.guards) target state.entry.is_final (set_of set) ∷ []) }
     ensures ready { (sorts : Sorts) (trees : List Tree) →
-        ((c : Copy) → IsWellSorted sorts (rest_code (of_copy rests.entry c))) →
-        IsHeadReady sorts trees head →
-        AreFormsReady sorts trees target.value.list.items →
-        AreSuccessorsReady sorts trees turns.entry.items →
-        IfOk result (λ o. AreSuccessorsReady sorts trees o.items) }
+        ((c : Copy) → IsWellSorted sorts (rest_code (of_copy state.entry.rests c))) →
+        IsHeadReady sorts trees made.entry.head →
+        AreFormsReady sorts trees state.entry.target.value.list.items →
+        AreSuccessorsReady sorts trees made.entry.turns.items →
+        IfOk result (λ o. AreSuccessorsReady sorts trees o.states.items) }
 {
-    let after = after_loops(alloc, rests, head, target, is_final, set)?;
-    turns.push(after)?;
-    Ok(turns)
+    let LoopParts {
+        goals,
+        head,
+        turns: mut states,
+    } = made;
+    let (after, stores) = after_loops(alloc, state, head, set)?;
+    states.push(after)?;
+    Ok(Opened {
+        goals,
+        stores,
+        states,
+    })
 }

@@ -1,5 +1,5 @@
 -- The states are those that the node opens.
-use Rattle.std.proofs.Common.{◌≡◌, Bool, true, List, [], ◌∷◌, Some, sym, ap, ◌∙◌, subst}
+use Rattle.std.proofs.Common.{◌≡◌, Bool, true, List, [], ◌∷◌, Some, sym, ap, ◌∙◌}
 use Rattle.sm_syntax.specs.trees.Copies.{of_copy}
 use Rattle.sm_term.specs.declared.formula.Formula.{Formula}
 use Rattle.sm_term.specs.Assertions.{Assertion}
@@ -8,10 +8,9 @@ use Rattle.sm_term.specs.Tables.{trees_in, sorts_in}
 use Rattle.sm_plan.specs.declared.blocks.BlockParts.{BlockParts}
 use Rattle.sm_plan.specs.declared.state.SymState.{SymState}
 use Rattle.sm_plan.specs.Nodes as plan
-use Rattle.sm_plan.specs.ReadyStates.{AreFormsReady}
 use Rattle.sm_plan.specs.States.{State}
 use Rattle.sm_plan.specs.Successors.{inner_state, after_block_state}
-use Rattle.sm_plan.specs.Views.{forms_in, state_in}
+use Rattle.sm_plan.specs.Views.{state_in}
 use Rattle.sm_plan.proofs.BlocksOpened.{inner_is, after_is, inner_ready, after_ready}
 use Rattle.sm_plan.proofs.OpeningsMade.{opening_states}
 use Rattle.sm_plan.proofs.blocks.open_block.Goals as goal
@@ -32,19 +31,16 @@ returns-clause-opening c =
     let left = c.pass.new.rests in
     let passes : c.may_pass.result ≡ true = c.if-not-may_pass.false in
     let test = sym (c.may_pass.ensures (sorts_in u) (trees_in u)) ∙ passes in
-    let none : List Formula = made.nothing.value.list.items in
-    let none_good : AreFormsReady (sorts_in w) (trees_in w) none = subst (AreFormsReady (sorts_in w) (trees_in w)) (sym is.nothing) tt in
     let o = c.in_ok-block_states.field-0 in
     opening_states u w st _ o c.in_ok-block_states.ensures.goals c.in_ok-block_states.ensures.asking
     (c.in_ok-block_states.ensures.ready (sorts_in w) (trees_in w)
-    (inner_ready u w wider k st counts keep made is good left c.pass.ensures c.requires.state) none_good
+    (inner_ready u w wider k st counts keep made is good left c.pass.ensures c.requires.state)
     (after_ready u w wider k st counts keep made is good left c.pass.ensures c.requires.state) good.kept)
     (λ (facts : List Assertion).
     let old : State = state_in (sorts_in u) (trees_in u) facts st in
     let want = plan.follows (inner_state old counts form ∷ after_block_state old k counts form ∷ []) in
     ap (λ (l : List State). Some (plan.follows l))
     (c.in_ok-block_states.ensures.states (sorts_in w) (trees_in w) facts
-    ∙ (λ i. inner_is u w wider k st counts keep made is good left c.pass.ensures c.requires.state facts
-    (forms_in (sorts_in w) (trees_in w) none) (ap (forms_in (sorts_in w) (trees_in w)) is.nothing) i
+    ∙ (λ i. inner_is u w wider k st counts keep made is good left c.pass.ensures c.requires.state facts i
     ∷ after_is u w wider k st counts keep made is good left c.pass.ensures c.requires.state facts i ∷ []))
     ∙ sym (ap (λ (b : Bool). plan.where_true b want) test))

@@ -9,7 +9,7 @@ use Rattle.sm_term.specs.Tables.{trees_in, sorts_in}
 use Rattle.sm_plan.specs.declared.state.SymState.{SymState}
 use Rattle.sm_plan.specs.Copies.{each}
 use Rattle.sm_plan.specs.Nodes as plan
-use Rattle.sm_plan.specs.ReadyStates.{AreSuccessorsReady}
+use Rattle.sm_plan.specs.ReadyStates.{AreStoresReady, AreSuccessorsReady}
 use Rattle.sm_plan.specs.Statements.{is_over}
 use Rattle.sm_plan.specs.Views.{rest_code, forms_in, stores_in, successor_in}
 use Rattle.sm_plan.proofs.TablesWiden.{stores_stay, stores_ready}
@@ -35,8 +35,9 @@ returns-clause-opened c =
           ∙ sym (ap (λ (b : Bool).
           plan.where_true b (plan.asks
           (all_at_stores (stores_in (trees_in v) st.stores) (forms_in (sorts_in v) (trees_in v) st.target.value.list.items)))) test);
-      stores = inr (stores_stay v w wider st.stores c.requires.stores);
+      stores = inr (ap (stores_in (trees_in w)) c.into_stores.ensures ∙ stores_stay v w wider st.stores c.requires.stores);
       ready = subst (AreSuccessorsReady (sorts_in w) (trees_in w)) (sym none) tt;
       goals = c.in_ok-goals.ensures.ready;
-      asking = stores_ready v w wider st.stores c.requires.stores;
+      asking = subst (AreStoresReady (sorts_in w) (trees_in w)) (sym c.into_stores.ensures)
+          (stores_ready v w wider st.stores c.requires.stores);
     }

@@ -1,7 +1,8 @@
 -- A part that isn't known stands among the parts.
-use Rattle.std.proofs.Common.{rules, ℕ}
+use Rattle.std.proofs.Common.{rules, ℕ, sym, nat_eq}
+use Rattle.std.specs.HashMap.{get}
 use Rattle.sm_term.specs.Tables.{AreBefore}
-use Rattle.sm_plan.proofs.FillingLemmas.{arg_before}
+use Rattle.sm_plan.proofs.FillingLemmas.{arg_before, known_push}
 use Rattle.sm_plan.proofs.filling.all_known.Goals as goal
 
 pub returns-in-None : goal.returns-in-None
@@ -10,3 +11,9 @@ returns-in-None c = (
       c.loop-part-test.true n w,
   search rules,
 )
+
+pub loop-part-preserved : goal.loop-part-preserved
+loop-part-preserved c =
+    known_push (get nat_eq c.args.known.now) c.args.parts.now c.loop-part.list.items c.push.new.self.items c.loop-part.part-index _
+    c.in-Some.t.now
+    c.loop-part-test.true (sym c.in-Some.ensures.value) c.loop-part.invariant c.in_ok-push-in-Some.ensures.items

@@ -87,6 +87,22 @@ walk-preserved c =
       last = left.1;
     }
 
+pub returns-in_err-p-clause-grows : goal.returns-in_err-p-clause-grows
+returns-in_err-p-clause-grows c =
+    grows-twice c.args.table.now c.walk.table c.number_of.new.table c.walk.invariant.grows c.number_of.ensures.grows
+
+pub returns-in_err-push-in-Part-clause-grows : goal.returns-in_err-push-in-Part-clause-grows
+returns-in_err-push-in-Part-clause-grows c =
+    grows-twice c.args.table.now c.walk.table c.number_of.new.table c.walk.invariant.grows c.number_of.ensures.grows
+
+pub returns-in_err-insert-in-Number-clause-grows : goal.returns-in_err-insert-in-Number-clause-grows
+returns-in_err-insert-in-Number-clause-grows c =
+    grows-twice c.args.table.now c.walk.table c.number_of.new.table c.walk.invariant.grows c.number_of.ensures.grows
+
+pub returns-in-None-clause-grows : goal.returns-in-None-clause-grows
+returns-in-None-clause-grows c =
+    grows-twice c.args.table.now c.walk.table c.number_of.new.table c.walk.invariant.grows c.number_of.ensures.grows
+
 pub returns-in-None-clause-made : goal.returns-in-None-clause-made
 returns-in-None-clause-made c =
     let t = c.args.t.0 in

@@ -1,18 +1,21 @@
 -- One table after the other.
-use Rattle.std.proofs.Common.{◌≡◌, List, ◌∙◌, ap}
+use Rattle.std.proofs.Common.{◌≡◌, List, ◌∙◌, sym, ap, subst}
 use Rattle.std.proofs.Math.Path.{fun_ext}
 use Rattle.sm_syntax.specs.claim.Syntax.{Code}
 use Rattle.sm_syntax.specs.claim.ConflictFree.{Copy}
+use Rattle.sm_syntax.specs.text.Sorts.{Sorts, IsWellSorted}
 use Rattle.sm_syntax.specs.trees.Copies.{of_copy}
 use Rattle.sm_term.specs.declared.formula.Formula.{Formula}
 use Rattle.sm_term.specs.Slots.{all_at_stores}
 use Rattle.sm_term.specs.Symbolic.{SymbolicStore}
 use Rattle.sm_term.specs.Tables.{trees_in, sorts_in}
+use Rattle.sm_plan.specs.Copies.{has}
 use Rattle.sm_plan.specs.Heads.{guards_at}
 use Rattle.sm_plan.specs.LoopHeads.{stores_at}
 use Rattle.sm_plan.specs.Masks.{set_of}
 use Rattle.sm_plan.specs.Successors.{renewed}
 use Rattle.sm_plan.specs.Views.{rest_code, forms_in, stores_in}
+use Rattle.sm_plan.proofs.TurnsMade.{bodies_ready}
 use Rattle.sm_plan.proofs.TablesWiden.{widens_grown, widens_twice, stores_stay, stores_ready, stores_full, forms_stay, forms_ready}
 use Rattle.sm_plan.proofs.loops.head_of.Goals as goal
 
@@ -26,6 +29,26 @@ pub guards-requires-clause-stores : goal.guards-requires-clause-stores
 guards-requires-clause-stores c =
     stores_ready c.renewed_stores.new.table c.shared_at.new.table c.shared_at.ensures.widens c.in_ok-stores.stores
     c.in_ok-stores.ensures.ready
+
+pub renewed_stores-requires-clause-done : goal.renewed_stores-requires-clause-done
+renewed_stores-requires-clause-done c = λ (d : Copy).
+    let sorts = sorts_in c.args.table.now in
+    subst (IsWellSorted sorts) (sym (c.in_ok-done.ensures d))
+    (bodies_ready sorts (has (set_of c.args.set) d) (rest_code (of_copy c.args.state.now.rests d)) (c.requires.state.rests d))
+
+pub guards-requires-clause-rests : goal.guards-requires-clause-rests
+guards-requires-clause-rests c = λ (d : Copy).
+    subst (λ (f : Sorts). IsWellSorted f (rest_code (of_copy c.args.state.now.rests d)))
+    (sym (c.shared_at.ensures.widens.sorts ∙ c.renewed_stores.ensures.grows.sorts)) (c.requires.state.rests d)
+
+pub returns-in_err-stores-clause-widens : goal.returns-in_err-stores-clause-widens
+returns-in_err-stores-clause-widens c = widens_grown c.args.table.now c.renewed_stores.new.table c.renewed_stores.ensures.grows
+
+pub returns-in_err-kept-clause-widens : goal.returns-in_err-kept-clause-widens
+returns-in_err-kept-clause-widens c =
+    let u = c.args.table.now in
+    let v = c.renewed_stores.new.table in
+    widens_twice u v c.shared_at.new.table (widens_grown u v c.renewed_stores.ensures.grows) c.shared_at.ensures.widens
 
 pub returns-in_err-guards-clause-widens : goal.returns-in_err-guards-clause-widens
 returns-in_err-guards-clause-widens c =

@@ -45,6 +45,14 @@ head_of-requires-clause-parts c =
     subst (λ (f : Formulas). AreFormsReady (sorts_in v) (trees_in v) f.list.items) (sym c.deref-3.ensures)
     (c.in_ok-target.ensures.ready (sorts_in v) (trees_in v) (form_ready u v c.at_stores.ensures.widens c.args.keep.now c.requires.keep))
 
+pub returns-in_err-head-clause-widens : goal.returns-in_err-head-clause-widens
+returns-in_err-head-clause-widens c =
+    widens_twice c.args.table.now c.at_stores.new.table c.head_of.new.table c.at_stores.ensures.widens c.head_of.ensures.widens
+
+pub returns-in_err-turns-clause-widens : goal.returns-in_err-turns-clause-widens
+returns-in_err-turns-clause-widens c =
+    widens_twice c.args.table.now c.at_stores.new.table c.head_of.new.table c.at_stores.ensures.widens c.head_of.ensures.widens
+
 pub returns-clause-widens : goal.returns-clause-widens
 returns-clause-widens c =
     widens_twice c.args.table.now c.at_stores.new.table c.head_of.new.table c.at_stores.ensures.widens c.head_of.ensures.widens

@@ -1,6 +1,6 @@
 -- The goals and the states are those of the node.
 use Rattle.std.proofs.Common.{◌≡◌, ◌&&◌, ◌||◌, not, nat_le, Bool, if◌then◌else◌, List, [], ◌∷◌, ◌++◌, map, Some}
-use Rattle.std.proofs.Common.{inr, sym, ap, ◌∙◌}
+use Rattle.std.proofs.Common.{inr, sym, ap, ◌∙◌, subst}
 use Rattle.std.proofs.lemmas.Bool.{and_parts}
 use Rattle.sm_syntax.specs.claim.Syntax.{Code}
 use Rattle.sm_syntax.specs.claim.ConflictFree.{Copy}
@@ -17,6 +17,7 @@ use Rattle.sm_plan.specs.Heads as heads
 use Rattle.sm_plan.specs.Limits as limits
 use Rattle.sm_plan.specs.Masks.{set_of}
 use Rattle.sm_plan.specs.Nodes as plan
+use Rattle.sm_plan.specs.ReadyStates.{AreFormsReady, AreStoresReady}
 use Rattle.sm_plan.specs.States.{State}
 use Rattle.sm_plan.specs.Statements.{is_loop}
 use Rattle.sm_plan.specs.Successors.{turn_state, after_loops_state}
@@ -40,7 +41,8 @@ returns-clause-opening c =
     let made = c.in_ok-made.made in
     let is = c.in_ok-made.ensures.made in
     let good = c.in_ok-made.ensures.ready in
-    let ends = c.in_ok-states.ensures in
+    let o = c.in_ok-opened.opened in
+    let ends = c.in_ok-opened.ensures in
     let there = state_ready u x wider st ready in
     let test : Bool = sets.is_inhabited set
     && (sets.each (λ (d : Copy). not (sets.has set d) || is_loop (rest d)) && limits.is_kept form) in
@@ -56,21 +58,22 @@ returns-clause-opening c =
           let after_is : heads.after_of rest facts stores kept guards target st.is_final set ≡ after_loops_state old k set form =
           after_same k old set form stores kept guards is.stores is.kept is.guards target
           (forms_stay u x wider st.target.value.list.items ready.target) in
-          let states_are : map (successor_in (sorts_in x) (trees_in x) facts) c.in_ok-states.states.items
+          let states_are : map (successor_in (sorts_in x) (trees_in x) facts) o.states.items
           ≡ map (turn_state old k set form) (subsets set) ++ after_loops_state old k set form ∷ [] =
           ends.states (sorts_in x) (trees_in x) facts ∙ (λ i. turns_are i ++ after_is i ∷ []) in
+          let goals_are = ap (forms_in (sorts_in x) (trees_in x)) ends.goals ∙ is.goals in
           let want : plan.Opened = record {
             goals = all_at_stores (stores_in (trees_in u) st.stores) (conj form);
             states = map (turn_state old k set form) (subsets set) ++ after_loops_state old k set form ∷ [];
           } in
           (λ i. Some (record {
-            goals = is.goals i;
+            goals = goals_are i;
             states = states_are i;
           }))
           ∙ sym (ap (λ (b : Bool). plan.where_true b want) both.1)
           ∙ sym (ap (λ (b : Bool). plan.opened_by k old (if b then plan.Loop set form else plan.Unfit 4)) both.0);
-      stores = inr (stores_stay u x wider st.stores ready.stores);
+      stores = inr (ap (stores_in (trees_in x)) ends.stores ∙ stores_stay u x wider st.stores ready.stores);
       ready = ends.ready (sorts_in x) (trees_in x) there.rests good.head there.target good.turns;
-      goals = good.goals;
-      asking = stores_ready u x wider st.stores ready.stores;
+      goals = subst (AreFormsReady (sorts_in x) (trees_in x)) (sym ends.goals) good.goals;
+      asking = subst (AreStoresReady (sorts_in x) (trees_in x)) (sym ends.stores) (stores_ready u x wider st.stores ready.stores);
     }

@@ -66,6 +66,38 @@ put_guard-requires-4-clause-ready c =
     (grows-twice u c.put_guard.new.table c.put_guard-2.new.table (c.put_guard.ensures.grows) c.put_guard-2.ensures.grows) c.put_guard-3.ensures.grows in
     ready_more u v g c.args.stores.now.candidate (c.requires.stores M)
 
+pub returns-in_err-put_guard-clause-grows : goal.returns-in_err-put_guard-clause-grows
+returns-in_err-put_guard-clause-grows c = c.put_guard.ensures.grows
+
+pub returns-in_err-put_guard-2-clause-grows : goal.returns-in_err-put_guard-2-clause-grows
+returns-in_err-put_guard-2-clause-grows c =
+    grows-twice c.args.table.now c.put_guard.new.table c.put_guard-2.new.table c.put_guard.ensures.grows c.put_guard-2.ensures.grows
+
+pub returns-in_err-put_guard-3-clause-grows : goal.returns-in_err-put_guard-3-clause-grows
+returns-in_err-put_guard-3-clause-grows c =
+    let u = c.args.table.now in
+    let w2 = c.put_guard-2.new.table in
+    let u2 = grows-twice u c.put_guard.new.table w2 c.put_guard.ensures.grows c.put_guard-2.ensures.grows in
+    grows-twice u w2 c.put_guard-3.new.table u2 c.put_guard-3.ensures.grows
+
+pub returns-in_err-put_guard-4-clause-grows : goal.returns-in_err-put_guard-4-clause-grows
+returns-in_err-put_guard-4-clause-grows c =
+    let u = c.args.table.now in
+    let w2 = c.put_guard-2.new.table in
+    let w3 = c.put_guard-3.new.table in
+    let u2 = grows-twice u c.put_guard.new.table w2 c.put_guard.ensures.grows c.put_guard-2.ensures.grows in
+    let u3 = grows-twice u w2 w3 u2 c.put_guard-3.ensures.grows in
+    grows-twice u w3 c.put_guard-4.new.table u3 c.put_guard-4.ensures.grows
+
+pub returns-clause-grows : goal.returns-clause-grows
+returns-clause-grows c =
+    let u = c.args.table.now in
+    let w2 = c.put_guard-2.new.table in
+    let w3 = c.put_guard-3.new.table in
+    let u2 = grows-twice u c.put_guard.new.table w2 c.put_guard.ensures.grows c.put_guard-2.ensures.grows in
+    let u3 = grows-twice u w2 w3 u2 c.put_guard-3.ensures.grows in
+    grows-twice u w3 c.put_guard-4.new.table u3 c.put_guard-4.ensures.grows
+
 pub returns-clause-made : goal.returns-clause-made
 returns-clause-made c =
     let u = c.args.table.now in

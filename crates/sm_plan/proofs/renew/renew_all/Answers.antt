@@ -95,6 +95,38 @@ renew_written-requires-4-clause-full c =
     c.renew_written-2.ensures.grows) c.renew_written-3.ensures.grows in
     full_more u v g c.args.stores.now.candidate (c.requires.full M)
 
+pub returns-in_err-renew_written-clause-grows : goal.returns-in_err-renew_written-clause-grows
+returns-in_err-renew_written-clause-grows c = c.renew_written.ensures.grows
+
+pub returns-in_err-renew_written-2-clause-grows : goal.returns-in_err-renew_written-2-clause-grows
+returns-in_err-renew_written-2-clause-grows c =
+    grows-twice c.args.table.now c.renew_written.new.table c.renew_written-2.new.table c.renew_written.ensures.grows c.renew_written-2.ensures.grows
+
+pub returns-in_err-renew_written-3-clause-grows : goal.returns-in_err-renew_written-3-clause-grows
+returns-in_err-renew_written-3-clause-grows c =
+    let u = c.args.table.now in
+    let w2 = c.renew_written-2.new.table in
+    let u2 = grows-twice u c.renew_written.new.table w2 c.renew_written.ensures.grows c.renew_written-2.ensures.grows in
+    grows-twice u w2 c.renew_written-3.new.table u2 c.renew_written-3.ensures.grows
+
+pub returns-in_err-renew_written-4-clause-grows : goal.returns-in_err-renew_written-4-clause-grows
+returns-in_err-renew_written-4-clause-grows c =
+    let u = c.args.table.now in
+    let w2 = c.renew_written-2.new.table in
+    let w3 = c.renew_written-3.new.table in
+    let u2 = grows-twice u c.renew_written.new.table w2 c.renew_written.ensures.grows c.renew_written-2.ensures.grows in
+    let u3 = grows-twice u w2 w3 u2 c.renew_written-3.ensures.grows in
+    grows-twice u w3 c.renew_written-4.new.table u3 c.renew_written-4.ensures.grows
+
+pub returns-clause-grows : goal.returns-clause-grows
+returns-clause-grows c =
+    let u = c.args.table.now in
+    let w2 = c.renew_written-2.new.table in
+    let w3 = c.renew_written-3.new.table in
+    let u2 = grows-twice u c.renew_written.new.table w2 c.renew_written.ensures.grows c.renew_written-2.ensures.grows in
+    let u3 = grows-twice u w2 w3 u2 c.renew_written-3.ensures.grows in
+    grows-twice u w3 c.renew_written-4.new.table u3 c.renew_written-4.ensures.grows
+
 pub returns-clause-made : goal.returns-clause-made
 returns-clause-made c =
     let u = c.args.table.now in

@@ -5,6 +5,7 @@ use Rattle.sm_term.specs.Formulas.{numbered, assertion_in, IsFormulaWithin}
 use Rattle.sm_term.specs.Slots.{at_stores}
 use Rattle.sm_term.specs.Tables.{trees_in, sorts_in}
 use Rattle.sm_term.proofs.FormsLemmas.{assertion-more, form_kept}
+use Rattle.sm_term.proofs.TablesLemmas.{grows-twice}
 use Rattle.sm_plan.specs.ReadyStates.{IsFormReady}
 use Rattle.sm_plan.specs.Views.{stores_in}
 use Rattle.sm_plan.proofs.FillingGrows.{stores_ready}
@@ -88,6 +89,122 @@ filled_form-returns-in_ok-a-in-Lt-clause-within t c =
     let got = c.in_ok-a-in-Lt in
     both_there v w c.filled_terms-in-Lt.ensures.grows stores c.requires.stores c.in-Lt.t.0 c.in-Lt.u.0 got.a.0 got.b.0 got.ensures.first
     got.ensures.second
+
+pub filled_form-filled_terms-requires-clause-first : goal.filled_form-filled_terms-requires-clause-first
+filled_form-filled_terms-requires-clause-first t c =
+    let v = c.args.table.now in
+    (subst (IsFormReady (sorts_in v) (trees_in v)) c.in-Eq.is c.requires.form).0.0
+
+pub filled_form-filled_terms-requires-clause-second : goal.filled_form-filled_terms-requires-clause-second
+filled_form-filled_terms-requires-clause-second t c =
+    let v = c.args.table.now in
+    (subst (IsFormReady (sorts_in v) (trees_in v)) c.in-Eq.is c.requires.form).0.1
+
+pub filled_form-filled_terms-requires-clause-stores : goal.filled_form-filled_terms-requires-clause-stores
+filled_form-filled_terms-requires-clause-stores t c = c.requires.stores
+
+pub filled_form-filled_terms-requires-clause-known : goal.filled_form-filled_terms-requires-clause-known
+filled_form-filled_terms-requires-clause-known t c = c.requires.known
+
+pub filled_form-returns-in_err-a-in-Eq-clause-grows : goal.filled_form-returns-in_err-a-in-Eq-clause-grows
+filled_form-returns-in_err-a-in-Eq-clause-grows t c = c.filled_terms.ensures.grows
+
+pub filled_form-returns-in_ok-a-in-Eq-clause-grows : goal.filled_form-returns-in_ok-a-in-Eq-clause-grows
+filled_form-returns-in_ok-a-in-Eq-clause-grows t c = c.filled_terms.ensures.grows
+
+pub filled_form-returns-in_ok-a-in-Eq-clause-known : goal.filled_form-returns-in_ok-a-in-Eq-clause-known
+filled_form-returns-in_ok-a-in-Eq-clause-known t c = c.in_ok-a-in-Eq.ensures.known
+
+pub filled_form-filled_terms-requires-in-Ne-clause-first : goal.filled_form-filled_terms-requires-in-Ne-clause-first
+filled_form-filled_terms-requires-in-Ne-clause-first t c =
+    let v = c.args.table.now in
+    (subst (IsFormReady (sorts_in v) (trees_in v)) c.in-Ne.is c.requires.form).0.0
+
+pub filled_form-filled_terms-requires-in-Ne-clause-second : goal.filled_form-filled_terms-requires-in-Ne-clause-second
+filled_form-filled_terms-requires-in-Ne-clause-second t c =
+    let v = c.args.table.now in
+    (subst (IsFormReady (sorts_in v) (trees_in v)) c.in-Ne.is c.requires.form).0.1
+
+pub filled_form-filled_terms-requires-in-Ne-clause-stores : goal.filled_form-filled_terms-requires-in-Ne-clause-stores
+filled_form-filled_terms-requires-in-Ne-clause-stores t c = c.requires.stores
+
+pub filled_form-filled_terms-requires-in-Ne-clause-known : goal.filled_form-filled_terms-requires-in-Ne-clause-known
+filled_form-filled_terms-requires-in-Ne-clause-known t c = c.requires.known
+
+pub filled_form-returns-in_err-a-in-Ne-clause-grows : goal.filled_form-returns-in_err-a-in-Ne-clause-grows
+filled_form-returns-in_err-a-in-Ne-clause-grows t c = c.filled_terms-in-Ne.ensures.grows
+
+pub filled_form-returns-in_ok-a-in-Ne-clause-grows : goal.filled_form-returns-in_ok-a-in-Ne-clause-grows
+filled_form-returns-in_ok-a-in-Ne-clause-grows t c = c.filled_terms-in-Ne.ensures.grows
+
+pub filled_form-returns-in_ok-a-in-Ne-clause-known : goal.filled_form-returns-in_ok-a-in-Ne-clause-known
+filled_form-returns-in_ok-a-in-Ne-clause-known t c = c.in_ok-a-in-Ne.ensures.known
+
+pub filled_form-filled_terms-requires-in-Le-clause-first : goal.filled_form-filled_terms-requires-in-Le-clause-first
+filled_form-filled_terms-requires-in-Le-clause-first t c =
+    let v = c.args.table.now in
+    (subst (IsFormReady (sorts_in v) (trees_in v)) c.in-Le.is c.requires.form).0.0
+
+pub filled_form-filled_terms-requires-in-Le-clause-second : goal.filled_form-filled_terms-requires-in-Le-clause-second
+filled_form-filled_terms-requires-in-Le-clause-second t c =
+    let v = c.args.table.now in
+    (subst (IsFormReady (sorts_in v) (trees_in v)) c.in-Le.is c.requires.form).0.1
+
+pub filled_form-filled_terms-requires-in-Le-clause-stores : goal.filled_form-filled_terms-requires-in-Le-clause-stores
+filled_form-filled_terms-requires-in-Le-clause-stores t c = c.requires.stores
+
+pub filled_form-filled_terms-requires-in-Le-clause-known : goal.filled_form-filled_terms-requires-in-Le-clause-known
+filled_form-filled_terms-requires-in-Le-clause-known t c = c.requires.known
+
+pub filled_form-returns-in_err-a-in-Le-clause-grows : goal.filled_form-returns-in_err-a-in-Le-clause-grows
+filled_form-returns-in_err-a-in-Le-clause-grows t c = c.filled_terms-in-Le.ensures.grows
+
+pub filled_form-returns-in_ok-a-in-Le-clause-grows : goal.filled_form-returns-in_ok-a-in-Le-clause-grows
+filled_form-returns-in_ok-a-in-Le-clause-grows t c = c.filled_terms-in-Le.ensures.grows
+
+pub filled_form-returns-in_ok-a-in-Le-clause-known : goal.filled_form-returns-in_ok-a-in-Le-clause-known
+filled_form-returns-in_ok-a-in-Le-clause-known t c = c.in_ok-a-in-Le.ensures.known
+
+pub filled_form-filled_terms-requires-in-Lt-clause-first : goal.filled_form-filled_terms-requires-in-Lt-clause-first
+filled_form-filled_terms-requires-in-Lt-clause-first t c =
+    let v = c.args.table.now in
+    (subst (IsFormReady (sorts_in v) (trees_in v)) c.in-Lt.is c.requires.form).0.0
+
+pub filled_form-filled_terms-requires-in-Lt-clause-second : goal.filled_form-filled_terms-requires-in-Lt-clause-second
+filled_form-filled_terms-requires-in-Lt-clause-second t c =
+    let v = c.args.table.now in
+    (subst (IsFormReady (sorts_in v) (trees_in v)) c.in-Lt.is c.requires.form).0.1
+
+pub filled_form-filled_terms-requires-in-Lt-clause-stores : goal.filled_form-filled_terms-requires-in-Lt-clause-stores
+filled_form-filled_terms-requires-in-Lt-clause-stores t c = c.requires.stores
+
+pub filled_form-filled_terms-requires-in-Lt-clause-known : goal.filled_form-filled_terms-requires-in-Lt-clause-known
+filled_form-filled_terms-requires-in-Lt-clause-known t c = c.requires.known
+
+pub filled_form-returns-in_err-a-in-Lt-clause-grows : goal.filled_form-returns-in_err-a-in-Lt-clause-grows
+filled_form-returns-in_err-a-in-Lt-clause-grows t c = c.filled_terms-in-Lt.ensures.grows
+
+pub filled_form-returns-in_ok-a-in-Lt-clause-grows : goal.filled_form-returns-in_ok-a-in-Lt-clause-grows
+filled_form-returns-in_ok-a-in-Lt-clause-grows t c = c.filled_terms-in-Lt.ensures.grows
+
+pub filled_form-returns-in_ok-a-in-Lt-clause-known : goal.filled_form-returns-in_ok-a-in-Lt-clause-known
+filled_form-returns-in_ok-a-in-Lt-clause-known t c = c.in_ok-a-in-Lt.ensures.known
+
+pub filled_parts-returns-in_err-b-clause-grows : goal.filled_parts-returns-in_err-b-clause-grows
+filled_parts-returns-in_err-b-clause-grows t c =
+    grows-twice c.args.table.now c.filled_form.new.table c.filled_form-2.new.table c.filled_form.ensures.grows c.filled_form-2.ensures.grows
+
+pub filled_parts-returns-in_err-first-clause-grows : goal.filled_parts-returns-in_err-first-clause-grows
+filled_parts-returns-in_err-first-clause-grows t c =
+    grows-twice c.args.table.now c.filled_form.new.table c.filled_form-2.new.table c.filled_form.ensures.grows c.filled_form-2.ensures.grows
+
+pub filled_parts-returns-in_err-second-clause-grows : goal.filled_parts-returns-in_err-second-clause-grows
+filled_parts-returns-in_err-second-clause-grows t c =
+    grows-twice c.args.table.now c.filled_form.new.table c.filled_form-2.new.table c.filled_form.ensures.grows c.filled_form-2.ensures.grows
+
+pub filled_parts-returns-clause-grows : goal.filled_parts-returns-clause-grows
+filled_parts-returns-clause-grows t c =
+    grows-twice c.args.table.now c.filled_form.new.table c.filled_form-2.new.table c.filled_form.ensures.grows c.filled_form-2.ensures.grows
 
 pub filled_parts-filled_form-requires-2 : goal.filled_parts-filled_form-requires-2
 filled_parts-filled_form-requires-2 t c =

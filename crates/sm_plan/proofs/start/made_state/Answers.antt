@@ -32,19 +32,30 @@ start_facts-requires-clause-ready c =
 
 pub target-requires : goal.target-requires
 target-requires c =
-    let v0 = c.args.table.now in
     let v1 = c.start_store.new.table in
     let v2 = c.start_facts.new.table in
     let declared = declared_of c.args.decls.now in
     let e1 : sorts_in v1 ≡ sort_of declared = c.start_store.ensures.grows.sorts ∙ c.requires.declared in
     let e2 : sorts_in v2 ≡ sort_of declared = c.start_facts.ensures.grows.sorts ∙ e1 in
-    let store : SymStore = c.in_ok-store.store in
-    let store_ready_1 : IsStoreReady (sorts_in v1) (trees_in v1) store = (
-      c.in_ok-store.ensures.within,
-      subst (IsStoreSorted (sorts_in v1)) (sym c.in_ok-store.ensures.store)
-          (start_store_sorted (sorts_in v1)),
-    ) in
     subst (λ (f : Sorts). AreOutputsDeclared f (with_sorts f (outputs_of c.args.outputs.now))) (sym e2) c.requires.outputs
+
+pub returns-in_err-store-clause-widens : goal.returns-in_err-store-clause-widens
+returns-in_err-store-clause-widens c = widens_grown c.args.table.now c.start_store.new.table c.start_store.ensures.grows
+
+pub returns-in_err-facts-clause-widens : goal.returns-in_err-facts-clause-widens
+returns-in_err-facts-clause-widens c =
+    let v0 = c.args.table.now in
+    let v2 = c.start_facts.new.table in
+    widens_grown v0 v2 (grows-twice v0 c.start_store.new.table v2 c.start_store.ensures.grows c.start_facts.ensures.grows)
+
+pub returns-in_err-goals-clause-widens : goal.returns-in_err-goals-clause-widens
+returns-in_err-goals-clause-widens c =
+    let v0 = c.args.table.now in
+    let v1 = c.start_store.new.table in
+    let v2 = c.start_facts.new.table in
+    let v3 = c.target.new.table in
+    widens_grown v0 v3 (grows-twice v0 v1 v3 c.start_store.ensures.grows
+    (grows-twice v1 v2 v3 c.start_facts.ensures.grows c.target.ensures.grows))
 
 pub returns-in_err-state-clause-widens : goal.returns-in_err-state-clause-widens
 returns-in_err-state-clause-widens c =
@@ -71,20 +82,13 @@ returns-clause-facts c = forms_ready c.start_facts.new.table c.target.new.table
 
 pub returns-clause-start : goal.returns-clause-start
 returns-clause-start c =
-    let v0 = c.args.table.now in
     let v1 = c.start_store.new.table in
     let v2 = c.start_facts.new.table in
     let declared = declared_of c.args.decls.now in
     let e1 : sorts_in v1 ≡ sort_of declared = c.start_store.ensures.grows.sorts ∙ c.requires.declared in
     let e2 : sorts_in v2 ≡ sort_of declared = c.start_facts.ensures.grows.sorts ∙ e1 in
     let store : SymStore = c.in_ok-store.store in
-    let store_ready_1 : IsStoreReady (sorts_in v1) (trees_in v1) store = (
-      c.in_ok-store.ensures.within,
-      subst (IsStoreSorted (sorts_in v1)) (sym c.in_ok-store.ensures.store)
-          (start_store_sorted (sorts_in v1)),
-    ) in
     let v3 = c.target.new.table in
-    let e3 : sorts_in v3 ≡ sort_of declared = c.target.ensures.grows.sorts ∙ e2 in
     let g13 = grows-twice v1 v2 v3 c.start_facts.ensures.grows c.target.ensures.grows in
     let w13 = widens_grown v1 v3 g13 in
     let w23 = widens_grown v2 v3 c.target.ensures.grows in
@@ -124,8 +128,6 @@ returns-clause-ready c =
     let e3 : sorts_in v3 ≡ sort_of declared = c.target.ensures.grows.sorts ∙ e2 in
     let g13 = grows-twice v1 v2 v3 c.start_facts.ensures.grows c.target.ensures.grows in
     let w13 = widens_grown v1 v3 g13 in
-    let w23 = widens_grown v2 v3 c.target.ensures.grows in
-    let names = outputs_of c.args.outputs.now in
     let state : SymState = c.in_ok-state.state in
     let s3 : IsStoreReady (sorts_in v3) (trees_in v3) store = store_ready v1 v3 w13 store store_ready_1 in
     record {

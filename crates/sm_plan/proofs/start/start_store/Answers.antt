@@ -27,6 +27,12 @@ made-requires-clause-within c =
     (sorts ∙ ap (λ (l : List (Name × Sort)). sort_of (pairs l)) (sym c.deref-d-items.ensures.value))
     ∙ declared_at ds i d c.loop-d-test.true
 
+pub returns-in_err-made-clause-grows : goal.returns-in_err-made-clause-grows
+returns-in_err-made-clause-grows c = grows-twice c.args.table.now c.loop-d.table c.made.new.table c.loop-d.invariant.grows c.made.ensures.grows
+
+pub returns-in_err-push-clause-grows : goal.returns-in_err-push-clause-grows
+returns-in_err-push-clause-grows c = grows-twice c.args.table.now c.loop-d.table c.made.new.table c.loop-d.invariant.grows c.made.ensures.grows
+
 pub loop-d-preserved : goal.loop-d-preserved
 loop-d-preserved c =
     let v = c.args.table.now in

@@ -38,6 +38,17 @@ made-requires-clause-fits c =
     c.requires.index c.requires.value c.index-array.result.now c.in_ok-index.index c.in_ok-value.value c.index-array.ensures
     c.in_ok-index.ensures.made c.in_ok-value.ensures.made
 
+pub returns-in_err-value-clause-grows : goal.returns-in_err-value-clause-grows
+returns-in_err-value-clause-grows c =
+    grows-twice c.args.table.now c.term_of.new.table c.term_of-2.new.table c.term_of.ensures.grows c.term_of-2.ensures.grows
+
+pub returns-in_err-t-clause-grows : goal.returns-in_err-t-clause-grows
+returns-in_err-t-clause-grows c =
+    let v = c.args.table.now in
+    let w = c.term_of-2.new.table in
+    grows-twice v w c.made.new.table (grows-twice v c.term_of.new.table w c.term_of.ensures.grows c.term_of-2.ensures.grows)
+    c.made.ensures.grows
+
 pub returns-clause-grows : goal.returns-clause-grows
 returns-clause-grows c =
     let v = c.args.table.now in

@@ -46,6 +46,12 @@ false_guard-requires-clause-ready c =
     c.in_ok-terms.ensures.store ∙ ap (λ (d : Code). summarized d (store_in (trees_in v) old)) block_is in
     summed_ready v u c.summarize.ensures.widens code n old terms c.requires.well c.requires.ready is c.in_ok-terms.ensures.within
 
+pub returns-in_err-guard-clause-widens : goal.returns-in_err-guard-clause-widens
+returns-in_err-guard-clause-widens c =
+    let u = c.summarize.new.table in
+    let z = c.false_guard.new.table in
+    widens_twice c.args.table.now u z c.summarize.ensures.widens (widens_grown u z c.false_guard.ensures.grows)
+
 pub returns-clause-terms : goal.returns-clause-terms
 returns-clause-terms c =
     let v = c.args.table.now in

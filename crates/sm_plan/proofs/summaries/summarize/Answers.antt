@@ -32,7 +32,6 @@ pub summary-requires-clause-declared : goal.summary-requires-clause-declared
 summary-requires-clause-declared c =
     let v = c.args.table.now in
     let b = c.body.new.self in
-    let s = c.args.store.now in
     let code = code_of c.args.block.now in
     let base : ExtendsTable v b = widens v b c.body.ensures.rows ([], c.body.ensures.trees ∙ sym (append-nil (trees_in v))) in
     let u = c.loop-x.table in
@@ -51,17 +50,9 @@ summary-requires-clause-ready c =
     let v = c.args.table.now in
     let b = c.body.new.self in
     let s = c.args.store.now in
-    let code = code_of c.args.block.now in
     let base : ExtendsTable v b = widens v b c.body.ensures.rows ([], c.body.ensures.trees ∙ sym (append-nil (trees_in v))) in
     let u = c.loop-x.table in
     let wider : ExtendsTable v u = widens_twice v b u base (widens_grown b u c.loop-x.invariant.grows) in
-    let ns : List Name = c.deref-x-items.result.now in
-    let i = c.loop-x.x-index in
-    let x = (get_or ns i (record { 0 = 0 })).0 in
-    let assigned : assigns code x ≡ true =
-    sym (c.in_ok-names.ensures.names x) ∙ ap (λ (l : List Name). is_in (numbers l) x) (sym c.deref-x-items.ensures.value)
-    ∙ name_in ns i c.loop-x-test.true in
-    let declared : IsDeclaredIn (sorts_in v) x = assigned_declared (sorts_in v) code x c.requires.well assigned in
     store_ready v u wider s c.requires.ready
 
 pub summary-requires-clause-full : goal.summary-requires-clause-full
@@ -69,28 +60,15 @@ summary-requires-clause-full c =
     let v = c.args.table.now in
     let b = c.body.new.self in
     let s = c.args.store.now in
-    let code = code_of c.args.block.now in
     let base : ExtendsTable v b = widens v b c.body.ensures.rows ([], c.body.ensures.trees ∙ sym (append-nil (trees_in v))) in
     let u = c.loop-x.table in
     let wider : ExtendsTable v u = widens_twice v b u base (widens_grown b u c.loop-x.invariant.grows) in
-    let ns : List Name = c.deref-x-items.result.now in
-    let i = c.loop-x.x-index in
-    let x = (get_or ns i (record { 0 = 0 })).0 in
-    let assigned : assigns code x ≡ true =
-    sym (c.in_ok-names.ensures.names x) ∙ ap (λ (l : List Name). is_in (numbers l) x) (sym c.deref-x-items.ensures.value)
-    ∙ name_in ns i c.loop-x-test.true in
-    let declared : IsDeclaredIn (sorts_in v) x = assigned_declared (sorts_in v) code x c.requires.well assigned in
     subst (λ (f : Sorts). IsStoreFull f s) (sym wider.sorts) c.requires.full
 
 pub put-requires : goal.put-requires
 put-requires c =
     let v = c.args.table.now in
-    let b = c.body.new.self in
-    let s = c.args.store.now in
     let code = code_of c.args.block.now in
-    let base : ExtendsTable v b = widens v b c.body.ensures.rows ([], c.body.ensures.trees ∙ sym (append-nil (trees_in v))) in
-    let u = c.loop-x.table in
-    let wider : ExtendsTable v u = widens_twice v b u base (widens_grown b u c.loop-x.invariant.grows) in
     let ns : List Name = c.deref-x-items.result.now in
     let i = c.loop-x.x-index in
     let x = (get_or ns i (record { 0 = 0 })).0 in
@@ -100,12 +78,36 @@ put-requires c =
     let declared : IsDeclaredIn (sorts_in v) x = assigned_declared (sorts_in v) code x c.requires.well assigned in
     let h = c.requires.full x declared in omega (arith, h, c.loop-x.invariant.len)
 
+pub returns-in_err-body-clause-widens : goal.returns-in_err-body-clause-widens
+returns-in_err-body-clause-widens c =
+    let v = c.args.table.now in
+    widens v c.body.new.self c.body.ensures.rows ([], c.body.ensures.trees ∙ sym (append-nil (trees_in v)))
+
+pub returns-in_err-names-clause-widens : goal.returns-in_err-names-clause-widens
+returns-in_err-names-clause-widens c =
+    let v = c.args.table.now in
+    widens v c.body.new.self c.body.ensures.rows ([], c.body.ensures.trees ∙ sym (append-nil (trees_in v)))
+
+pub returns-in_err-t-clause-widens : goal.returns-in_err-t-clause-widens
+returns-in_err-t-clause-widens c =
+    let v = c.args.table.now in
+    let b = c.body.new.self in
+    let base : ExtendsTable v b = widens v b c.body.ensures.rows ([], c.body.ensures.trees ∙ sym (append-nil (trees_in v))) in
+    let z = c.summary.new.table in
+    widens_twice v b z base (widens_grown b z (grows-twice b c.loop-x.table z c.loop-x.invariant.grows c.summary.ensures.grows))
+
+pub returns-clause-widens : goal.returns-clause-widens
+returns-clause-widens c =
+    let v = c.args.table.now in
+    let b = c.body.new.self in
+    let base : ExtendsTable v b = widens v b c.body.ensures.rows ([], c.body.ensures.trees ∙ sym (append-nil (trees_in v))) in
+    widens_twice v b c.loop-x.table base (widens_grown b c.loop-x.table c.loop-x.invariant.grows)
+
 pub loop-x-init : goal.loop-x-init
 loop-x-init c =
     let v = c.args.table.now in
     let b = c.body.new.self in
     let s = c.args.store.now in
-    let code = code_of c.args.block.now in
     let base : ExtendsTable v b = widens v b c.body.ensures.rows ([], c.body.ensures.trees ∙ sym (append-nil (trees_in v))) in
     let same : c.in_ok-made.made.list.items ≡ s.list.items = c.in_ok-made.ensures in
     record {

@@ -11,6 +11,7 @@ use Rattle.sm_term.specs.Terms.{Tree, Slot, Cell, Read}
 use Rattle.sm_term.specs.Sorted.{sort_named}
 use Rattle.sm_term.specs.Tables.{trees_in, sorts_in, tree_at}
 use Rattle.sm_term.proofs.ExpressionLemmas.{stays_got, tree_got, sort_got}
+use Rattle.sm_term.proofs.TablesLemmas.{grows-twice}
 use Rattle.sm_plan.specs.States.{place}
 use Rattle.sm_plan.proofs.SortedTerms.{sort_is}
 use Rattle.sm_plan.proofs.TargetsMade.{copy_back}
@@ -28,6 +29,17 @@ made-requires-in-Arr-2-clause-fits c =
     ∙ sort_is (sorts_in v) x c.args.sort c.requires ∙ c.in-Arr.is in
     and_from _ _ (sort_got (sorts_in w) (trees_in w) c.in_ok-t.t _ Arr slot sort)
     (sort_got (sorts_in w) (trees_in w) c.in_ok-i-in-Arr.i _ Num c.in_ok-i-in-Arr.ensures.stored refl)
+
+pub returns-in_err-i-in-Arr-clause-grows : goal.returns-in_err-i-in-Arr-clause-grows
+returns-in_err-i-in-Arr-clause-grows c =
+    grows-twice c.args.table.now c.made.new.table c.made-in-Arr.new.table c.made.ensures.grows c.made-in-Arr.ensures.grows
+
+pub returns-in_ok-i-in-Arr-clause-grows : goal.returns-in_ok-i-in-Arr-clause-grows
+returns-in_ok-i-in-Arr-clause-grows c =
+    let v = c.args.table.now in
+    let w = c.made-in-Arr.new.table in
+    grows-twice v w c.made-in-Arr-2.new.table (grows-twice v c.made.new.table w c.made.ensures.grows c.made-in-Arr.ensures.grows)
+    c.made-in-Arr-2.ensures.grows
 
 pub returns-in_ok-i-in-Arr-clause-made : goal.returns-in_ok-i-in-Arr-clause-made
 returns-in_ok-i-in-Arr-clause-made c =

@@ -28,6 +28,30 @@ pub place-requires-4 : goal.place-requires-4
 place-requires-4 c = ap (λ (f : Sorts). f c.args.x.0)
     (c.place-3.ensures.grows.sorts ∙ c.place-2.ensures.grows.sorts ∙ c.place.ensures.grows.sorts) ∙ c.requires
 
+pub returns-in_err-variant_a-clause-grows : goal.returns-in_err-variant_a-clause-grows
+returns-in_err-variant_a-clause-grows c =
+    grows-twice c.args.table.now c.place.new.table c.place-2.new.table c.place.ensures.grows c.place-2.ensures.grows
+
+pub returns-in_err-variant_b-clause-grows : goal.returns-in_err-variant_b-clause-grows
+returns-in_err-variant_b-clause-grows c =
+    let z = c.place-3.new.table in
+    let g2 = grows-twice c.place.new.table c.place-2.new.table z c.place-2.ensures.grows c.place-3.ensures.grows in
+    grows-twice c.args.table.now c.place.new.table z c.place.ensures.grows g2
+
+pub returns-in_err-candidate-clause-grows : goal.returns-in_err-candidate-clause-grows
+returns-in_err-candidate-clause-grows c =
+    let z = c.place-4.new.table in
+    let g3 = grows-twice c.place-2.new.table c.place-3.new.table z c.place-3.ensures.grows c.place-4.ensures.grows in
+    let g2 = grows-twice c.place.new.table c.place-2.new.table z c.place-2.ensures.grows g3 in
+    grows-twice c.args.table.now c.place.new.table z c.place.ensures.grows g2
+
+pub returns-clause-grows : goal.returns-clause-grows
+returns-clause-grows c =
+    let z = c.place-4.new.table in
+    let g3 = grows-twice c.place-2.new.table c.place-3.new.table z c.place-3.ensures.grows c.place-4.ensures.grows in
+    let g2 = grows-twice c.place.new.table c.place-2.new.table z c.place-2.ensures.grows g3 in
+    grows-twice c.args.table.now c.place.new.table z c.place.ensures.grows g2
+
 pub returns-clause-made : goal.returns-clause-made
 returns-clause-made c =
     let z = c.place-4.new.table in

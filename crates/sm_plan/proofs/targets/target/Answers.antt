@@ -48,6 +48,10 @@ pub returns-in_err-at-clause-grows : goal.returns-in_err-at-clause-grows
 returns-in_err-at-clause-grows c = grows-twice c.args.table.now c.loop-x.table c.places.new.table c.loop-x.invariant.grows
     c.places.ensures.grows
 
+pub returns-in_err-put_goals-clause-grows : goal.returns-in_err-put_goals-clause-grows
+returns-in_err-put_goals-clause-grows c = grows-twice c.args.table.now c.loop-x.table c.places.new.table c.loop-x.invariant.grows
+    c.places.ensures.grows
+
 pub loop-x-preserved : goal.loop-x-preserved
 loop-x-preserved c =
     let v = c.args.table.now in

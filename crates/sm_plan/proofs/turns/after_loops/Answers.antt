@@ -1,5 +1,5 @@
 -- The state after the loops.
-use Rattle.std.proofs.Common.{◌≡◌, List, ◌++◌, sym, subst}
+use Rattle.std.proofs.Common.{◌≡◌, List, ◌++◌, sym, ap, subst}
 use Rattle.std.proofs.Math.Path.{fun_ext}
 use Rattle.sm_syntax.specs.claim.ConflictFree.{Copy}
 use Rattle.sm_syntax.specs.text.Sorts.{Sorts, IsWellSorted}
@@ -9,6 +9,7 @@ use Rattle.sm_term.specs.Terms.{Tree}
 use Rattle.sm_plan.specs.Copies.{has}
 use Rattle.sm_plan.specs.LoopHeads.{IsHeadReady}
 use Rattle.sm_plan.specs.Masks.{set_of}
+use Rattle.sm_plan.specs.ReadyStates.{AreStoresReady, AreStoresFull}
 use Rattle.sm_plan.specs.Views.{rest_code, forms_in, stores_in}
 use Rattle.sm_plan.proofs.TurnsMade.{passed_ready}
 use Rattle.sm_plan.proofs.turns.after_loops.Goals as goal
@@ -17,12 +18,13 @@ pub returns-clause-made : goal.returns-clause-made
 returns-clause-made c = λ (sorts : Sorts) (trees : List Tree) (facts : List Assertion).
     let rest = fun_ext c.pass_loops.ensures in
     let more = c.in_ok-more.ensures.made sorts trees in
+    let stores = ap (stores_in trees) c.swap.ensures.x_after in
     λ i. record {
       rest = rest i;
-      stores = stores_in trees c.args.head.stores;
+      stores = stores i;
       facts = facts ++ (forms_in sorts trees c.args.head.kept.value.list.items ++ more i);
-      target = forms_in sorts trees c.args.target.value.list.items;
-      is_final = c.args.is_final;
+      target = forms_in sorts trees c.args.state.target.value.list.items;
+      is_final = c.args.state.is_final;
     }
 
 pub returns-clause-ready : goal.returns-clause-ready
@@ -30,10 +32,10 @@ returns-clause-ready c = λ (sorts : Sorts) (trees : List Tree) well (head : IsH
   state = record {
     rests = λ (d : Copy).
         subst (IsWellSorted sorts) (sym (c.pass_loops.ensures d))
-        (passed_ready sorts (has (set_of c.args.set) d) (rest_code (of_copy c.args.rests d)) (well d));
-    stores = head.stores;
+        (passed_ready sorts (has (set_of c.args.set) d) (rest_code (of_copy c.args.state.rests d)) (well d));
+    stores = subst (AreStoresReady sorts trees) (sym c.swap.ensures.x_after) head.stores;
     target = target;
-    full = head.full;
+    full = subst (AreStoresFull sorts) (sym c.swap.ensures.x_after) head.full;
   };
   kept = head.kept;
   more = c.in_ok-more.ensures.ready sorts trees head.guards;
