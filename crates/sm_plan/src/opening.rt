@@ -5,7 +5,6 @@ ghost use Rattle.sm_term.specs.Tables.{trees_in, sorts_in};
 ghost use Rattle.sm_term.specs.TableLaws.{ExtendsTable};
 ghost use Rattle.sm_term.specs.Assertions.{Assertion};
 ghost use Rattle.sm_plan.specs.Nodes as plan;
-ghost use Rattle.sm_plan.specs.Openings.{IsOpening};
 ghost use Rattle.sm_plan.specs.Views.{state_in, node_in, opened_in, stores_in};
 ghost use Rattle.sm_plan.specs.ReadyStates.{IsStateReady, IsNodeReady, AreSuccessorsReady};
 ghost use Rattle.sm_plan.specs.ReadyStates.{AreFormsReady, AreStoresReady};
@@ -100,10 +99,20 @@ fn open_node<'a>(
 ) -> Result<Option<Opened<'a>>, AllocError>
     requires state { IsStateReady (sorts_in table.old) (trees_in table.old) state }
     requires node { IsNodeReady (sorts_in table.old) (trees_in table.old) node.now }
-    ensures opening { let sorts = sorts_in table.old in let trees = trees_in table.old in
-        IfOk result (IsOpening table.old table.new state.entry (λ facts.
-        plan.opened_by number (state_in sorts trees facts state.entry)
-        (node_in sorts trees node.now))) }
+    ensures opened { let sorts = sorts_in table.old in let trees = trees_in table.old in
+        (facts : List Assertion) → IfOk result (λ o.
+        option_map (opened_in (sorts_in table.new) (trees_in table.new) facts) o
+        ≡ plan.opened_by number (state_in sorts trees facts state.entry)
+        (node_in sorts trees node.now)) }
+    ensures stores { IfOk result (λ o. IfSome o (λ p. (p.goals.list.items ≡ [])
+        ⊎ (stores_in (trees_in table.new) p.stores
+        ≡ stores_in (trees_in table.old) state.entry.stores))) }
+    ensures ready { IfOk result (λ o. IfSome o (λ p.
+        AreSuccessorsReady (sorts_in table.new) (trees_in table.new) p.states.items)) }
+    ensures goals { IfOk result (λ o. IfSome o (λ p.
+        AreFormsReady (sorts_in table.new) (trees_in table.new) p.goals.list.items)) }
+    ensures asking { IfOk result (λ o. IfSome o (λ p.
+        AreStoresReady (sorts_in table.new) (trees_in table.new) p.stores)) }
     ensures widens { ExtendsTable table.old table.new }
 {
     match node {
