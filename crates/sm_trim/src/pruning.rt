@@ -36,6 +36,21 @@ fn split_tree(
     Ok(LeftTree { lines, last })
 }
 
+// A copy of a line that splits the branch after so many facts, before what is left of its parts.
+fn split_by(
+    alloc: Global,
+    line: &CertLine,
+    at: u64,
+    first: LeftTree,
+    second: LeftTree,
+) -> Result<LeftTree, AllocError>
+    ensures { (trees : List Tree) → IfOk result (λ t. pruned_in trees t ≡
+        LeftSplit at (line_in trees line.now) (pruned_in trees first) (pruned_in trees second)) }
+{
+    let line = copy_line(alloc, line)?;
+    split_tree(alloc, LeftLine { before: at, line }, first, second)
+}
+
 // A line that closes the branch is left.
 fn leaf(alloc: Global, line: &CertLine, at: u64) -> Result<Needing, AllocError>
     ensures { (trees : List Tree) →
@@ -74,9 +89,7 @@ fn split(
     }
     let mut marks = join(one.marks, two.marks)?;
     mark_line(&mut marks, line)?;
-    let line = copy_line(alloc, line)?;
-    let left = LeftLine { before: at, line };
-    let tree = split_tree(alloc, left, one.tree, two.tree)?;
+    let tree = split_by(alloc, line, at, one.tree, two.tree)?;
     Ok(Needing { tree, marks })
 }
 

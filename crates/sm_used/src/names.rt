@@ -12,11 +12,17 @@ use sm_theory::CertLine;
 use std::alloc::{AllocError, Global};
 
 // Numbers of facts that lines name.
-#[derive(Drop)]
 pub(crate) struct Names {
     // Each number is named, since one of the lines is a line `exact`.
     pub(crate) all: bool,
     pub(crate) facts: IndexSet<u64>,
+}
+
+// One call ends a value, and not one for each field: proofs of what has it stay small.
+impl Drop for Names {
+    fn drop(self) {
+        let Self { all: _, facts: _ } = self;
+    }
 }
 
 /// No number.
@@ -68,28 +74,25 @@ fn add_cert(names: &mut Names, line: &CertLine) -> Result<(), AllocError>
         || list_any (nat_eq n) (facts_of (numbered_line line.now))) names.old names.new) }
 {
     match line {
-        CertLine::Both(n) => add_each(names, &[*n]),
-        CertLine::Either(n) => add_each(names, &[*n]),
-        CertLine::Cases(_, _) => add_each(names, &[]),
-        CertLine::Order(n) => add_each(names, &[*n]),
-        CertLine::Refl(_) => add_each(names, &[]),
-        CertLine::Sym(n) => add_each(names, &[*n]),
-        CertLine::Trans(m, n) => add_each(names, &[*m, *n]),
-        CertLine::Subst(m, n) => add_each(names, &[*m, *n]),
+        CertLine::Both(n)
+        | CertLine::Either(n)
+        | CertLine::Order(n)
+        | CertLine::Sym(n)
+        | CertLine::Hit(_, n)
+        | CertLine::Miss(_, _, n)
+        | CertLine::Lin(n)
+        | CertLine::Tight(n)
+        | CertLine::Close(n) => add_each(names, &[*n]),
+        CertLine::Trans(m, n)
+        | CertLine::Subst(m, n)
+        | CertLine::Elim(m, n, _)
+        | CertLine::Clash(m, n) => add_each(names, &[*m, *n]),
         CertLine::Cong(_, _, ns) => add_each(names, &ns.list),
-        CertLine::Same(_, _) => add_each(names, &[]),
-        CertLine::Apart(_, _) => add_each(names, &[]),
-        CertLine::Hit(_, n) => add_each(names, &[*n]),
-        CertLine::Miss(_, _, n) => add_each(names, &[*n]),
-        CertLine::Lin(n) => add_each(names, &[*n]),
-        CertLine::Elim(m, n, _) => add_each(names, &[*m, *n]),
-        CertLine::Tight(n) => add_each(names, &[*n]),
         CertLine::Exact(_) => {
             add_all(names);
             Ok(())
         }
-        CertLine::Close(n) => add_each(names, &[*n]),
-        CertLine::Clash(m, n) => add_each(names, &[*m, *n]),
+        _ => add_each(names, &[]),
     }
 }
 

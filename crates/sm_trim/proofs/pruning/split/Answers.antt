@@ -1,5 +1,4 @@
 use Rattle.std.proofs.Common.{◌∙◌, sym, ap}
-use Rattle.sm_theory.specs.Lines.{CertificateLine}
 use Rattle.sm_theory.specs.Views.{line_in}
 use Rattle.sm_trim.specs.Pruned.{Pruned, LeftSplit, needs}
 use Rattle.sm_trim.specs.Views.{pruned_in}
@@ -27,8 +26,6 @@ returns c = λ trees p q first second.
     both_in_place trees c.args.at line p q _ c.in_ok-marks.marks (sym c.if-not-take_mark.false ∙ t.0)
     (sym c.if-not-take_mark-2.false ∙ u.0)
     (c.in_ok-tree.ensures trees
-    ∙ ap (λ (l : CertificateLine). LeftSplit c.args.at l (pruned_in trees c.args.first.tree) (pruned_in trees c.args.second.tree))
-    (c.in_ok-line.ensures trees)
     ∙ ap (λ (one : Pruned). LeftSplit c.args.at line one (pruned_in trees c.args.second.tree)) first.tree
     ∙ ap (LeftSplit c.args.at line p) second.tree)
     (c.in_ok-marks.ensures c.args.at (needs p) (needs q) t.1 u.1) (c.in_ok-mark_line.ensures trees)
