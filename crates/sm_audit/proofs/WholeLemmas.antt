@@ -1,5 +1,6 @@
 -- What was found of a plan and its certificates makes it writable.
-use Rattle.std.proofs.Common.{◌≡◌, ℕ, Option, Ok, List, map, subst}
+use Rattle.std.proofs.Common.{◌≡◌, ℕ, Option, Result, Ok, Err, List, map, subst}
+use Rattle.std.specs.Result.{OnOk}
 use Rattle.sm_syntax.specs.text.Parts.{Parts, sort_of, task_of}
 use Rattle.sm_syntax.specs.text.Sorts.{Sorts}
 use Rattle.sm_term.specs.Terms.{Tree}
@@ -18,6 +19,20 @@ use Rattle.sm_audit.specs.Since.{AreSince}
 use Rattle.sm_audit.proofs.FitLemmas.{goals_shown, goals_short}
 use Rattle.sm_audit.proofs.KnownLemmas.{rows_named}
 
+-- what is so anyway, and what follows of what is found on success
+pub if_any : {T E P : Type 0} (r : Result T E) → P → OnOk r P
+if_any (Ok t) p = p
+if_any (Err e) p = tt
+
+pub if_found : {T E P Q : Type 0} (r : Result T E) → (P → Q) → OnOk r P → OnOk r Q
+if_found (Ok t) f p = f p
+if_found (Err e) f p = tt
+
+pub if_both_found : {T E P Q R : Type 0} (r : Result T E) → (P → Q → R) → OnOk r P → OnOk r Q → OnOk r R
+if_both_found (Ok t) f p q = f p q
+if_both_found (Err e) f p q = tt
+
+-- the plan can be written with the certificates
 pub found_writable : (t : Parts) (sorts : Sorts) (trees : List Tree) (p : Plan) (rows : List NodeRow) (since : List (Option ℕ))
     (dues : List Due) (certs : List CertTree) → sorts ≡ sort_of t.declared → obligations (task_of t) p ≡ Ok dues →
     map (node_in sorts trees) rows ≡ nodes_of p →

@@ -37,18 +37,15 @@ fn is_line_known(since: &[Option<u64>], node: u64, line: &CertLine) -> bool
     ensures { OnTrue result (IsLineKnown since.now node line.now) }
 {
     match line {
-        CertLine::Refl(t) => is_known(since, node, *t),
-        CertLine::Hit(t, _) => is_known(since, node, *t),
-        CertLine::Elim(_, _, t) => is_known(since, node, *t),
-        CertLine::Cases(t, u) => are_known(since, node, *t, *u),
-        CertLine::Cong(t, u, _) => are_known(since, node, *t, *u),
-        CertLine::Same(t, u) => are_known(since, node, *t, *u),
-        CertLine::Apart(t, u) => are_known(since, node, *t, *u),
-        CertLine::Miss(t, u, _) => are_known(since, node, *t, *u),
-        CertLine::Both(_) | CertLine::Either(_) | CertLine::Order(_) => true,
-        CertLine::Sym(_) | CertLine::Trans(_, _) | CertLine::Subst(_, _) => true,
-        CertLine::Lin(_) | CertLine::Tight(_) | CertLine::Exact(_) => true,
-        CertLine::Close(_) | CertLine::Clash(_, _) => true,
+        CertLine::Refl(t) | CertLine::Hit(t, _) | CertLine::Elim(_, _, t) => {
+            is_known(since, node, *t)
+        }
+        CertLine::Cases(t, u)
+        | CertLine::Cong(t, u, _)
+        | CertLine::Same(t, u)
+        | CertLine::Apart(t, u)
+        | CertLine::Miss(t, u, _) => are_known(since, node, *t, *u),
+        _ => true,
     }
 }
 

@@ -52,24 +52,20 @@ pub(crate) fn is_short_line(line: &CertLine) -> bool
     ensures { (trees : List Tree) → result ≡ true → IsShortLine (line_in trees line.now) }
 {
     match line {
-        CertLine::Both(n) => is_one(*n),
-        CertLine::Either(n) => is_one(*n),
-        CertLine::Cases(_, _) => true,
-        CertLine::Order(n) => is_one(*n),
-        CertLine::Refl(_) => true,
-        CertLine::Sym(n) => is_one(*n),
-        CertLine::Trans(m, n) => are_two(*m, *n),
-        CertLine::Subst(m, n) => are_two(*m, *n),
+        CertLine::Both(n)
+        | CertLine::Either(n)
+        | CertLine::Order(n)
+        | CertLine::Sym(n)
+        | CertLine::Hit(_, n)
+        | CertLine::Miss(_, _, n)
+        | CertLine::Lin(n)
+        | CertLine::Tight(n)
+        | CertLine::Close(n) => is_one(*n),
+        CertLine::Trans(m, n)
+        | CertLine::Subst(m, n)
+        | CertLine::Elim(m, n, _)
+        | CertLine::Clash(m, n) => are_two(*m, *n),
         CertLine::Cong(_, _, facts) => are_few(&facts.list),
-        CertLine::Same(_, _) => true,
-        CertLine::Apart(_, _) => true,
-        CertLine::Hit(_, n) => is_one(*n),
-        CertLine::Miss(_, _, n) => is_one(*n),
-        CertLine::Lin(n) => is_one(*n),
-        CertLine::Elim(m, n, _) => are_two(*m, *n),
-        CertLine::Tight(n) => is_one(*n),
-        CertLine::Exact(_) => true,
-        CertLine::Close(n) => is_one(*n),
-        CertLine::Clash(m, n) => are_two(*m, *n),
+        _ => true,
     }
 }
