@@ -94,16 +94,15 @@ block_made u w t site fs gs names literals code of numbered written l none added
     ∙ templates_are t site names literals code of written l
     ∙ sym (block_once t code (subst AreNumbered of.declared numbered))
 
--- those of names, and inequalities behind them
-pub loop_added : (u v w : TableValue) (fs gs hs : List Formula) (keys : List (ℕ × ℕ)) (named guards : List Assertion) → AddsTerms v w →
-    AddsForms u v fs gs named → AddsBounds v w [] keys guards →
+-- inequalities of guards are put behind formulas
+pub guards_put : (v w : TableValue) (gs hs : List Formula) (keys : List (ℕ × ℕ)) (guards : List Assertion) → AddsTerms v w →
+    AddsBounds v w [] keys guards →
     ((x : TableValue) → AreBoundsReady (sorts_in x) (trees_in x) keys → AddsForms x x gs hs (bounds_in (trees_in x) keys)) →
-    AddsForms u w fs hs (named ++ distinct same_formula guards)
-loop_added u v w fs gs hs keys named guards grows first bounds put =
+    AddsForms v w gs hs (distinct same_formula guards)
+guards_put v w gs hs keys guards grows bounds put =
     let made = bounds tt in
     let found = bounds_in (trees_in w) keys in
-    let later = added_then v w w gs gs hs [] found (added_grown v w grows gs) (put w made.0) in
-    subst (λ (l : List Assertion). AddsForms u w fs hs (named ++ l)) made.1 (added_then u v w fs gs hs named found first later)
+    subst (AddsForms v w gs hs) made.1 (added_then v w w gs gs hs [] found (added_grown v w grows gs) (put w made.0))
 
 -- the templates of loops
 pub loop_made : (u w : TableValue) (t : Parts) (site : SiteContext) (set : Copies) (fs hs : List Formula) (names : List (ℕ × Sort))

@@ -200,6 +200,38 @@ fn put_loop(
     put_guard(table, bounds, guard, &places, copy)
 }
 
+// Puts what the guards of the loops that the code of a set's copies begins with suggest into a set
+// of inequalities that has none.
+fn put_loops(
+    alloc: Global,
+    table: &mut TermTable,
+    bounds: &mut Bounds,
+    decls: &Decls,
+    set: u8,
+    code: &PerCopy<Continuation<'_>>,
+) -> Result<(), AllocError>
+    requires empty { bounds.old.keys ≡ [] }
+    requires declared { sorts_in table.old ≡ sort_of (declared_of decls.now) }
+    requires numbered { AreNumbered (declared_of decls.now) }
+    requires sorted { (c : Copy) →
+        IsWellSorted (sorts_in table.old) (rest_code (of_copy code.now c)) }
+    ensures added { let code_at = λ (c : Copy). rest_code (of_copy code.now c) in
+        let guards = λ (c : Copy). guard_templates (loop_guard (code_at c)) c in
+        let more = flat_map guards (members (set_of set)) in
+        OnOk result (AddsBounds table.old table.new [] bounds.new.keys more) }
+    ensures grows { AddsTerms table.old table.new }
+{
+    let o = CopyName::O;
+    put_loop(alloc, table, bounds, decls, set, o, &code.base)?;
+    let a = CopyName::A;
+    put_loop(alloc, table, bounds, decls, set, a, &code.variant_a)?;
+    let b = CopyName::B;
+    put_loop(alloc, table, bounds, decls, set, b, &code.variant_b)?;
+    let m = CopyName::M;
+    put_loop(alloc, table, bounds, decls, set, m, &code.candidate)?;
+    Ok(())
+}
+
 // What the guards of the loops that the code of a set's copies begins with suggest.
 pub(crate) fn bounds_of(
     alloc: Global,
@@ -219,42 +251,7 @@ pub(crate) fn bounds_of(
     ensures grows { AddsTerms table.old table.new }
 {
     let mut bounds = IndexSet::new(alloc);
-    put_loop(
-        alloc,
-        table,
-        &mut bounds,
-        decls,
-        set,
-        CopyName::O,
-        &code.base,
-    )?;
-    put_loop(
-        alloc,
-        table,
-        &mut bounds,
-        decls,
-        set,
-        CopyName::A,
-        &code.variant_a,
-    )?;
-    put_loop(
-        alloc,
-        table,
-        &mut bounds,
-        decls,
-        set,
-        CopyName::B,
-        &code.variant_b,
-    )?;
-    put_loop(
-        alloc,
-        table,
-        &mut bounds,
-        decls,
-        set,
-        CopyName::M,
-        &code.candidate,
-    )?;
+    put_loops(alloc, table, &mut bounds, decls, set, code)?;
     Ok(bounds)
 }
 

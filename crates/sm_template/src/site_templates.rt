@@ -1,7 +1,7 @@
 // The templates of sites.
 ghost use Rattle.std.specs.Prelude.{◌≡◌, map, flat_map, IfOk, OnOk, OnErr};
 ghost use Rattle.sm_syntax.specs.claim.ConflictFree.{Copy};
-ghost use Rattle.sm_syntax.specs.text.Parts.{Parts};
+ghost use Rattle.sm_syntax.specs.text.Parts.{Parts, sort_of};
 ghost use Rattle.sm_syntax.specs.text.Sorts.{IsAsDeclared, IsWellSorted};
 ghost use Rattle.sm_syntax.specs.trees.Copies.{of_copy};
 ghost use Rattle.sm_syntax.specs.trees.Programs.{declared_of};
@@ -10,9 +10,15 @@ ghost use Rattle.sm_term.specs.TableLaws.{AddsTerms, ExtendsTable};
 ghost use Rattle.sm_plan.specs.Masks.{set_of};
 ghost use Rattle.sm_plan.specs.ReadyStates.{AreFormsReady};
 ghost use Rattle.sm_plan.specs.SortedStates.{AreOutputsDeclared};
+ghost use Rattle.sm_plan.specs.Starts.{AreNumbered};
+ghost use Rattle.sm_plan.specs.Statements.{loop_guard};
 ghost use Rattle.sm_plan.specs.Views.{rest_code, forms_in};
+ghost use Rattle.sm_moves.specs.CopySets.{members};
 ghost use Rattle.sm_template.specs.AddedForms.{AddsForms};
+ghost use Rattle.sm_template.specs.Distinct.{distinct};
+ghost use Rattle.sm_template.specs.Guards.{guard_templates};
 ghost use Rattle.sm_template.specs.NameShapes.{shape_form, AreShapesFit};
+ghost use Rattle.sm_template.specs.SameFormulas.{same_formula};
 ghost use Rattle.sm_template.specs.Sites.{IsSiteOf, IsSiteReady};
 ghost use Rattle.sm_template.specs.Templates.{name_templates};
 ghost use Rattle.sm_template.specs.Templates as plain;
@@ -21,7 +27,7 @@ use crate::guards::{bounds_of, put_bounds};
 use crate::shapes::{Shape, shapes_of};
 use crate::site::SiteContext;
 use crate::terms::shaped;
-use crate::written::{bodies_write, names_written, writes_of};
+use crate::written::{loop_names, names_written, writes_of};
 use sm_plan::{Continuation, Formulas};
 use sm_syntax::{Decls, Name, PerCopy, Sort};
 use sm_term::{Formula, TermTable};
@@ -187,11 +193,32 @@ fn templates_of_loops(
         AreFormsReady (sorts_in table.new) (trees_in table.new) fs.list.items) }
     ensures widens { ExtendsTable table.old table.new }
 {
-    let written = bodies_write(alloc, set, code)?;
-    let names = names_written(alloc, site.decls, &written)?;
+    let names = loop_names(alloc, site.decls, set, code)?;
     let mut list = Vec::new(alloc);
     put_names(alloc, table, &mut list, &site.literals, &names)?;
-    let bounds = bounds_of(alloc, table, site.decls, set, code)?;
-    put_bounds(&mut list, bounds.as_slice())?;
+    put_guards(alloc, table, &mut list, site.decls, set, code)?;
     Ok(Formulas { list })
+}
+
+// Puts what the guards of loops suggest behind other templates.
+fn put_guards(
+    alloc: Global,
+    table: &mut TermTable,
+    list: &mut Vec<Formula>,
+    decls: &Decls,
+    set: u8,
+    code: &PerCopy<Continuation<'_>>,
+) -> Result<(), AllocError>
+    requires declared { sorts_in table.old ≡ sort_of (declared_of decls.now) }
+    requires numbered { AreNumbered (declared_of decls.now) }
+    requires sorted { (c : Copy) →
+        IsWellSorted (sorts_in table.old) (rest_code (of_copy code.now c)) }
+    ensures added { let code_at = λ (c : Copy). rest_code (of_copy code.now c) in
+        let guards = λ (c : Copy). guard_templates (loop_guard (code_at c)) c in
+        let more = distinct same_formula (flat_map guards (members (set_of set))) in
+        OnOk result (AddsForms table.old table.new list.old.items list.new.items more) }
+    ensures grows { AddsTerms table.old table.new }
+{
+    let bounds = bounds_of(alloc, table, decls, set, code)?;
+    put_bounds(list, bounds.as_slice())
 }

@@ -133,3 +133,17 @@ pub fn names_written(
     let set = union(alloc, written)?;
     declared_in(alloc, decls, &set)
 }
+
+// The declared names that some copy's loop writes in its body, in order of declaration.
+pub(crate) fn loop_names(
+    alloc: Global,
+    decls: &Decls,
+    set: u8,
+    code: &PerCopy<Continuation<'_>>,
+) -> Result<Decls, AllocError>
+    ensures { let bodies = only_in (set_of set) (λ c. loop_body (rest_code (of_copy code.now c))) in
+        IfOk result (λ d. declared_of d ≡ plain.names_written (declared_of decls.now) bodies) }
+{
+    let written = bodies_write(alloc, set, code)?;
+    names_written(alloc, decls, &written)
+}

@@ -11,6 +11,7 @@ use Rattle.sm_term.specs.Terms.{Tree, Lit, Slot, Add}
 use Rattle.sm_term.specs.Sorted.{sort_named}
 use Rattle.sm_term.specs.Tables.{trees_in, sorts_in, tree_at}
 use Rattle.sm_term.proofs.ExpressionLemmas.{stays_got, tree_got, sort_got}
+use Rattle.sm_term.proofs.TablesLemmas.{grows-twice}
 use Rattle.sm_plan.proofs.SortedTerms.{sort_is}
 use Rattle.sm_template.proofs.terms.above.Goals as goal
 
@@ -26,6 +27,17 @@ made-requires-2-clause-fits c =
     ∙ sort_is (sorts_in v) x Num c.requires in
     and_from _ _ (sort_got (sorts_in w) (trees_in w) c.in_ok-t.t _ Num slot sort)
     (sort_got (sorts_in w) (trees_in w) c.in_ok-u.u _ Num c.in_ok-u.ensures.stored refl)
+
+pub returns-in_err-u-clause-grows : goal.returns-in_err-u-clause-grows
+returns-in_err-u-clause-grows c =
+    grows-twice c.args.table.now c.slot.new.table c.made.new.table c.slot.ensures.grows c.made.ensures.grows
+
+pub returns-clause-grows : goal.returns-clause-grows
+returns-clause-grows c =
+    let u = c.args.table.now in
+    let v = c.made.new.table in
+    let first = grows-twice u c.slot.new.table v c.slot.ensures.grows c.made.ensures.grows in
+    grows-twice u v c.made-2.new.table first c.made-2.ensures.grows
 
 pub returns-clause-made : goal.returns-clause-made
 returns-clause-made c =

@@ -8,6 +8,7 @@ use Rattle.sm_term.specs.Formulas as over
 use Rattle.sm_term.specs.Formulas.{numbered}
 use Rattle.sm_term.specs.Tables.{sorts_in}
 use Rattle.sm_term.proofs.ExpressionLemmas.{stays_got}
+use Rattle.sm_term.proofs.TablesLemmas.{grows-twice}
 use Rattle.sm_plan.specs.States.{place}
 use Rattle.sm_template.specs.AddedForms.{IsFormMade}
 use Rattle.sm_template.specs.NameShapes.{adds_nothing}
@@ -20,6 +21,31 @@ places-requires-2 c = record { declared = ap (λ (f : Sorts). f c.args.x.0) c.pl
 pub places-requires-3 : goal.places-requires-3
 places-requires-3 c =
     record { declared = ap (λ (f : Sorts). f c.args.x.0) (c.places-2.ensures.grows.sorts ∙ c.places.ensures.grows.sorts) ∙ c.requires.declared }
+
+pub returns-in_err-a-clause-grows : goal.returns-in_err-a-clause-grows
+returns-in_err-a-clause-grows c =
+    grows-twice c.args.table.now c.places.new.table c.places-2.new.table c.places.ensures.grows c.places-2.ensures.grows
+
+pub returns-in_err-m-clause-grows : goal.returns-in_err-m-clause-grows
+returns-in_err-m-clause-grows c =
+    let u = c.args.table.now in
+    let v = c.places-2.new.table in
+    let first = grows-twice u c.places.new.table v c.places.ensures.grows c.places-2.ensures.grows in
+    grows-twice u v c.places-3.new.table first c.places-3.ensures.grows
+
+pub returns-in_err-last-clause-grows : goal.returns-in_err-last-clause-grows
+returns-in_err-last-clause-grows c =
+    let u = c.args.table.now in
+    let v = c.places-2.new.table in
+    let first = grows-twice u c.places.new.table v c.places.ensures.grows c.places-2.ensures.grows in
+    grows-twice u v c.places-3.new.table first c.places-3.ensures.grows
+
+pub returns-clause-grows : goal.returns-clause-grows
+returns-clause-grows c =
+    let u = c.args.table.now in
+    let v = c.places-2.new.table in
+    let first = grows-twice u c.places.new.table v c.places.ensures.grows c.places-2.ensures.grows in
+    grows-twice u v c.places-3.new.table first c.places-3.ensures.grows
 
 pub returns-clause-made : goal.returns-clause-made
 returns-clause-made c =

@@ -8,6 +8,7 @@ use Rattle.sm_term.specs.Terms.{Tree, Cell, Read}
 use Rattle.sm_term.specs.Sorted.{tree_sort}
 use Rattle.sm_term.specs.Tables.{trees_in, sorts_in, tree_at}
 use Rattle.sm_term.proofs.ExpressionLemmas.{stays_got, tree_got, sort_got}
+use Rattle.sm_term.proofs.TablesLemmas.{grows-twice}
 use Rattle.sm_template.specs.NameShapes.{side_tree}
 use Rattle.sm_template.proofs.NameShapesLemmas.{side_sorted}
 use Rattle.sm_template.proofs.terms.cell.Goals as goal
@@ -24,6 +25,17 @@ made-requires-2-clause-fits c =
     ∙ (side_sorted (sorts_in v) c.args.x.0 Arr c.requires.declared c.args.s c.requires.fits).1 in
     and_from _ _ (sort_got (sorts_in w) (trees_in w) c.in_ok-t.t _ Arr array sort)
     (sort_got (sorts_in w) (trees_in w) c.in_ok-i.i _ Num c.in_ok-i.ensures.stored refl)
+
+pub returns-in_err-i-clause-grows : goal.returns-in_err-i-clause-grows
+returns-in_err-i-clause-grows c =
+    grows-twice c.args.table.now c.side.new.table c.made.new.table c.side.ensures.grows c.made.ensures.grows
+
+pub returns-clause-grows : goal.returns-clause-grows
+returns-clause-grows c =
+    let u = c.args.table.now in
+    let v = c.made.new.table in
+    let first = grows-twice u c.side.new.table v c.side.ensures.grows c.made.ensures.grows in
+    grows-twice u v c.made-2.new.table first c.made-2.ensures.grows
 
 pub returns-clause-made : goal.returns-clause-made
 returns-clause-made c =

@@ -10,7 +10,7 @@ use Rattle.sm_plan.specs.Statements.{loop_guard}
 use Rattle.sm_plan.specs.Views.{rest_code}
 use Rattle.sm_template.specs.Guards.{guard_templates}
 use Rattle.sm_template.proofs.GuardsLemmas.{four_bounds}
-use Rattle.sm_template.proofs.guards.bounds_of.Goals as goal
+use Rattle.sm_template.proofs.guards.put_loops.Goals as goal
 
 pub put_loop-requires-clause-sorted : goal.put_loop-requires-clause-sorted
 put_loop-requires-clause-sorted c = c.requires.sorted O
@@ -29,6 +29,17 @@ put_loop-requires-4-clause-sorted c =
     subst (λ (f : Sorts). IsWellSorted f (rest_code c.args.code.now.candidate))
     (sym (c.put_loop-3.ensures.grows.sorts ∙ c.put_loop-2.ensures.grows.sorts ∙ c.put_loop.ensures.grows.sorts)) (c.requires.sorted M)
 
+pub returns-in_err-put_loop-2-clause-grows : goal.returns-in_err-put_loop-2-clause-grows
+returns-in_err-put_loop-2-clause-grows c =
+    grows-twice c.args.table.now c.put_loop.new.table c.put_loop-2.new.table c.put_loop.ensures.grows c.put_loop-2.ensures.grows
+
+pub returns-in_err-put_loop-3-clause-grows : goal.returns-in_err-put_loop-3-clause-grows
+returns-in_err-put_loop-3-clause-grows c =
+    let v0 = c.args.table.now in
+    let v2 = c.put_loop-2.new.table in
+    grows-twice v0 v2 c.put_loop-3.new.table
+    (grows-twice v0 c.put_loop.new.table v2 c.put_loop.ensures.grows c.put_loop-2.ensures.grows) c.put_loop-3.ensures.grows
+
 pub returns-in_err-put_loop-4-clause-grows : goal.returns-in_err-put_loop-4-clause-grows
 returns-in_err-put_loop-4-clause-grows c =
     let v0 = c.args.table.now in
@@ -43,8 +54,8 @@ pub returns-clause-added : goal.returns-clause-added
 returns-clause-added c =
     let guards : Copy → List Assertion = λ (d : Copy). guard_templates (loop_guard (rest_code (of_copy c.args.code.now d))) d in
     four_bounds (set_of c.args.set) guards c.args.table.now c.put_loop.new.table c.put_loop-2.new.table c.put_loop-3.new.table
-    c.put_loop-4.new.table c.new-bounds.result.keys c.put_loop.new.bounds.keys c.put_loop-2.new.bounds.keys c.put_loop-3.new.bounds.keys
-    c.put_loop-4.new.bounds.keys c.new-bounds.ensures.empty c.in_ok-put_loop.ensures.added c.in_ok-put_loop-2.ensures.added
+    c.put_loop-4.new.table c.args.bounds.now.keys c.put_loop.new.bounds.keys c.put_loop-2.new.bounds.keys c.put_loop-3.new.bounds.keys
+    c.put_loop-4.new.bounds.keys c.requires.empty c.in_ok-put_loop.ensures.added c.in_ok-put_loop-2.ensures.added
     c.in_ok-put_loop-3.ensures.added c.in_ok-put_loop-4.ensures.added
 
 pub returns-clause-grows : goal.returns-clause-grows
