@@ -220,5 +220,6 @@ fn put_guards(
     ensures grows { AddsTerms table.old table.new }
 {
     let bounds = bounds_of(alloc, table, decls, set, code)?;
-    put_bounds(list, bounds.as_slice())
+    put_bounds(list, bounds.as_slice())?;
+    Ok(())
 }

@@ -1,7 +1,6 @@
 -- The inequalities stand behind the templates.
 use Rattle.std.proofs.Common.{ℕ, List, subst}
 use Rattle.std.specs.List.{flat_map}
-use Rattle.sm_deps.proofs.MembersLemmas.{on_ok}
 use Rattle.sm_syntax.specs.claim.ConflictFree.{Copy}
 use Rattle.sm_syntax.specs.trees.Copies.{of_copy}
 use Rattle.sm_term.specs.Tables.{TableValue, trees_in, sorts_in}
@@ -25,6 +24,5 @@ returns-clause-added c =
     let guards = flat_map (λ (d : Copy). guard_templates (loop_guard (rest_code (of_copy c.args.code.now d))) d) (members (set_of c.args.set)) in
     let put = λ (l : List (ℕ × ℕ)). (x : TableValue) → AreBoundsReady (sorts_in x) (trees_in x) l →
     AddsForms x x gs hs (bounds_in (trees_in x) l) in
-    on_ok c.put_bounds.result c.put_bounds.ensures
-    (λ (h : put c.as_slice.result.now).
-    guards_put v w gs hs keys guards c.bounds_of.ensures.grows c.in_ok-bounds.ensures.added (subst put c.as_slice.ensures.keys h))
+    guards_put v w gs hs keys guards c.bounds_of.ensures.grows c.in_ok-bounds.ensures.added
+    (subst put c.as_slice.ensures.keys c.in_ok-put_bounds.ensures)
