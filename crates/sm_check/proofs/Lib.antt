@@ -1,6 +1,8 @@
 pub mod TellsLemmas
 pub mod FormRowsLemmas
 pub mod TermsLemmas
+pub mod NamesLemmas
+pub mod NewTermLemmas
 pub mod PendingLemmas
 pub mod CertsLemmas
 pub mod WalkWidens

@@ -1,5 +1,5 @@
 -- Terms that lines make.
-use Rattle.std.proofs.Common.{◌≡◌, ℕ, true, drop, Option, Some, None, Result, Ok, Err, slice_get, get_or, List, [], ◌∷◌, zero, suc, length, ◌<◌, ◌≤◌, arith, refl, sym, ap, ◌∙◌, subst}
+use Rattle.std.proofs.Common.{◌≡◌, ℕ, Option, Some, None, Result, Ok, Err, slice_get, get_or, List, [], ◌∷◌, zero, suc, length, ◌<◌, ◌≤◌, arith, refl, sym, ap, ◌∙◌, subst}
 use Rattle.sm_term.specs.declared.term.TermId.{TermId}
 use Rattle.sm_term.specs.Terms.{Tree}
 use Rattle.sm_term.specs.Terms.{Start}
@@ -10,11 +10,6 @@ use Rattle.sm_term.proofs.TermsLemmas.{part_before}
 use Rattle.sm_proof.specs.declared.word.Word.{Word}
 use Rattle.sm_proof.specs.declared.word.Word.TheVariants.{BadNumber}
 use Rattle.sm_proof.specs.Passing.{with_tree}
-use Rattle.sm_proof.specs.Named.{naming_term, are_there}
-use Rattle.sm_theory.specs.Lines.{CertificateLine, followed}
-use Rattle.sm_check.specs.declared.fault.LineFault.{LineFault}
-use Rattle.sm_check.specs.declared.fault.LineFault.TheVariants.{Wrong}
-use Rattle.sm_check.specs.LineKinds.{Misses}
 use Rattle.sm_check.specs.Walks.{terms_in}
 use Rattle.sm_check.specs.TermsMade.{IsTerm}
 use Rattle.sm_check.proofs.FormRowsLemmas.{named_there, named_missing, found_there, found_missing}
@@ -41,7 +36,7 @@ got (u ∷ us) zero t h e = ap (λ (v : TermId). Some v) (sym (e t))
 got (u ∷ us) (suc n) t h e = let less : n < length us = omega arith in got us n t less e
 
 -- an element past the end isn't there
-not_got : (ts : List TermId) (n : ℕ) → length ts ≤ n → slice_get ts n ≡ None
+pub not_got : (ts : List TermId) (n : ℕ) → length ts ≤ n → slice_get ts n ≡ None
 not_got [] n h = refl
 not_got (u ∷ us) zero h = absurd (omega arith)
 not_got (u ∷ us) (suc n) h = let less : length us ≤ n = omega arith in not_got us n less
@@ -63,26 +58,3 @@ module _ (s : SymStore) (x : ℕ) where
       ◌≡◌ {A = Result Tree Word} (Ok (store_in trees s x)) (Ok (Start x))
   unlisted_term trees list is less =
       ap (λ (o : Option TermId). Ok (tree_or_start trees x o)) (ap (λ (l : List TermId). slice_get l x) (sym is) ∙ not_got list x less)
-
--- a term that a line of a certificate names
-pub naming_there : (trees : List Tree) (terms : List TermId) (n : ℕ) (t : TermId) (next : Tree → Option CertificateLine) →
-    slice_get terms n ≡ Some t →
-    naming_term (terms_in trees terms) n next ≡ next (tree_at trees t.0)
-naming_there trees terms n t next e = ap (λ (o : Option Tree). followed o next) (named_there trees terms n t e)
-
-pub naming_missing : (trees : List Tree) (terms : List TermId) (n : ℕ) (next : Tree → Option CertificateLine) → slice_get terms n ≡ None →
-    naming_term (terms_in trees terms) n next ≡ None
-naming_missing trees terms n next e = ap (λ (o : Option Tree). followed o next) (named_missing trees terms n e)
-
-pub there_all : (count : ℕ) (fs : List ℕ) (i : ℕ) → length fs ≤ i → are_there count fs ≡ are_there count (drop i fs) → are_there count fs ≡ true
-there_all count fs i h so = so ∙ over fs i h
-  where
-    over : (fs : List ℕ) (i : ℕ) → length fs ≤ i → are_there count (drop i fs) ≡ true
-    over [] zero h = refl
-    over [] (suc i) h = refl
-    over (m ∷ ms) zero h = absurd (omega arith)
-    over (m ∷ ms) (suc i) h = let less : length ms ≤ i = omega arith in over ms i less
-
--- something that is named isn't there
-pub misses : {T : Type 0} (e : LineFault) (o : Option T) → e ≡ Wrong BadNumber → o ≡ None → Misses e o
-misses e o is none = subst (λ (x : LineFault). Misses x o) (sym is) (refl, none)

@@ -7,6 +7,7 @@ ghost use Rattle.sm_text.specs.Tasks.{parts_of};
 ghost use Rattle.sm_check.specs.Checkable.{IsCheckable};
 ghost use Rattle.sm_check.specs.Checkers.{IsAt};
 ghost use Rattle.sm_check.specs.Files.{verdict_of};
+ghost use Rattle.sm_check.specs.Pieces.{StandsAt};
 
 use crate::checker::Checker;
 use crate::ending::at_end;
@@ -37,8 +38,17 @@ fn check_whole(alloc: Global, checker: Checker, bytes: &[u8]) -> Result<Checked,
         IfOk result (λ c. verdict_of c ≡ verdict s bytes.now) }
 {
     let mut lines = TakenLines::new(checker);
+    check_lines(alloc, &mut lines, bytes)
+}
+
+// Whether bytes pass before which no line was taken.
+fn check_lines(alloc: Global, lines: &mut TakenLines, bytes: &[u8]) -> Result<Checked, AllocError>
+    requires { lines.old.number ≡ 1 }
+    ensures { (s : Subject) → StandsAt lines.old s Unopened →
+        IfOk result (λ c. verdict_of c ≡ verdict s bytes.now) }
+{
     match lines.check_all(alloc, bytes) {
-        Ok(()) => Ok(at_end(&lines, ends_whole(bytes))),
+        Ok(()) => Ok(at_end(lines, ends_whole(bytes))),
         Err(Stopped::Wrong { line, word }) => Ok(Checked::Rejected { line, word }),
         Err(Stopped::Memory) => Err(AllocError),
     }

@@ -1,23 +1,17 @@
 // Lines of certificates with the terms that they name.
-ghost use Rattle.std.specs.Prelude.{◌≡◌, ◌<◌, ℕ, Bool, true, false, length, List, Option, Some, None};
-ghost use Rattle.std.specs.Prelude.{slice_get, IfOk, IfErr, ◌∷◌, []};
-ghost use Rattle.sm_term.specs.Terms.{Tree};
-ghost use Rattle.sm_term.specs.Tables.{trees_in, tree_at, AreBefore};
-ghost use Rattle.sm_theory.specs.Lines.{CertificateLine, Cong, Miss};
+ghost use Rattle.std.specs.Prelude.{◌≡◌, length, Some, IfOk, IfErr};
+ghost use Rattle.sm_term.specs.Tables.{trees_in, AreBefore};
 ghost use Rattle.sm_theory.specs.Views.{line_in, IsLineWithin};
-ghost use Rattle.sm_proof.specs.declared.word.Word.TheVariants.{BadNumber};
 ghost use Rattle.sm_proof.specs.Lines.{numbered_line};
-ghost use Rattle.sm_proof.specs.Named.{are_there, naming_facts, naming_term, named_line, line_head};
-ghost use Rattle.sm_check.specs.declared.fault.LineFault.TheVariants.{Wrong};
-ghost use Rattle.sm_check.specs.LineKinds.{Misses, naming_two};
+ghost use Rattle.sm_proof.specs.Named.{are_there, named_line, line_head};
+ghost use Rattle.sm_check.specs.LineKinds.{Misses, has_terms, has_facts, with_terms, number_of};
 ghost use Rattle.sm_check.specs.Walks.{terms_in};
 
 use crate::fault::LineFault;
-use crate::forms::term_at;
 use sm_proof::{Head, Word};
 use sm_term::{TermId, TermTable};
 use sm_theory::{CertLine, FactNumbers};
-use std::alloc::Global;
+use std::alloc::{AllocError, Global};
 
 // A line over the terms of the table, at a branch of `count` facts, where its terms and facts are
 // there.
@@ -36,154 +30,55 @@ pub(crate) fn named_line(
     ensures missing { let trees = trees_in table.now in IfErr result (λ e.
         Misses e (named_line (terms_in trees terms.now) count (numbered_line line.now))) }
 {
+    if has_terms(terms.len() as u64, line) && has_facts(count, line) {
+        Ok(with_terms(alloc, terms, line)?)
+    } else {
+        Err(LineFault::Wrong {
+            word: Word::BadNumber,
+        })
+    }
+}
+
+// Whether the terms that a line names are there, where lines made so many.
+fn has_terms(made: u64, line: &CertLine) -> bool
+    ensures { result ≡ has_terms made (numbered_line line.now) }
+{
     match line {
-        CertLine::Both(n) => {
-            fact(count, *n)?;
-            Ok(CertLine::Both(*n))
-        }
-        CertLine::Either(n) => {
-            fact(count, *n)?;
-            Ok(CertLine::Either(*n))
-        }
-        CertLine::Cases(t, u) => match two_terms(table, terms, t.0, u.0) {
-            Ok((a, b)) => Ok(CertLine::Cases(a, b)),
-            Err(fault) => Err(fault),
-        },
-        CertLine::Order(n) => {
-            fact(count, *n)?;
-            Ok(CertLine::Order(*n))
-        }
-        CertLine::Refl(t) => {
-            let a = term(table, terms, t.0)?;
-            Ok(CertLine::Refl(a))
-        }
-        CertLine::Sym(n) => {
-            fact(count, *n)?;
-            Ok(CertLine::Sym(*n))
-        }
-        CertLine::Trans(m, n) => {
-            two_facts(count, *m, *n)?;
-            Ok(CertLine::Trans(*m, *n))
-        }
-        CertLine::Subst(m, n) => {
-            two_facts(count, *m, *n)?;
-            Ok(CertLine::Subst(*m, *n))
-        }
-        CertLine::Cong(t, u, facts) => match two_terms(table, terms, t.0, u.0) {
-            Ok((a, b)) => congruence(alloc, count, a, b, facts),
-            Err(fault) => Err(fault),
-        },
-        CertLine::Same(t, u) => match two_terms(table, terms, t.0, u.0) {
-            Ok((a, b)) => Ok(CertLine::Same(a, b)),
-            Err(fault) => Err(fault),
-        },
-        CertLine::Apart(t, u) => match two_terms(table, terms, t.0, u.0) {
-            Ok((a, b)) => Ok(CertLine::Apart(a, b)),
-            Err(fault) => Err(fault),
-        },
-        CertLine::Hit(t, n) => {
-            let a = term(table, terms, t.0)?;
-            fact(count, *n)?;
-            Ok(CertLine::Hit(a, *n))
-        }
-        CertLine::Miss(t, u, n) => match two_terms(table, terms, t.0, u.0) {
-            Ok((a, b)) => other_element(count, a, b, *n),
-            Err(fault) => Err(fault),
-        },
-        CertLine::Lin(n) => {
-            fact(count, *n)?;
-            Ok(CertLine::Lin(*n))
-        }
-        CertLine::Elim(m, n, t) => {
-            let a = term(table, terms, t.0)?;
-            two_facts(count, *m, *n)?;
-            Ok(CertLine::Elim(*m, *n, a))
-        }
-        CertLine::Tight(n) => {
-            fact(count, *n)?;
-            Ok(CertLine::Tight(*n))
-        }
-        CertLine::Exact(n) => Ok(CertLine::Exact(*n)),
-        CertLine::Close(n) => {
-            fact(count, *n)?;
-            Ok(CertLine::Close(*n))
-        }
-        CertLine::Clash(m, n) => {
-            two_facts(count, *m, *n)?;
-            Ok(CertLine::Clash(*m, *n))
-        }
+        CertLine::Refl(t) | CertLine::Hit(t, _) | CertLine::Elim(_, _, t) => t.0 < made,
+        CertLine::Cases(t, u)
+        | CertLine::Cong(t, u, _)
+        | CertLine::Same(t, u)
+        | CertLine::Apart(t, u)
+        | CertLine::Miss(t, u, _) => t.0 < made && u.0 < made,
+        _ => true,
     }
 }
 
-// That a fact is there.
-fn fact(count: u64, n: u64) -> Result<(), LineFault>
-    ensures there { (l : CertificateLine) →
-        IfOk result (λ _. naming_facts count (n ∷ []) l ≡ Some l) }
-    ensures missing { (l : CertificateLine) →
-        IfErr result (λ e. (e ≡ Wrong BadNumber) × (naming_facts count (n ∷ []) l ≡ None)) }
+// Whether the facts that a line names are there, at a branch of `count` facts.
+fn has_facts(count: u64, line: &CertLine) -> bool
+    ensures { result ≡ has_facts count (numbered_line line.now) }
 {
-    if n < count {
-        Ok(())
-    } else {
-        Err(LineFault::Wrong {
-            word: Word::BadNumber,
-        })
+    match line {
+        CertLine::Cases(_, _)
+        | CertLine::Refl(_)
+        | CertLine::Same(_, _)
+        | CertLine::Apart(_, _)
+        | CertLine::Exact(_) => true,
+        CertLine::Trans(m, n)
+        | CertLine::Subst(m, n)
+        | CertLine::Elim(m, n, _)
+        | CertLine::Clash(m, n) => *m < count && *n < count,
+        CertLine::Cong(_, _, facts) => are_there(count, &facts.list),
+        CertLine::Both(n)
+        | CertLine::Either(n)
+        | CertLine::Order(n)
+        | CertLine::Sym(n)
+        | CertLine::Hit(_, n)
+        | CertLine::Miss(_, _, n)
+        | CertLine::Lin(n)
+        | CertLine::Tight(n)
+        | CertLine::Close(n) => *n < count,
     }
-}
-
-// That two facts are there.
-fn two_facts(count: u64, m: u64, n: u64) -> Result<(), LineFault>
-    ensures there { (l : CertificateLine) →
-        IfOk result (λ _. naming_facts count (m ∷ n ∷ []) l ≡ Some l) }
-    ensures missing { (l : CertificateLine) →
-        IfErr result (λ e. (e ≡ Wrong BadNumber) × (naming_facts count (m ∷ n ∷ []) l ≡ None)) }
-{
-    if m < count && n < count {
-        Ok(())
-    } else {
-        Err(LineFault::Wrong {
-            word: Word::BadNumber,
-        })
-    }
-}
-
-// A line `cong` of two terms, where its facts are there.
-fn congruence(
-    alloc: Global,
-    count: u64,
-    t: TermId,
-    u: TermId,
-    facts: &FactNumbers,
-) -> Result<CertLine, LineFault>
-    ensures there { (trees : List Tree) → IfOk result (λ l.
-        naming_facts count facts.now.list.items
-        (Cong (tree_at trees t.0) (tree_at trees u.0) facts.now.list.items)
-        ≡ Some (line_in trees l)) }
-    ensures within { (n : ℕ) → t.0 < n → u.0 < n → IfOk result (IsLineWithin n) }
-    ensures missing { (l : CertificateLine) →
-        IfErr result (λ e. Misses e (naming_facts count facts.now.list.items l)) }
-{
-    if are_there(count, &facts.list) {
-        let list = Vec::from_slice(alloc, &facts.list)?;
-        Ok(CertLine::Cong(t, u, FactNumbers { list }))
-    } else {
-        Err(LineFault::Wrong {
-            word: Word::BadNumber,
-        })
-    }
-}
-
-// A line `miss` of two terms, where its fact is there.
-fn other_element(count: u64, t: TermId, u: TermId, n: u64) -> Result<CertLine, LineFault>
-    ensures there { (trees : List Tree) → IfOk result (λ l.
-        naming_facts count (n ∷ []) (Miss (tree_at trees t.0) (tree_at trees u.0) n)
-        ≡ Some (line_in trees l)) }
-    ensures within { (n : ℕ) → t.0 < n → u.0 < n → IfOk result (IsLineWithin n) }
-    ensures missing { (l : CertificateLine) →
-        IfErr result (λ e. Misses e (naming_facts count (n ∷ []) l)) }
-{
-    fact(count, n)?;
-    Ok(CertLine::Miss(t, u, n))
 }
 
 // Whether all of these facts are there.
@@ -198,44 +93,59 @@ fn are_there(count: u64, facts: &[u64]) -> bool
     true
 }
 
-// The term that a line made.
-fn term(table: &TermTable, terms: &[TermId], n: u64) -> Result<TermId, LineFault>
-    requires { AreBefore (length (trees_in table.now)) terms.now }
-    ensures there { (next : Tree → Option CertificateLine) → let trees = trees_in table.now in
-        IfOk result (λ t. naming_term (terms_in trees terms.now) n next ≡ next (tree_at trees t.0)) }
-    ensures within { IfOk result (λ t. t.0 < length (trees_in table.now)) }
-    ensures missing { (next : Tree → Option CertificateLine) → let trees = trees_in table.now in
-        IfErr result (λ e. (e ≡ Wrong BadNumber)
-        × (naming_term (terms_in trees terms.now) n next ≡ None)) }
+// The line with the terms that lines made in place of the numbers of these lines.
+fn with_terms(alloc: Global, terms: &[TermId], line: &CertLine) -> Result<CertLine, AllocError>
+    ensures { IfOk result (λ l.
+        numbered_line l ≡ with_terms (number_of terms.now) (numbered_line line.now)) }
 {
-    match term_at(terms, n) {
-        Some(t) => Ok(t),
-        None => Err(LineFault::Wrong {
-            word: Word::BadNumber,
-        }),
+    match line {
+        CertLine::Both(n) => Ok(CertLine::Both(*n)),
+        CertLine::Either(n) => Ok(CertLine::Either(*n)),
+        CertLine::Cases(t, u) => {
+            let t = term_of(terms, *t);
+            Ok(CertLine::Cases(t, term_of(terms, *u)))
+        }
+        CertLine::Order(n) => Ok(CertLine::Order(*n)),
+        CertLine::Refl(t) => Ok(CertLine::Refl(term_of(terms, *t))),
+        CertLine::Sym(n) => Ok(CertLine::Sym(*n)),
+        CertLine::Trans(m, n) => Ok(CertLine::Trans(*m, *n)),
+        CertLine::Subst(m, n) => Ok(CertLine::Subst(*m, *n)),
+        CertLine::Cong(t, u, facts) => {
+            let list = Vec::from_slice(alloc, &facts.list)?;
+            let t = term_of(terms, *t);
+            let u = term_of(terms, *u);
+            Ok(CertLine::Cong(t, u, FactNumbers { list }))
+        }
+        CertLine::Same(t, u) => {
+            let t = term_of(terms, *t);
+            Ok(CertLine::Same(t, term_of(terms, *u)))
+        }
+        CertLine::Apart(t, u) => {
+            let t = term_of(terms, *t);
+            Ok(CertLine::Apart(t, term_of(terms, *u)))
+        }
+        CertLine::Hit(t, n) => Ok(CertLine::Hit(term_of(terms, *t), *n)),
+        CertLine::Miss(t, u, n) => {
+            let t = term_of(terms, *t);
+            Ok(CertLine::Miss(t, term_of(terms, *u), *n))
+        }
+        CertLine::Lin(n) => Ok(CertLine::Lin(*n)),
+        CertLine::Elim(m, n, t) => Ok(CertLine::Elim(*m, *n, term_of(terms, *t))),
+        CertLine::Tight(n) => Ok(CertLine::Tight(*n)),
+        CertLine::Exact(n) => Ok(CertLine::Exact(*n)),
+        CertLine::Close(n) => Ok(CertLine::Close(*n)),
+        CertLine::Clash(m, n) => Ok(CertLine::Clash(*m, *n)),
     }
 }
 
-// Two terms that lines made.
-fn two_terms(
-    table: &TermTable,
-    terms: &[TermId],
-    t: u64,
-    u: u64,
-) -> Result<(TermId, TermId), LineFault>
-    requires { AreBefore (length (trees_in table.now)) terms.now }
-    ensures there { (next : Tree → Tree → Option CertificateLine) → let trees = trees_in table.now in
-        IfOk result (λ p. naming_two (terms_in trees terms.now) t u next
-        ≡ next (tree_at trees p.0.0) (tree_at trees p.1.0)) }
-    ensures within { let n = length (trees_in table.now) in
-        IfOk result (λ p. (p.0.0 < n) × (p.1.0 < n)) }
-    ensures missing { (next : Tree → Tree → Option CertificateLine) → let trees = trees_in table.now in
-        IfErr result (λ e. (e ≡ Wrong BadNumber)
-        × (naming_two (terms_in trees terms.now) t u next ≡ None)) }
+// The term that the line with a number made, the number itself where there is none.
+fn term_of(terms: &[TermId], n: TermId) -> TermId
+    ensures { result.0 ≡ number_of terms.now n.0 }
 {
-    let a = term(table, terms, t)?;
-    let b = term(table, terms, u)?;
-    Ok((a, b))
+    match terms.get(n.0 as usize) {
+        Some(t) => *t,
+        None => n,
+    }
 }
 
 // The first word of a line.

@@ -1,6 +1,6 @@
 // Terms that lines make.
-ghost use Rattle.std.specs.Prelude.{◌≡◌, ◌<◌, ◌≤◌, ◌^◌, length, List, Ok, Err, Result, Some, slice_get};
-ghost use Rattle.std.specs.Prelude.{IfOk, IfErr};
+ghost use Rattle.std.specs.Prelude.{◌≡◌, ◌<◌, ◌≤◌, ◌^◌, true, length, List, Ok, None, slice_get};
+ghost use Rattle.std.specs.Prelude.{IfOk, IfSome};
 ghost use Rattle.sm_syntax.specs.claim.ConflictFree.{copy_of};
 ghost use Rattle.sm_term.specs.Terms.{Tree};
 ghost use Rattle.sm_term.specs.Fitting.{term_fits};
@@ -15,15 +15,12 @@ ghost use Rattle.sm_plan.specs.ReadyStates.{AreStoresReady};
 ghost use Rattle.sm_term.specs.Heads.{arguments_of};
 ghost use Rattle.sm_plan.specs.Views.{stores_in};
 ghost use Rattle.sm_proof.specs.declared.word.Head.TheVariants as head;
-ghost use Rattle.sm_proof.specs.declared.word.Word.{Word};
-ghost use Rattle.sm_proof.specs.declared.word.Word.TheVariants.{First, BadNumber};
+ghost use Rattle.sm_proof.specs.declared.word.Word.TheVariants.{First};
 ghost use Rattle.sm_proof.specs.FieldRanges.{IsTermLineWithin};
 ghost use Rattle.sm_proof.specs.Named.{tested_or, found_or};
-ghost use Rattle.sm_proof.specs.Passing.{Pending, term_made, with_tree};
-ghost use Rattle.sm_proof.specs.Passing.{present_term};
-ghost use Rattle.sm_check.specs.declared.fault.LineFault.TheVariants.{Wrong};
+ghost use Rattle.sm_proof.specs.Passing.{Pending, of_name, present_term, term_made, with_tree};
 ghost use Rattle.sm_check.specs.Tells.{Tells};
-ghost use Rattle.sm_check.specs.TermsMade.{IsTerm, with_two};
+ghost use Rattle.sm_check.specs.TermsMade.{IsTerm, is_new, new_term, pair_of};
 ghost use Rattle.sm_check.specs.Pending.{DueStands, IsDueReady};
 ghost use Rattle.sm_check.specs.Walks.{terms_in, AreNumbered};
 
@@ -59,60 +56,74 @@ pub(crate) fn made_term(
     ensures grows { AddsTerms table.old table.new }
 {
     match line {
-        TermLine::Lit(z) => put(table, Term::Lit(*z)),
-        TermLine::Start(x) => {
-            let name = declared_name(declared, *x)?;
-            put(table, Term::Start(name))
-        }
-        TermLine::Cell => put(table, Term::Cell),
-        TermLine::Slot { copy, name } => {
-            let name = declared_name(declared, *name)?;
-            put(table, Term::Slot { copy: *copy, name })
-        }
-        TermLine::Cur { copy, name } => {
-            let name = declared_name(declared, *name)?;
-            present(table, due, *copy, name)
-        }
-        TermLine::Of { fact, side } => { of_fact(table, due, path, *fact, *side) }
-        TermLine::Arg { term, place } => {
-            let t = named(table, terms, *term)?;
-            argument(table, t, *place)
-        }
+        TermLine::Cur { copy, name } => current(table, declared, due, *copy, *name),
+        TermLine::Of { fact, side } => of_fact(table, due, path, *fact, *side),
+        TermLine::Arg { term, place } => argument(table, terms, *term, *place),
+        _ => put_new(table, declared, terms, line),
+    }
+}
+
+// Puts the term of a line into the table that tells it by names and terms.
+fn put_new(
+    table: &mut TermTable,
+    declared: u64,
+    terms: &[TermId],
+    line: &TermLine,
+) -> Result<TermId, LineFault>
+    requires numbered { AreNumbered (sorts_in table.old) declared }
+    requires terms { AreBefore (length (trees_in table.old)) terms.now }
+    requires line { IsTermLineWithin line.now }
+    requires kind { is_new line.now ≡ true }
+    ensures tells { let sorts = sorts_in table.old in let trees = trees_in table.old in
+        (first : Pending) → Tells (IsTerm (trees_in table.new)) result
+        (term_made sorts (terms_in trees terms.now) first line.now) }
+    ensures within { IfOk result (λ t. t.0 < length (trees_in table.new)) }
+    ensures grows { AddsTerms table.old table.new }
+{
+    match new_term(declared, terms, line) {
+        Some(term) => put(table, term),
+        None => Err(LineFault::Wrong {
+            word: Word::BadNumber,
+        }),
+    }
+}
+
+// The term of a line that tells it by names and terms, where these are there.
+fn new_term(declared: u64, terms: &[TermId], line: &TermLine) -> Option<Term>
+    requires { declared ≤ 2 ^ 32 }
+    ensures { result ≡ new_term declared terms.now line.now }
+{
+    match line {
+        TermLine::Lit(z) => Some(Term::Lit(*z)),
+        TermLine::Start(x) => Some(Term::Start(declared_name(declared, *x)?)),
+        TermLine::Cell => Some(Term::Cell),
+        TermLine::Slot { copy, name } => Some(Term::Slot {
+            copy: *copy,
+            name: declared_name(declared, *name)?,
+        }),
         TermLine::Read(t, u) => {
-            match both(table, terms, *t, *u) {
-                Ok((a, i)) => put(table, Term::Read(a, i)),
-                Err(fault) => Err(fault),
-            }
+            let (a, i) = pair_at(terms, *t, *u)?;
+            Some(Term::Read(a, i))
         }
         TermLine::Write(t, u, v) => {
-            let a = named(table, terms, *t)?;
-            match both(table, terms, *u, *v) {
-                Ok((i, e)) => put(table, Term::Write(a, i, e)),
-                Err(fault) => Err(fault),
-            }
+            let a = term_at(terms, *t)?;
+            let (i, e) = pair_at(terms, *u, *v)?;
+            Some(Term::Write(a, i, e))
         }
-        TermLine::Neg(t) => {
-            let a = named(table, terms, *t)?;
-            put(table, Term::Neg(a))
-        }
+        TermLine::Neg(t) => Some(Term::Neg(term_at(terms, *t)?)),
         TermLine::Add(t, u) => {
-            match both(table, terms, *t, *u) {
-                Ok((a, b)) => put(table, Term::Add(a, b)),
-                Err(fault) => Err(fault),
-            }
+            let (a, b) = pair_at(terms, *t, *u)?;
+            Some(Term::Add(a, b))
         }
         TermLine::Sub(t, u) => {
-            match both(table, terms, *t, *u) {
-                Ok((a, b)) => put(table, Term::Sub(a, b)),
-                Err(fault) => Err(fault),
-            }
+            let (a, b) = pair_at(terms, *t, *u)?;
+            Some(Term::Sub(a, b))
         }
         TermLine::Mul(t, u) => {
-            match both(table, terms, *t, *u) {
-                Ok((a, b)) => put(table, Term::Mul(a, b)),
-                Err(fault) => Err(fault),
-            }
+            let (a, b) = pair_at(terms, *t, *u)?;
+            Some(Term::Mul(a, b))
         }
+        _ => None,
     }
 }
 
@@ -137,55 +148,51 @@ fn put(table: &mut TermTable, t: Term) -> Result<TermId, LineFault>
 }
 
 // The declared name with a number.
-fn declared_name(declared: u64, x: u64) -> Result<Name, LineFault>
+fn declared_name(declared: u64, x: u64) -> Option<Name>
     requires { declared ≤ 2 ^ 32 }
-    ensures name { IfOk result (λ n. n.0 ≡ x) }
-    ensures there { IfOk result (λ n. x < declared) }
-    ensures missing { IfErr result (λ e. (e ≡ Wrong BadNumber) × (declared ≤ x)) }
+    ensures name { IfSome result (λ n. n ≡ record { 0 = x }) }
+    ensures there { IfSome result (λ n. x < declared) }
+    ensures missing { result ≡ None → declared ≤ x }
 {
     if x < declared {
-        Ok(Name(x as u32))
+        Some(Name(x as u32))
     } else {
-        Err(LineFault::Wrong {
-            word: Word::BadNumber,
-        })
-    }
-}
-
-// The term that a line made.
-fn named(table: &TermTable, terms: &[TermId], n: u64) -> Result<TermId, LineFault>
-    requires { AreBefore (length (trees_in table.now)) terms.now }
-    ensures there { (next : Tree → Result Tree Word) → let trees = trees_in table.now in
-        IfOk result (λ t.
-        with_tree (terms_in trees terms.now) n next ≡ next (tree_at trees t.0)) }
-    ensures within { IfOk result (λ t. t.0 < length (trees_in table.now)) }
-    ensures missing { (next : Tree → Result Tree Word) → let trees = trees_in table.now in
-        IfErr result (λ e. (e ≡ Wrong BadNumber)
-        × (with_tree (terms_in trees terms.now) n next ≡ Err BadNumber)) }
-{
-    match term_at(terms, n) {
-        Some(t) => Ok(t),
-        None => Err(LineFault::Wrong {
-            word: Word::BadNumber,
-        }),
+        None
     }
 }
 
 // Two terms that lines made.
-fn both(table: &TermTable, terms: &[TermId], t: u64, u: u64) -> Result<(TermId, TermId), LineFault>
-    requires { AreBefore (length (trees_in table.now)) terms.now }
-    ensures there { (next : Tree → Tree → Result Tree Word) → let trees = trees_in table.now in
-        IfOk result (λ p. with_two (terms_in trees terms.now) t u next
-        ≡ next (tree_at trees p.0.0) (tree_at trees p.1.0)) }
-    ensures within { let n = length (trees_in table.now) in
-        IfOk result (λ p. (p.0.0 < n) × (p.1.0 < n)) }
-    ensures missing { (next : Tree → Tree → Result Tree Word) → let trees = trees_in table.now in
-        IfErr result (λ e. (e ≡ Wrong BadNumber)
-        × (with_two (terms_in trees terms.now) t u next ≡ Err BadNumber)) }
+fn pair_at(terms: &[TermId], t: u64, u: u64) -> Option<(TermId, TermId)>
+    ensures { result ≡ pair_of (slice_get terms.now t) (slice_get terms.now u) }
 {
-    let a = named(table, terms, t)?;
-    let b = named(table, terms, u)?;
-    Ok((a, b))
+    let a = term_at(terms, t)?;
+    let b = term_at(terms, u)?;
+    Some((a, b))
+}
+
+// The present term of a copy's name, where the name is declared.
+fn current(
+    table: &mut TermTable,
+    declared: u64,
+    due: &Due<'_>,
+    copy: u8,
+    x: u64,
+) -> Result<TermId, LineFault>
+    requires numbered { AreNumbered (sorts_in table.old) declared }
+    requires due { IsDueReady (sorts_in table.old) (trees_in table.old) due.now }
+    ensures tells { let sorts = sorts_in table.old in let trees = trees_in table.old in
+        (facts : List BranchFact) (first : Pending) → DueStands sorts trees facts due.now first →
+        Tells (IsTerm (trees_in table.new)) result
+        (of_name sorts x (present_term first (copy_of copy) x)) }
+    ensures within { IfOk result (λ t. t.0 < length (trees_in table.new)) }
+    ensures grows { AddsTerms table.old table.new }
+{
+    match declared_name(declared, x) {
+        Some(name) => present(table, due, copy, name),
+        None => Err(LineFault::Wrong {
+            word: Word::BadNumber,
+        }),
+    }
 }
 
 // The present term of a copy's name.
@@ -237,8 +244,24 @@ fn in_store(table: &mut TermTable, store: &SymStore, name: Name) -> Result<TermI
     }
 }
 
+// An argument of the term that a line made.
+fn argument(table: &TermTable, terms: &[TermId], n: u64, place: u64) -> Result<TermId, LineFault>
+    requires { AreBefore (length (trees_in table.now)) terms.now }
+    ensures tells { let trees = trees_in table.now in
+        Tells (IsTerm trees) result (with_tree (terms_in trees terms.now) n (λ (t : Tree).
+        found_or (slice_get (arguments_of t) place) (First head.T) Ok)) }
+    ensures within { IfOk result (λ a. a.0 < length (trees_in table.now)) }
+{
+    match term_at(terms, n) {
+        Some(t) => argument_at(table, t, place),
+        None => Err(LineFault::Wrong {
+            word: Word::BadNumber,
+        }),
+    }
+}
+
 // An argument of a term.
-fn argument(table: &TermTable, t: TermId, place: u64) -> Result<TermId, LineFault>
+fn argument_at(table: &TermTable, t: TermId, place: u64) -> Result<TermId, LineFault>
     requires { t.0 < length (trees_in table.now) }
     ensures tells { let trees = trees_in table.now in
         Tells (IsTerm trees) result

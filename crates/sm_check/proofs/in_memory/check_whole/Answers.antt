@@ -1,24 +1,4 @@
-use Rattle.std.proofs.Common.{◌≡◌, [], rules, sym, subst, arith}
-use Rattle.sm_check.specs.declared.fault.Stopped.TheVariants.{Wrong}
-use Rattle.sm_check.specs.Aside.{StopsAt}
-use Rattle.sm_check.specs.Pieces.{reach}
-use Rattle.sm_check.proofs.EndedLines.{ended-few}
-use Rattle.sm_check.proofs.MemoryLemmas.{all_left, bad_line, none_left}
 use Rattle.sm_check.proofs.in_memory.check_whole.Goals as goal
 
-pub check_all-requires : goal.check_all-requires
-check_all-requires c = omega (arith, ended-few c.args.bytes.now, c.new-lines.ensures.number)
-
-pub returns-in-Ok : goal.returns-in-Ok
-returns-in-Ok c = λ s start.
-    let bytes = c.args.bytes.now in
-    let left = all_left c.new-lines.result s bytes (c.new-lines.ensures.stands s start) c.new-lines.ensures.number in
-    sym (c.at_end.ensures s bytes (none_left c.check_all.new.self s bytes (c.in-Ok.ensures.ok s (reach s bytes) [] left)) c.ends_whole.ensures)
-
-pub returns-in-Err-Wrong : goal.returns-in-Err-Wrong
-returns-in-Err-Wrong c = λ s start.
-    let bytes = c.args.bytes.now in
-    let same : c.in-Err-Wrong.field-0 ≡ Wrong c.in-Err-Wrong.line c.in-Err-Wrong.word = search rules in
-    let left = all_left c.new-lines.result s bytes (c.new-lines.ensures.stands s start) c.new-lines.ensures.number in
-    bad_line s bytes c.in-Err-Wrong.line c.in-Err-Wrong.word
-    (subst (StopsAt (reach s bytes)) same (c.in-Err-Wrong.ensures.err s (reach s bytes) [] left))
+pub returns : goal.returns
+returns c = λ s start. c.check_lines.ensures s (c.new-lines.ensures.stands s start)

@@ -1,113 +1,30 @@
--- Lines that name two terms.
-use Rattle.std.proofs.Common.{◌≡◌, ap, ◌∙◌, sym, subst, Some, Option, [], ◌∷◌, IfOk, IfErr}
-use Rattle.sm_term.specs.Terms.{Tree}
-use Rattle.sm_term.specs.Tables.{trees_in, tree_at}
-use Rattle.sm_theory.specs.Lines.{CertificateLine, Cases, Same, Apart, Miss, Cong}
+-- The line has the trees of its numbers; what isn't there leaves none.
+use Rattle.std.proofs.Common.{◌≡◌, None, length, refl, sym, ◌∙◌}
+use Rattle.sm_term.specs.Tables.{trees_in}
 use Rattle.sm_proof.specs.Lines.{numbered_line}
-use Rattle.sm_proof.specs.Named.{naming_facts, named_line}
-use Rattle.sm_check.specs.declared.fault.LineFault.{LineFault}
-use Rattle.sm_check.specs.LineKinds.{Misses}
-use Rattle.sm_check.specs.Walks.{terms_in}
-use Rattle.sm_theory.specs.declared.line.CertLine.{CertLine}
-use Rattle.sm_theory.specs.Views.{line_in}
-use Rattle.sm_check.proofs.TermsLemmas.{misses}
+use Rattle.sm_check.proofs.NamesLemmas.{line_made, line_within, line_without_term, line_without_fact}
 use Rattle.sm_check.proofs.names.named_line.Goals as goal
+use Rattle.sm_check.proofs.names.named_line.Goals.{else-has_terms-via-then-has_terms+else-has_facts, else-has_terms-via-else-has_terms}
 
-pub returns-in-Ok-clause-there : goal.returns-in-Ok-clause-there
-returns-in-Ok-clause-there c =
-    let trees = trees_in c.args.table.now in
-    let terms = terms_in trees c.args.terms.now in
-    let name = ap (λ l. named_line terms c.args.count (numbered_line l)) c.in-Cases.is in
-    name ∙ c.in-Ok.ensures.there (λ (a b : Tree). Some (Cases a b))
+pub returns-in_ok-with_terms-clause-there : goal.returns-in_ok-with_terms-clause-there
+returns-in_ok-with_terms-clause-there c =
+    line_made (trees_in c.args.table.now) c.args.terms.now c.args.count (numbered_line c.args.line.now) c.in_ok-with_terms.field-0
+    (sym c.has_terms.ensures ∙ c.if-has_terms.true) (sym c.has_facts.ensures ∙ c.if-has_facts.true) c.in_ok-with_terms.ensures
 
-pub returns-in-Err-clause-missing : goal.returns-in-Err-clause-missing
-returns-in-Err-clause-missing c =
-    let trees = trees_in c.args.table.now in
-    let terms = terms_in trees c.args.terms.now in
-    let name = ap (λ l. named_line terms c.args.count (numbered_line l)) c.in-Cases.is in
-    let k = c.in-Err.ensures.missing (λ (a b : Tree). Some (Cases a b)) in
-    misses c.in-Err.fault _ k.0 (name ∙ k.1)
+pub returns-in_ok-with_terms-clause-within : goal.returns-in_ok-with_terms-clause-within
+returns-in_ok-with_terms-clause-within c =
+    line_within (length (trees_in c.args.table.now)) c.args.terms.now c.requires (numbered_line c.args.line.now) c.in_ok-with_terms.field-0
+    (sym c.has_terms.ensures ∙ c.if-has_terms.true) c.in_ok-with_terms.ensures
 
-pub returns-in-Ok-two_terms-clause-there : goal.returns-in-Ok-two_terms-clause-there
-returns-in-Ok-two_terms-clause-there c =
+pub returns-else-has_terms-clause-missing : goal.returns-else-has_terms-clause-missing
+returns-else-has_terms-clause-missing c =
     let trees = trees_in c.args.table.now in
-    let terms = terms_in trees c.args.terms.now in
-    let name = ap (λ l. named_line terms c.args.count (numbered_line l)) c.in-Cong.is in
-    let is = name ∙ c.in-Ok-two_terms.ensures.there (λ (a b : Tree). naming_facts c.args.count c.in-Cong.facts.list.items (Cong a b c.in-Cong.facts.list.items)) in
-    let r = c.congruence.result in
-    subst (λ (x : Option CertificateLine). IfOk r (λ (l : CertLine). x ≡ Some (line_in trees l))) (sym is) (c.congruence.ensures.there trees)
-
-pub returns-in-Err-two_terms-clause-missing : goal.returns-in-Err-two_terms-clause-missing
-returns-in-Err-two_terms-clause-missing c =
-    let trees = trees_in c.args.table.now in
-    let terms = terms_in trees c.args.terms.now in
-    let name = ap (λ l. named_line terms c.args.count (numbered_line l)) c.in-Cong.is in
-    let k = c.in-Err-two_terms.ensures.missing (λ (a b : Tree). naming_facts c.args.count c.in-Cong.facts.list.items (Cong a b c.in-Cong.facts.list.items)) in
-    misses c.in-Err-two_terms.fault _ k.0 (name ∙ k.1)
-
-pub returns-in-Ok-two_terms-2-clause-there : goal.returns-in-Ok-two_terms-2-clause-there
-returns-in-Ok-two_terms-2-clause-there c =
-    let trees = trees_in c.args.table.now in
-    let terms = terms_in trees c.args.terms.now in
-    let name = ap (λ l. named_line terms c.args.count (numbered_line l)) c.in-Same.is in
-    name ∙ c.in-Ok-two_terms-2.ensures.there (λ (a b : Tree). Some (Same a b))
-
-pub returns-in-Err-two_terms-2-clause-missing : goal.returns-in-Err-two_terms-2-clause-missing
-returns-in-Err-two_terms-2-clause-missing c =
-    let trees = trees_in c.args.table.now in
-    let terms = terms_in trees c.args.terms.now in
-    let name = ap (λ l. named_line terms c.args.count (numbered_line l)) c.in-Same.is in
-    let k = c.in-Err-two_terms-2.ensures.missing (λ (a b : Tree). Some (Same a b)) in
-    misses c.in-Err-two_terms-2.fault _ k.0 (name ∙ k.1)
-
-pub returns-in-Ok-two_terms-3-clause-there : goal.returns-in-Ok-two_terms-3-clause-there
-returns-in-Ok-two_terms-3-clause-there c =
-    let trees = trees_in c.args.table.now in
-    let terms = terms_in trees c.args.terms.now in
-    let name = ap (λ l. named_line terms c.args.count (numbered_line l)) c.in-Apart.is in
-    name ∙ c.in-Ok-two_terms-3.ensures.there (λ (a b : Tree). Some (Apart a b))
-
-pub returns-in-Err-two_terms-3-clause-missing : goal.returns-in-Err-two_terms-3-clause-missing
-returns-in-Err-two_terms-3-clause-missing c =
-    let trees = trees_in c.args.table.now in
-    let terms = terms_in trees c.args.terms.now in
-    let name = ap (λ l. named_line terms c.args.count (numbered_line l)) c.in-Apart.is in
-    let k = c.in-Err-two_terms-3.ensures.missing (λ (a b : Tree). Some (Apart a b)) in
-    misses c.in-Err-two_terms-3.fault _ k.0 (name ∙ k.1)
-
-pub returns-in-Ok-two_terms-4-clause-there : goal.returns-in-Ok-two_terms-4-clause-there
-returns-in-Ok-two_terms-4-clause-there c =
-    let trees = trees_in c.args.table.now in
-    let terms = terms_in trees c.args.terms.now in
-    let name = ap (λ l. named_line terms c.args.count (numbered_line l)) c.in-Miss.is in
-    let is = name ∙ c.in-Ok-two_terms-4.ensures.there (λ (a b : Tree). naming_facts c.args.count (c.in-Miss.n ∷ []) (Miss a b c.in-Miss.n)) in
-    let r = c.other_element.result in
-    subst (λ (x : Option CertificateLine). IfOk r (λ (l : CertLine). x ≡ Some (line_in trees l))) (sym is) (c.other_element.ensures.there trees)
-
-pub returns-in-Err-two_terms-4-clause-missing : goal.returns-in-Err-two_terms-4-clause-missing
-returns-in-Err-two_terms-4-clause-missing c =
-    let trees = trees_in c.args.table.now in
-    let terms = terms_in trees c.args.terms.now in
-    let name = ap (λ l. named_line terms c.args.count (numbered_line l)) c.in-Miss.is in
-    let k = c.in-Err-two_terms-4.ensures.missing (λ (a b : Tree). naming_facts c.args.count (c.in-Miss.n ∷ []) (Miss a b c.in-Miss.n)) in
-    misses c.in-Err-two_terms-4.fault _ k.0 (name ∙ k.1)
-
-pub returns-in-Ok-two_terms-clause-missing : goal.returns-in-Ok-two_terms-clause-missing
-returns-in-Ok-two_terms-clause-missing c =
-    let trees = trees_in c.args.table.now in
-    let terms = terms_in trees c.args.terms.now in
-    let name = ap (λ l. named_line terms c.args.count (numbered_line l)) c.in-Cong.is in
-    let is = name ∙ c.in-Ok-two_terms.ensures.there (λ (a b : Tree). naming_facts c.args.count c.in-Cong.facts.list.items (Cong a b c.in-Cong.facts.list.items)) in
-    let r = c.congruence.result in
-    let l = Cong (tree_at trees c.in-Ok-two_terms.a.0) (tree_at trees c.in-Ok-two_terms.b.0) c.in-Cong.facts.list.items in
-    subst (λ (x : Option CertificateLine). IfErr r (λ (e : LineFault). Misses e x)) (sym is) (c.congruence.ensures.missing l)
-
-pub returns-in-Ok-two_terms-4-clause-missing : goal.returns-in-Ok-two_terms-4-clause-missing
-returns-in-Ok-two_terms-4-clause-missing c =
-    let trees = trees_in c.args.table.now in
-    let terms = terms_in trees c.args.terms.now in
-    let name = ap (λ l. named_line terms c.args.count (numbered_line l)) c.in-Miss.is in
-    let is = name ∙ c.in-Ok-two_terms-4.ensures.there (λ (a b : Tree). naming_facts c.args.count (c.in-Miss.n ∷ []) (Miss a b c.in-Miss.n)) in
-    let r = c.other_element.result in
-    let l = Miss (tree_at trees c.in-Ok-two_terms-4.a.0) (tree_at trees c.in-Ok-two_terms-4.b.0) c.in-Miss.n in
-    subst (λ (x : Option CertificateLine). IfErr r (λ (e : LineFault). Misses e x)) (sym is) (c.other_element.ensures.missing l)
+    let l = numbered_line c.args.line.now in (
+      refl,
+      elim c.else-has_terms.branch [
+        | else-has_terms-via-then-has_terms+else-has_facts w ↦ line_without_fact trees c.args.terms.now c.args.count l
+            (sym c.has_terms.ensures ∙ w.if-has_terms.true) (sym w.has_facts.ensures ∙ w.if-has_facts.false)
+        | else-has_terms-via-else-has_terms w ↦ line_without_term trees c.args.terms.now c.args.count l
+            (sym c.has_terms.ensures ∙ w.if-has_terms.false)
+      ],
+    )
