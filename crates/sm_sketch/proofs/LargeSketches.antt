@@ -69,7 +69,52 @@ each_drawn set node p q r s t four three two one =
     (two ∙ ap (drawn_where (has set A) (node A)) (three ∙ ap (drawn_where (has set B) (node B)) four))
     ∙ sym (members_drawn set node p)
 
+-- a sketch that is too large is so with nodes before it
+deeper : (b : Bool) (d : ℕ) → d ≤ (if b then suc (max d 0) else max d 0)
+deeper true d = omega arith
+deeper false d = omega arith
+
+where_tells : (b : Bool) (node : Node) (p : Sketch) (e : ProductError) → TellsSketch e p → TellsSketch e (drawn_where b node p)
+where_tells false node p e h = h
+where_tells true node p error.Memory h = tt
+where_tells true node p error.TooMany h =
+    let size = drawn_size node p in
+    let more : sketch_size p ≤ sketch_size (then_draw node p) = omega (arith, size) in
+    larger p (then_draw node p) more (deeper (is_branching node) (sketch_depth p)) h
+
+module _ (set : Copies) (node : Copy → Node) (p : Sketch) (e : ProductError) where
+  abbrev in_place : Copy → Sketch → Sketch
+  in_place c q = drawn_where (has set c) (node c) q
+
+  pub fourth_tells : TellsSketch e (in_place M p) → TellsSketch e (each_of node (members set) p)
+  fourth_tells h =
+      subst (TellsSketch e) (sym (members_drawn set node p))
+      (where_tells (has set O) (node O) (in_place A (in_place B (in_place M p))) e
+      (where_tells (has set A) (node A) (in_place B (in_place M p)) e (where_tells (has set B) (node B) (in_place M p) e h)))
+
+  pub third_tells : (q : Sketch) → q ≡ drawn_where (has set M) (node M) p → TellsSketch e (drawn_where (has set B) (node B) q) →
+      TellsSketch e (each_of node (members set) p)
+  third_tells q is h =
+      subst (TellsSketch e) (sym (members_drawn set node p))
+      (where_tells (has set O) (node O) (in_place A (in_place B (in_place M p))) e
+      (where_tells (has set A) (node A) (in_place B (in_place M p)) e (subst (λ (x : Sketch). TellsSketch e (in_place B x)) is h)))
+
+  pub second_tells : (q r : Sketch) → q ≡ drawn_where (has set M) (node M) p → r ≡ drawn_where (has set B) (node B) q →
+      TellsSketch e (drawn_where (has set A) (node A) r) → TellsSketch e (each_of node (members set) p)
+  second_tells q r four three h =
+      subst (TellsSketch e) (sym (members_drawn set node p))
+      (where_tells (has set O) (node O) (in_place A (in_place B (in_place M p))) e
+      (subst (λ (x : Sketch). TellsSketch e (in_place A x)) (three ∙ ap (in_place B) four) h))
+
 -- an answer that is an error
 pub err_tells : {T : Type 0} (r : Result T ProductError) (e : ProductError) (p : Sketch) → r ≡ Err e → TellsSketch e p →
     IfErr r (λ (x : ProductError). TellsSketch x p)
 err_tells {T} r e p is h = subst (λ (q : Result T ProductError). IfErr q (λ (x : ProductError). TellsSketch x p)) (sym is) h
+
+pub each_err : (set : Copies) (node : Copy → Node) (p q r s : Sketch) → q ≡ drawn_where (has set M) (node M) p →
+    r ≡ drawn_where (has set B) (node B) q → s ≡ drawn_where (has set A) (node A) r → {T : Type 0} (done : Result T ProductError) →
+    IfErr done (λ (e : ProductError). TellsSketch e (drawn_where (has set O) (node O) s)) →
+    IfErr done (λ (e : ProductError). TellsSketch e (each_of node (members set) p))
+each_err set node p q r s four three two done h =
+    subst (λ (t : Sketch). IfErr done (λ (e : ProductError). TellsSketch e t))
+    (each_drawn set node p q r s (drawn_where (has set O) (node O) s) four three two refl) h

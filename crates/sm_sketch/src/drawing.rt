@@ -19,13 +19,13 @@ ghost use Rattle.sm_sketch.specs.Sketches.{then_draw, each_of};
 ghost use Rattle.sm_sketch.specs.SketchViews.{sketch_in, IsSketchReady, AreSketchesReady};
 
 use crate::error::ProductError;
-use crate::extent::{all_beside, beside, with_branching, with_node};
+use crate::extent::{over_all, over_two, with_node};
 use crate::sketch::{Extent, Sketch, SketchEnd, Sketches};
 use sm_expand::{Simple, Simples};
 use sm_moves::has;
 use sm_plan::Formulas;
 use sm_syntax::{CopyName, PerCopy};
-use std::alloc::Global;
+use std::alloc::{AllocError, Global};
 use std::rc::Rc;
 
 // How a copy does its first statement.
@@ -177,6 +177,20 @@ pub fn each_summary(next: Sketch, set: u8) -> Result<Sketch, ProductError>
     each_simple(next, set, Way::Summary)
 }
 
+// Two sketches in boxes.
+fn boxed(
+    alloc: Global,
+    one: Sketch,
+    other: Sketch,
+) -> Result<(Box<Sketch>, Box<Sketch>), AllocError>
+    ensures one { IfOk result (λ p. p.0.value ≡ one) }
+    ensures other { IfOk result (λ p. p.1.value ≡ other) }
+{
+    let one = Box::new(alloc, one)?;
+    let other = Box::new(alloc, other)?;
+    Ok((one, other))
+}
+
 /// A fork of a copy: what is drawn where it takes the first block, and where it takes the second.
 pub fn forking(
     alloc: Global,
@@ -195,10 +209,8 @@ pub fn forking(
         IfErr result (λ e. TellsSketch e (plain.forking (copy_named copy)
         (sketch_in sorts trees one) (sketch_in sorts trees other))) }
 {
-    let below = beside(one.extent, other.extent)?;
-    let extent = with_branching(below)?;
-    let one = Box::new(alloc, one)?;
-    let other = Box::new(alloc, other)?;
+    let extent = over_two(one.extent, other.extent)?;
+    let (one, other) = boxed(alloc, one, other)?;
     Ok(Sketch {
         straight: no_simples(alloc),
         last: SketchEnd::Fork {
@@ -235,8 +247,7 @@ pub fn looped(
         (plain.looped (forms_in sorts trees templates.list.items) (set_of set) turn
         (sketch_in sorts trees after))) }
 {
-    let below = all_beside(turns.as_slice(), after.extent)?;
-    let extent = with_branching(below)?;
+    let extent = over_all(turns.as_slice(), after.extent)?;
     let templates = Rc::new(alloc, templates)?;
     let after = Box::new(alloc, after)?;
     Ok(Sketch {
@@ -273,11 +284,9 @@ pub fn apart(
         (plain.apart (forms_in sorts trees templates.list.items) (of_copy counts)
         (sketch_in sorts trees inner) (sketch_in sorts trees after))) }
 {
-    let below = beside(inner.extent, after.extent)?;
-    let extent = with_branching(below)?;
+    let extent = over_two(inner.extent, after.extent)?;
     let templates = Rc::new(alloc, templates)?;
-    let inner = Box::new(alloc, inner)?;
-    let after = Box::new(alloc, after)?;
+    let (inner, after) = boxed(alloc, inner, after)?;
     Ok(Sketch {
         straight: no_simples(alloc),
         last: SketchEnd::Block {

@@ -40,7 +40,7 @@ pub(crate) fn with_node(below: Extent) -> Result<Extent, ProductError>
 }
 
 // That of one more node, which branches.
-pub(crate) fn with_branching(below: Extent) -> Result<Extent, ProductError>
+fn with_branching(below: Extent) -> Result<Extent, ProductError>
     ensures nodes { IfOk result (λ e. e.nodes ≡ below.nodes + 1) }
     ensures branches { IfOk result (λ e. e.branches ≡ below.branches + 1) }
     ensures err { IfErr result (λ e. TellsExtent e (below.nodes + 1) (below.branches + 1)) }
@@ -52,7 +52,7 @@ pub(crate) fn with_branching(below: Extent) -> Result<Extent, ProductError>
 }
 
 // That of two sketches, side by side.
-pub(crate) fn beside(one: Extent, other: Extent) -> Result<Extent, ProductError>
+fn beside(one: Extent, other: Extent) -> Result<Extent, ProductError>
     ensures nodes { IfOk result (λ e. e.nodes ≡ one.nodes + other.nodes) }
     ensures branches { IfOk result (λ e. e.branches ≡ max one.branches other.branches) }
     ensures err { IfErr result (λ e.
@@ -65,8 +65,31 @@ pub(crate) fn beside(one: Extent, other: Extent) -> Result<Extent, ProductError>
     within(one.nodes + other.nodes, deepest)
 }
 
+// That of a branching node over two sketches.
+pub(crate) fn over_two(one: Extent, other: Extent) -> Result<Extent, ProductError>
+    ensures nodes { IfOk result (λ e. e.nodes ≡ one.nodes + other.nodes + 1) }
+    ensures branches { IfOk result (λ e. e.branches ≡ max one.branches other.branches + 1) }
+    ensures err { IfErr result (λ e. TellsExtent e (one.nodes + other.nodes + 1)
+        (max one.branches other.branches + 1)) }
+{
+    let below = beside(one, other)?;
+    with_branching(below)
+}
+
+// That of a branching node over several sketches and another one.
+pub(crate) fn over_all(sketches: &[Sketch], after: Extent) -> Result<Extent, ProductError>
+    ensures nodes { IfOk result (λ e. e.nodes ≡ total_nodes sketches.now + after.nodes + 1) }
+    ensures branches { IfOk result (λ e.
+        e.branches ≡ max (most_branches sketches.now) after.branches + 1) }
+    ensures err { IfErr result (λ e. TellsExtent e (total_nodes sketches.now + after.nodes + 1)
+        (max (most_branches sketches.now) after.branches + 1)) }
+{
+    let below = all_beside(sketches, after)?;
+    with_branching(below)
+}
+
 // That of several sketches and another one, side by side.
-pub(crate) fn all_beside(sketches: &[Sketch], after: Extent) -> Result<Extent, ProductError>
+fn all_beside(sketches: &[Sketch], after: Extent) -> Result<Extent, ProductError>
     ensures nodes { IfOk result (λ e. e.nodes ≡ total_nodes sketches.now + after.nodes) }
     ensures branches { IfOk result (λ e.
         e.branches ≡ max (most_branches sketches.now) after.branches) }

@@ -21,30 +21,17 @@ returns-clause-ready c = λ sorts trees few forms each last.
     loops_ready sorts trees _ c.args.set c.args.templates.list.items c.args.turns.items c.args.after c.no_simples.ensures
     (loop_end c.args.set c.in_ok-templates.templates turns c.in_ok-after.after c.args.templates c.args.turns.items c.args.after
     (search rules) (rolled_are c.args.turns) (search rules))
-    (c.in_ok-extent.ensures.nodes ∙ ap (λ (m : ℕ). m + 1) c.in_ok-below.ensures.nodes
-    ∙ ap (λ (m : ℕ). m + after.nodes + 1) (ap total_nodes c.as_slice.ensures.value))
-    (c.in_ok-extent.ensures.branches ∙ ap (λ (m : ℕ). m + 1) c.in_ok-below.ensures.branches
-    ∙ ap (λ (m : ℕ). max m after.branches + 1) (ap most_branches c.as_slice.ensures.value)) (few, forms) each last
+    (c.in_ok-extent.ensures.nodes ∙ ap (λ (m : ℕ). m + after.nodes + 1) (ap total_nodes c.as_slice.ensures.value))
+    (c.in_ok-extent.ensures.branches ∙ ap (λ (m : ℕ). max m after.branches + 1) (ap most_branches c.as_slice.ensures.value))
+    (few, forms) each last
 
-pub returns-in_err-below-clause-err : goal.returns-in_err-below-clause-err
-returns-in_err-below-clause-err c = λ sorts trees turn same each last.
-    let e = c.in_err-below.field-0.0 in
+pub returns-in_err-extent-clause-err : goal.returns-in_err-extent-clause-err
+returns-in_err-extent-clause-err c = λ sorts trees turn same each last.
+    let e = c.in_err-extent.field-0.0 in
     let ss = c.as_slice.result.now in
     let many = ap total_nodes c.as_slice.ensures.value in
     let deep = ap most_branches c.as_slice.ensures.value in
     err_tells c.from_residual.result e _ (search rules)
     (loops_err sorts trees e c.args.set c.args.templates.list.items c.args.turns.items c.args.after turn
-    (total_nodes ss + c.args.after.extent.nodes) (max (most_branches ss) c.args.after.extent.branches) same (omega (arith, many))
-    (omega (arith, deep)) each last c.in_err-below.ensures.err)
-
-pub returns-in_err-extent-clause-err : goal.returns-in_err-extent-clause-err
-returns-in_err-extent-clause-err c = λ sorts trees turn same each last.
-    let e = c.in_err-extent.field-0.0 in
-    let many = ap total_nodes c.as_slice.ensures.value in
-    let deep = ap most_branches c.as_slice.ensures.value in
-    let nodes = c.in_ok-below.ensures.nodes in
-    let branches = c.in_ok-below.ensures.branches in
-    err_tells c.from_residual-in_err-extent.result e _ (search rules)
-    (loops_err sorts trees e c.args.set c.args.templates.list.items c.args.turns.items c.args.after turn (c.in_ok-below.below.nodes + 1)
-    (c.in_ok-below.below.branches + 1) same (omega (arith, many, nodes)) (omega (arith, deep, branches)) each last
-    c.in_err-extent.ensures.err)
+    (total_nodes ss + c.args.after.extent.nodes + 1) (max (most_branches ss) c.args.after.extent.branches + 1) same (omega (arith, many))
+    (omega (arith, deep)) each last c.in_err-extent.ensures.err)
