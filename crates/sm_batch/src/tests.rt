@@ -104,16 +104,6 @@ fn task_of(alloc: Global, text: &str) -> Result<Task, TaskError>
     parse_task(alloc, text.as_bytes())
 }
 
-// The empty task and the other.
-fn both_tasks(alloc: Global) -> Result<Vec<Task>, Fail>
-    ensures { IfOk result (λ ts. All (λ t. HasText (parts_of t)) ts.items) }
-{
-    let mut tasks = Vec::new(alloc);
-    tasks.push(task_of(alloc, EMPTY)?)?;
-    tasks.push(task_of(alloc, OTHER)?)?;
-    Ok(tasks)
-}
-
 // The empty task, the other and the empty one again, in groups of one. Answers how many hits and
 // how many answers there were.
 fn hits_and_answers<R: Threads + Sync>(
@@ -139,23 +129,5 @@ fn a_hit_spares_an_answer(rt: HostRuntime) -> Result<(), Fail> {
 #[test]
 fn a_certificate_that_is_not_taken_is_no_hit(rt: HostRuntime) -> Result<(), Fail> {
     assert!(rt; hits_and_answers(&rt, rt.alloc(), false)? == (0, 3));
-    Ok(())
-}
-
-#[test]
-fn replies_stand_in_the_order_of_the_tasks(rt: HostRuntime) -> Result<(), Fail> {
-    let alloc = rt.alloc();
-    let mut batch = Batch::new(alloc, Echo { eager: true }, 1)?;
-    let answers = AtomicU64::new(0);
-    let tasks = both_tasks(alloc)?;
-    let first = replies_to(&rt, alloc, &mut batch, &tasks, 2, &answers)?;
-    let again = replies_to(&rt, alloc, &mut batch, &tasks, 64, &answers)?;
-    assert!(rt; first.len() == 2);
-    assert!(rt; first == again);
-    // The text of the empty task is the shorter one.
-    if let [one, two] = first.as_slice() {
-        assert!(rt; one.len() < two.len());
-    }
-    assert!(rt; batch.hits() == 1);
     Ok(())
 }

@@ -171,8 +171,7 @@ pub fn each_summary(next: Sketch, set: u8) -> Result<Sketch, ProductError>
         IsSketchReady sorts trees next → IfOk result (IsSketchReady sorts trees) }
     ensures err { (sorts : Sorts) (trees : List Tree) →
         IsSketchReady sorts trees next → IfErr result (λ e.
-        TellsSketch e
-        (each_of (λ c. Abs c 1) (members (set_of set)) (sketch_in sorts trees next))) }
+        TellsSketch e (each_of (λ c. Abs c 1) (members (set_of set)) (sketch_in sorts trees next))) }
 {
     each_simple(next, set, Way::Summary)
 }
@@ -222,8 +221,7 @@ pub fn forking(
     })
 }
 
-/// The loops of a set, with a turn for each subset that has a copy, by ascending mask, and what
-/// follows.
+/// The loops of a set, a turn for each subset that has a copy by ascending mask, and what follows.
 pub fn looped(
     alloc: Global,
     set: u8,
@@ -243,9 +241,8 @@ pub fn looped(
     ensures err { (sorts : Sorts) (trees : List Tree) (turn : Copies → plain.Sketch) →
         map (sketch_in sorts trees) turns.items ≡ map turn (subsets (set_of set)) →
         AreSketchesReady sorts trees turns.items → IsSketchReady sorts trees after →
-        IfErr result (λ e. TellsSketch e
-        (plain.looped (forms_in sorts trees templates.list.items) (set_of set) turn
-        (sketch_in sorts trees after))) }
+        IfErr result (λ e. TellsSketch e (plain.looped (forms_in sorts trees templates.list.items)
+        (set_of set) turn (sketch_in sorts trees after))) }
 {
     let extent = over_all(turns.as_slice(), after.extent)?;
     let templates = Rc::new(alloc, templates)?;
@@ -280,9 +277,8 @@ pub fn apart(
         IfOk result (IsSketchReady sorts trees) }
     ensures err { (sorts : Sorts) (trees : List Tree) →
         IsSketchReady sorts trees inner → IsSketchReady sorts trees after →
-        IfErr result (λ e. TellsSketch e
-        (plain.apart (forms_in sorts trees templates.list.items) (of_copy counts)
-        (sketch_in sorts trees inner) (sketch_in sorts trees after))) }
+        IfErr result (λ e. TellsSketch e (plain.apart (forms_in sorts trees templates.list.items)
+        (of_copy counts) (sketch_in sorts trees inner) (sketch_in sorts trees after))) }
 {
     let extent = over_two(inner.extent, after.extent)?;
     let templates = Rc::new(alloc, templates)?;
