@@ -19,23 +19,34 @@
 
 mod case;
 mod content;
+mod fault;
 mod meeting;
+mod report;
 
-use anyhow::{Context, Result};
+use crate::fault::Fault;
 use serde_json::Value;
 use sm_io::{OutSink, put_all};
+use std::alloc::Global;
 use std::{env, fs};
 
-fn main(rt: HostRuntime) -> Result<()> {
+fn main(rt: HostRuntime) -> Result<(), Fault> {
     let mut out = OutSink::new(&rt);
-    let mut names = env::args(&rt)?;
+    let mut names = env::args(&rt).or(Err(Fault::System))?;
     let _program = names.next();
     for name in names {
-        let text = fs::read_to_string(&rt, &name)?;
-        let cases = Value::from_str(rt.alloc(), &text)?;
-        for case in cases.as_array().context("a file of cases is an array")? {
+        let text = fs::read_to_string(&rt, &name).or(Err(Fault::System))?;
+        let cases = cases_of(rt.alloc(), &text)?;
+        for case in &cases {
             put_all(&mut out, &case::report(&rt, rt.alloc(), case)?)?;
         }
     }
     Ok(())
+}
+
+// The cases of a file.
+fn cases_of(alloc: Global, text: &str) -> Result<Vec<Value>, Fault> {
+    match Value::from_str(alloc, text) {
+        Ok(Value::Array(cases)) => Ok(cases),
+        _ => Err(Fault::Form("a file of cases is an array")),
+    }
 }

@@ -1,6 +1,6 @@
 // A gate in which two jobs meet, which no answer shows.
 
-use anyhow::{Result, bail};
+use crate::fault::Fault;
 use serde_json::Value;
 use sm_par::{Gate, Phase};
 use std::sync::atomic::{AtomicBool, AtomicU64, Ordering};
@@ -20,14 +20,14 @@ pub struct Meeting {
 
 impl Meeting {
     /// For the phase and the seconds that a case names.
-    pub fn of(case: &Value) -> Result<Meeting> {
+    pub fn of(case: &Value) -> Result<Meeting, Fault> {
         let phase = match case.get("meet").and_then(Value::as_str) {
             None => None,
             Some("trials") => Some(Phase::Trial),
             Some("obligations") => Some(Phase::Obligation),
             Some("certificates") => Some(Phase::Certificate),
             Some("answers") => Some(Phase::Answer),
-            Some(_) => bail!("no phase"),
+            Some(_) => return Err(Fault::Form("no phase")),
         };
         Ok(Meeting {
             phase,
