@@ -115,9 +115,9 @@ final_close P by ds o is h = subst (λ (x : Option Stop). MatchOption x P (Final
 pub none_collected : (v : TableValue) → AreCollected v [] []
 none_collected v = record { within = tt; certified = tt; short = tt }
 
--- a plan that has obligations has no fault
-pub no_fault : {A : Type 0} (r : Result (List Due) Fault) (ds : List Due) (w : Fault) → r ≡ Ok ds → r ≡ Err w → A
-no_fault r ds w asks fails = let no = sym asks ∙ fails in absurd cc
+-- what a plan asks that has obligations
+pub dues_told : (r : Result (List Due) Fault) (all ds : List Due) → r ≡ Ok all → ds ≡ dues_in r → r ≡ Ok ds
+dues_told r all ds asks is = asks ∙ ap (λ (l : List Due). Ok l) (sym (is ∙ ap dues_in asks))
 
 -- a plan that isn't small decides that there are too many
 pub too_many : (t : Parts) (reach : Reach) → is_small t ≡ false →

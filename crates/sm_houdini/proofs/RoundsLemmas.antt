@@ -32,7 +32,7 @@ numbers_same (m ∷ ms) (n ∷ ns) e =
     let rest = numbers_same ms ns both.1 in
     λ i. first i ∷ rest i
 
-same_choices : (xs ys : Choice) → same_choice xs ys ≡ true → xs ≡ ys
+pub same_choices : (xs ys : Choice) → same_choice xs ys ≡ true → xs ≡ ys
 same_choices [] [] e = refl
 same_choices [] (ns ∷ ys) e = absurd cc
 same_choices (ms ∷ xs) [] e = absurd cc

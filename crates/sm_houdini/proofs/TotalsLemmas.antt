@@ -3,7 +3,7 @@ use Rattle.std.proofs.Common.{◌≡◌, ℕ, suc, ◌+◌, ◌-◌, ◌<◌, �
 use Rattle.std.proofs.Common.{refl, sym, ap, ◌∙◌, arith}
 use Rattle.std.specs.Prelude.{Vec}
 use Rattle.std.specs.declared.alloc.Global.{Global}
-use Rattle.std.proofs.lemmas.Bool.{eq-eqb}
+use Rattle.std.proofs.lemmas.Bool.{eq-eqb, eqb-true}
 use Rattle.std.proofs.lemmas.List.{map-append}
 use Rattle.sm_sketch.specs.Choices.{Choice}
 use Rattle.sm_houdini.specs.Marks.{rows}
@@ -12,6 +12,7 @@ use Rattle.sm_term.specs.Assertions.{Assertion}
 use Rattle.sm_houdini.specs.Owners.{owner_of}
 use Rattle.sm_houdini.specs.Rounds.{numbers_kept, sites_kept, total, same_numbers, same_choice, holds_at, dues_of, next_round, settled}
 use Rattle.sm_houdini.proofs.RoundSteps.{settles_now, settles_later}
+use Rattle.sm_houdini.proofs.RoundsLemmas.{same_choices}
 
 -- one site more
 total_more : (choice : Choice) (ns : List ℕ) → total (choice ++ ns ∷ []) ≡ total choice + length ns
@@ -101,22 +102,33 @@ fewer_are_others passes s choice h = by (same_choice (sites_kept passes s choice
     by true e = absurd (h (same_total (sites_kept passes s choice) choice e))
     by false e = e
 
+different : {A : Type 0} → true ≡ false → A
+different e = absurd cc
+
 -- rounds that are left
 module _ (closes : List Assertion → Assertion → Bool) (t : Parts) where
-  pub now_settled : (rounds counter a b : ℕ) (choice later : Choice) → counter < rounds → later ≡ next_round closes t choice →
-      a ≡ total later → b ≡ total choice → a ≡ b → settled (next_round closes t) (rounds - counter) choice ≡ choice
-  now_settled rounds counter a b choice later h is left all same =
-      let none : total (next_round closes t choice) ≡ total choice = ap total (sym is) ∙ sym left ∙ same ∙ all in
+  pub now_settled : (rounds counter : ℕ) (choice later : Choice) → counter < rounds → later ≡ next_round closes t choice →
+      (total later == total choice) ≡ true → later ≡ settled (next_round closes t) (rounds - counter) choice
+  now_settled rounds counter choice later h is stay =
+      let count : total later ≡ total choice = eqb-true (total later) (total choice) stay in
       let some : 0 < rounds - counter = omega (arith, h) in
-      settles_now (next_round closes t) (rounds - counter) choice some
-      (as_many (holds_at closes (owner_of t) (dues_of t choice)) 0 choice none)
+      let same = as_many (holds_at closes (owner_of t) (dues_of t choice)) 0 choice (ap total (sym is) ∙ count) in
+      is ∙ same_choices (next_round closes t choice) choice same
+      ∙ sym (settles_now (next_round closes t) (rounds - counter) choice some same)
 
-  pub later_settled : (rounds counter a b : ℕ) (choice later : Choice) → counter < rounds → later ≡ next_round closes t choice →
-      a ≡ total later → b ≡ total choice → (a ≡ b → ⊥) →
+  pub later_settled : (rounds counter : ℕ) (choice later : Choice) → counter < rounds → later ≡ next_round closes t choice →
+      (total later == total choice) ≡ false →
       settled (next_round closes t) (rounds - counter) choice ≡ settled (next_round closes t) (rounds - (counter + 1)) later
-  later_settled rounds counter a b choice later h is left all apart =
+  later_settled rounds counter choice later h is fewer =
       let step : rounds - counter ≡ suc (rounds - (counter + 1)) = omega (arith, h) in
       settles_later (next_round closes t) (rounds - counter) (rounds - (counter + 1)) choice step
       (fewer_are_others (holds_at closes (owner_of t) (dues_of t choice)) 0 choice
-      (λ (e : total (next_round closes t choice) ≡ total choice). apart (left ∙ ap total is ∙ e ∙ sym all)))
+      (λ (e : total (next_round closes t choice) ≡ total choice).
+      different (sym (eq-eqb (total later) (total choice) (ap total is ∙ e)) ∙ fewer)))
       ∙ ap (settled (next_round closes t) (rounds - (counter + 1))) (sym is)
+
+  pub all_settled : (rounds counter : ℕ) (choice : Choice) → rounds ≤ counter →
+      settled (next_round closes t) (rounds - counter) choice ≡ choice
+  all_settled rounds counter choice past =
+      let none : rounds - counter ≡ 0 = omega (arith, past) in
+      ap (λ (n : ℕ). settled (next_round closes t) n choice) none

@@ -1,21 +1,18 @@
 // What the plan of a task decides.
-ghost use Rattle.std.specs.Prelude.{◌≡◌, true, false, Ok, List, IfOk, MatchOption};
-ghost use Rattle.std.specs.Prelude.{MatchResult};
+ghost use Rattle.std.specs.Prelude.{◌≡◌, true, false, IfOk, MatchOption, MatchResult};
 ghost use Rattle.sm_syntax.specs.text.Parts.{sort_of, task_of};
 ghost use Rattle.sm_syntax.specs.trees.Programs.{declared_of};
 ghost use Rattle.sm_term.specs.Tables.{trees_in, sorts_in};
 ghost use Rattle.sm_term.specs.TableLaws.{ExtendsTable};
 ghost use Rattle.sm_text.specs.Tasks.{parts_of};
 ghost use Rattle.sm_task.specs.Filling.{AreFilled};
-ghost use Rattle.sm_plan.specs.Plans as plans;
-ghost use Rattle.sm_plan.specs.Plans.{obligations};
 ghost use Rattle.sm_plan.specs.SortedStates.{IsTaskSorted};
 ghost use Rattle.sm_plan.specs.Starts.{AreNumbered};
 ghost use Rattle.sm_expand.specs.NumberedPlans.{IsPlanReady};
-ghost use Rattle.sm_expand.specs.Views.{numbered_plan, plan_in, dues_in, AreDuesReady};
+ghost use Rattle.sm_expand.specs.Views.{numbered_plan, plan_in};
 ghost use Rattle.sm_sketch.specs.ChoiceViews.{choice_in};
 ghost use Rattle.sm_sketch.specs.SketchViews.{sketch_in, IsSketchReady};
-ghost use Rattle.sm_product.specs.ProductPlans.{full_choice};
+ghost use Rattle.sm_product.specs.ProductPlans.{full_choice, plan_of};
 ghost use Rattle.sm_product.specs.Products as products;
 ghost use Rattle.sm_product.specs.Sizes as sizes;
 ghost use Rattle.sm_houdini.specs.Closing.{closing, Knows};
@@ -23,16 +20,17 @@ ghost use Rattle.sm_houdini.specs.Rounds.{kept};
 ghost use Rattle.sm_houdini.specs.Searchable.{IsSearchable, TellsPlan, TellsStop, Accepts};
 ghost use Rattle.sm_houdini.specs.Views.{IsProof};
 
+use crate::dues::asked_by;
 use crate::ending::{Stop, end_all, stopped};
 use crate::goal_jobs::Crew;
 use crate::outcome::Outcome;
-use crate::product::Product;
+use crate::product::{Product, Subject};
 use crate::rounds::settled;
 use crate::sites::{Sites, sites_of};
-use sm_expand::{Obligations, Plan, PlanFault};
+use sm_expand::Plan;
 use sm_goals::Proof;
 use sm_par::Gate;
-use sm_product::{is_small, obligations_of, sketch_of};
+use sm_product::{is_small, sketch_of};
 use sm_sided::CertTrees;
 use sm_sketch::{ProductError, Sketch, TemplateChoice, plan_with};
 use sm_solve::Reach;
@@ -42,31 +40,35 @@ use sm_text::Task;
 use std::alloc::{AllocError, Global};
 use std::thread::Threads;
 
-// The obligations of a plan that has some.
-fn all_asked(
+// The certificates of all goals of the plan under the templates that are kept, or why one has none.
+fn certified<R: Threads + Sync, G: Gate>(
+    crew: &Crew<'_, R, G>,
     alloc: Global,
     table: &mut TermTable,
     task: &Task,
     product: &Product,
     plan: &Plan,
-) -> Result<Obligations, AllocError>
+    reach: Reach,
+) -> Result<Result<CertTrees, Stop>, AllocError>
     requires knows { Knows table.old task.now product.now }
+    requires searchable { IsSearchable (parts_of task.now) }
+    requires small { sizes.is_small (parts_of task.now) ≡ true }
+    requires made { let closes = closing (sort_of (declared_of task.now.shared.decls)) reach in
+        plan_in (sorts_in table.old) (trees_in table.old) plan.now
+        ≡ plan_of (parts_of task.now) (kept closes (parts_of task.now)) }
     requires ready { IsPlanReady (sorts_in table.old) (trees_in table.old)
         (numbered_plan plan.now) }
-    requires expands { let p = plan_in (sorts_in table.old) (trees_in table.old) plan.now in
-        (ds : List plans.Due) × (obligations (task_of (parts_of task.now)) p ≡ Ok ds) }
-    ensures dues { let p = plan_in (sorts_in table.old) (trees_in table.old) plan.now in
-        IfOk result (λ o. obligations (task_of (parts_of task.now)) p
-        ≡ Ok (dues_in (sorts_in table.new) (trees_in table.new) o.list.items)) }
-    ensures ready { IfOk result (λ o.
-        AreDuesReady (sorts_in table.new) (trees_in table.new) o.list.items) }
+    ensures ends { IfOk result (λ r. MatchResult r
+        (Accepts (parts_of task.now) reach table.new plan.now)
+        (TellsStop (parts_of task.now) reach)) }
     ensures widens { ExtendsTable table.old table.new }
 {
-    match obligations_of(alloc, table, task, &product.programs, plan) {
-        Ok(dues) => Ok(dues),
-        Err(PlanFault::Wrong { .. }) => unreachable!(),
-        Err(PlanFault::Deep) => unreachable!(),
-        Err(PlanFault::Memory) => Err(AllocError),
+    // A small plan has obligations.
+    let dues = asked_by(alloc, table, task, product, plan)?;
+    let mut list = Vec::new(alloc);
+    match end_all(crew, alloc, table, &dues.list, &mut list, reach)? {
+        Some(stop) => Ok(Err(stop)),
+        None => Ok(Ok(CertTrees { list })),
     }
 }
 
@@ -91,11 +93,9 @@ fn ended<R: Threads + Sync, G: Gate>(
     ensures widens { ExtendsTable table.old table.new }
 {
     let plan = plan_with(alloc, &product.sketch, choice)?;
-    let dues = all_asked(alloc, table, task, product, &plan)?;
-    let mut list = Vec::new(alloc);
-    match end_all(crew, alloc, table, &dues.list, &mut list, reach)? {
-        Some(stop) => Ok(Err(stop)),
-        None => Ok(Ok((plan, CertTrees { list }))),
+    match certified(crew, alloc, table, task, product, &plan, reach)? {
+        Ok(trees) => Ok(Ok((plan, trees))),
+        Err(stop) => Ok(Err(stop)),
     }
 }
 
@@ -153,7 +153,31 @@ fn kept_if_small<R: Threads + Sync, G: Gate>(
     )? {
         return Ok(None);
     }
-    Ok(Some(settled(crew, alloc, table, task, product, full, reach)?))
+    let subject = Subject { task, product };
+    Ok(Some(settled(crew, alloc, table, &subject, full, reach)?))
+}
+
+// What the plan under the templates that are kept decides, where the plan of all is small.
+fn decided_if_small<R: Threads + Sync, G: Gate>(
+    crew: &Crew<'_, R, G>,
+    alloc: Global,
+    table: TermTable,
+    task: &Task,
+    product: &Product,
+    full: TemplateChoice,
+    reach: Reach,
+) -> Result<Outcome, AllocError>
+    requires knows { Knows table task.now product.now }
+    requires searchable { IsSearchable (parts_of task.now) }
+    requires full { choice_in full ≡ full_choice (parts_of task.now) }
+    ensures tells { IfOk result (TellsPlan (parts_of task.now) reach) }
+    ensures proof { IfOk result (IsProof (parts_of task.now)) }
+{
+    let mut table = table;
+    match kept_if_small(crew, alloc, &mut table, task, product, full, reach)? {
+        Some(kept) => decided(crew, alloc, table, task, product, &kept, reach),
+        None => Ok(Outcome::TooMany),
+    }
 }
 
 // What the plan of a sketch decides.
@@ -178,17 +202,13 @@ fn decided_by<R: Threads + Sync, G: Gate>(
     ensures tells { IfOk result (TellsPlan (parts_of task.now) reach) }
     ensures proof { IfOk result (IsProof (parts_of task.now)) }
 {
-    let mut table = table;
     let Sites { owners, full } = sites_of(alloc, &sketch)?;
     let product = Product {
         programs,
         sketch,
         owners,
     };
-    match kept_if_small(crew, alloc, &mut table, task, &product, full, reach)? {
-        Some(kept) => decided(crew, alloc, table, task, &product, &kept, reach),
-        None => Ok(Outcome::TooMany),
-    }
+    decided_if_small(crew, alloc, table, task, &product, full, reach)
 }
 
 /// What the plan of a task decides.

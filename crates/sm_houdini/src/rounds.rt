@@ -1,5 +1,5 @@
 // Rounds: templates are dropped until each goal of those that are left closes.
-ghost use Rattle.std.specs.Prelude.{◌≡◌, IfOk, OnOk};
+ghost use Rattle.std.specs.Prelude.{◌≡◌, ◌==◌, IfOk, OnOk};
 ghost use Rattle.sm_syntax.specs.text.Parts.{sort_of};
 ghost use Rattle.sm_syntax.specs.trees.Programs.{declared_of};
 ghost use Rattle.sm_term.specs.TableLaws.{ExtendsTable};
@@ -16,12 +16,11 @@ use crate::goal_jobs::{Crew, marks_after};
 use crate::judging::Round;
 use crate::known::known_dues;
 use crate::marks::kept_choice;
-use crate::product::Product;
+use crate::product::Subject;
 use sm_par::Gate;
 use sm_sketch::TemplateChoice;
 use sm_solve::Reach;
 use sm_term::TermTable;
-use sm_text::Task;
 use std::alloc::{AllocError, Global};
 use std::thread::Threads;
 
@@ -31,22 +30,23 @@ fn next_round<R: Threads + Sync, G: Gate>(
     crew: &Crew<'_, R, G>,
     alloc: Global,
     table: &mut TermTable,
-    task: &Task,
-    product: &Product,
+    subject: &Subject<'_>,
     choice: &TemplateChoice,
     before: &mut Option<Asked>,
     reach: Reach,
 ) -> Result<TemplateChoice, AllocError>
-    requires knows { Knows table.old task.now product.now }
-    requires before { IsAskedBefore table.old reach product.now.owners.items before.old }
-    ensures next { let closes = closing (sort_of (declared_of task.now.shared.decls)) reach in
+    requires knows { Knows table.old subject.now.task.now subject.now.product.now }
+    requires before { IsAskedBefore table.old reach subject.now.product.now.owners.items before.old }
+    ensures next { let t = subject.now.task.now in
+        let closes = closing (sort_of (declared_of t.shared.decls)) reach in
         IfOk result (λ c. choice_in c
-        ≡ plain.next_round closes (parts_of task.now) (choice_in choice.now)) }
+        ≡ plain.next_round closes (parts_of t) (choice_in choice.now)) }
     ensures before { OnOk result (
-        IsAskedBefore table.new reach product.now.owners.items before.new) }
+        IsAskedBefore table.new reach subject.now.product.now.owners.items before.new) }
     ensures widens { ExtendsTable table.old table.new }
 {
-    let dues = dues_of(alloc, table, task, product, choice)?.list;
+    let product = subject.product;
+    let dues = dues_of(alloc, table, subject.task, product, choice)?.list;
     let owners = product.owners.as_slice();
     let known = known_dues(alloc, before, owners, &dues)?;
     let round = Round {
@@ -61,42 +61,84 @@ fn next_round<R: Threads + Sync, G: Gate>(
     Ok(next)
 }
 
+// Takes the next round of a choice, and tells whether all its templates stay.
+fn all_stay<R: Threads + Sync, G: Gate>(
+    crew: &Crew<'_, R, G>,
+    alloc: Global,
+    table: &mut TermTable,
+    subject: &Subject<'_>,
+    choice: &mut TemplateChoice,
+    before: &mut Option<Asked>,
+    reach: Reach,
+) -> Result<bool, AllocError>
+    requires knows { Knows table.old subject.now.task.now subject.now.product.now }
+    requires before { IsAskedBefore table.old reach subject.now.product.now.owners.items before.old }
+    ensures next { let t = subject.now.task.now in
+        let closes = closing (sort_of (declared_of t.shared.decls)) reach in
+        OnOk result (choice_in choice.new
+        ≡ plain.next_round closes (parts_of t) (choice_in choice.old)) }
+    ensures stay { IfOk result (λ b.
+        b ≡ (plain.total (choice_in choice.new) == plain.total (choice_in choice.old))) }
+    ensures before { OnOk result (
+        IsAskedBefore table.new reach subject.now.product.now.owners.items before.new) }
+    ensures widens { ExtendsTable table.old table.new }
+{
+    let count = total(choice)?;
+    let next = next_round(crew, alloc, table, subject, choice, before, reach)?;
+    *choice = next;
+    let left = total(choice)?;
+    // A round only drops templates.
+    Ok(left == count)
+}
+
+// Drops templates of a choice, round by round, up to the first round in which all stay.
+fn settle<R: Threads + Sync, G: Gate>(
+    crew: &Crew<'_, R, G>,
+    alloc: Global,
+    table: &mut TermTable,
+    subject: &Subject<'_>,
+    choice: &mut TemplateChoice,
+    before: &mut Option<Asked>,
+    reach: Reach,
+) -> Result<(), AllocError>
+    requires knows { Knows table.old subject.now.task.now subject.now.product.now }
+    requires before { IsAskedBefore table.old reach subject.now.product.now.owners.items before.old }
+    ensures settled { let t = subject.now.task.now in
+        let closes = closing (sort_of (declared_of t.shared.decls)) reach in
+        let next = plain.next_round closes (parts_of t) in
+        OnOk result (choice_in choice.new
+        ≡ plain.settled next (plain.total (choice_in choice.old)) (choice_in choice.old)) }
+    ensures widens { ExtendsTable table.old table.new }
+{
+    let rounds = total(choice)?;
+    for _ in 0..rounds {
+        let stay = all_stay(crew, alloc, table, subject, choice, before, reach)?;
+        if stay {
+            return Ok(());
+        }
+    }
+    Ok(())
+}
+
 /// The first choice that equals its next, from this one on, which is the choice of all templates.
 pub(crate) fn settled<R: Threads + Sync, G: Gate>(
     crew: &Crew<'_, R, G>,
     alloc: Global,
     table: &mut TermTable,
-    task: &Task,
-    product: &Product,
+    subject: &Subject<'_>,
     full: TemplateChoice,
     reach: Reach,
 ) -> Result<TemplateChoice, AllocError>
-    requires knows { Knows table.old task.now product.now }
-    ensures settled { let closes = closing (sort_of (declared_of task.now.shared.decls)) reach in
-        let next = plain.next_round closes (parts_of task.now) in
+    requires knows { Knows table.old subject.now.task.now subject.now.product.now }
+    ensures settled { let t = subject.now.task.now in
+        let closes = closing (sort_of (declared_of t.shared.decls)) reach in
+        let next = plain.next_round closes (parts_of t) in
         IfOk result (λ c. choice_in c
         ≡ plain.settled next (plain.total (choice_in full)) (choice_in full)) }
     ensures widens { ExtendsTable table.old table.new }
 {
-    let rounds = total(&full)?;
     let mut choice = full;
     let mut before = None;
-    for _ in 0..rounds {
-        let next = next_round(
-            crew,
-            alloc,
-            table,
-            task,
-            product,
-            &choice,
-            &mut before,
-            reach,
-        )?;
-        // A round only drops templates.
-        if total(&next)? == total(&choice)? {
-            return Ok(choice);
-        }
-        choice = next;
-    }
+    settle(crew, alloc, table, subject, &mut choice, &mut before, reach)?;
     Ok(choice)
 }

@@ -1,22 +1,12 @@
-use Rattle.std.proofs.Common.{◌≡◌, true, false, None, ap, ◌∙◌}
-use Rattle.std.proofs.lemmas.Option.{MatchOption-at_some}
-use Rattle.sm_syntax.specs.text.Parts.{sort_of}
-use Rattle.sm_syntax.specs.trees.Programs.{declared_of}
-use Rattle.sm_text.specs.Tasks.{parts_of}
+use Rattle.std.proofs.Common.{None, ap, ◌∙◌}
 use Rattle.sm_term.specs.Tables.{trees_in, sorts_in}
-use Rattle.sm_sketch.specs.declared.kept.TemplateChoice.{TemplateChoice}
-use Rattle.sm_sketch.specs.ChoiceViews.{choice_in}
-use Rattle.sm_product.specs.Sizes.{is_small}
-use Rattle.sm_houdini.specs.Closing.{closing}
 use Rattle.sm_houdini.specs.Owners.{owners}
-use Rattle.sm_houdini.specs.Rounds.{kept}
-use Rattle.sm_houdini.proofs.RoundSteps.{knows_stays}
 use Rattle.sm_houdini.proofs.deciding.decided_by.Goals as goal
 
-pub decided-requires-clause-knows : goal.decided-requires-clause-knows
-decided-requires-clause-knows g c κs within =
+pub decided_if_small-requires-clause-knows : goal.decided_if_small-requires-clause-knows
+decided_if_small-requires-clause-knows g c κs within =
     let v = c.args.table in
-    knows_stays v c.kept_if_small.new.table c.in_ok-kept.ensures.widens c.args.task.now _ (record {
+    record {
       declared = c.requires.declared;
       numbered = c.requires.numbered;
       sorted = c.requires.sorted;
@@ -24,11 +14,4 @@ decided-requires-clause-knows g c κs within =
       sketch = c.requires.sketch;
       ready = c.requires.ready;
       owned = c.in_ok-owners.ensures.owners (sorts_in v) (trees_in v) ∙ ap (owners None 0) c.requires.sketch;
-    })
-
-pub decided-requires-clause-kept : goal.decided-requires-clause-kept
-decided-requires-clause-kept g c κs within =
-    let t = parts_of c.args.task.now in
-    let closes = closing (sort_of (declared_of c.args.task.now.shared.decls)) c.args.reach in
-    (MatchOption-at_some (is_small t ≡ false) (λ (k : TemplateChoice). (is_small t ≡ true) × (choice_in k ≡ kept closes t)) c.in-Some.kept
-    c.in-Some.is c.in_ok-kept.ensures.kept).1
+    }

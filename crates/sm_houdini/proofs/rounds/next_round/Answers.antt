@@ -19,7 +19,8 @@ marks_after-requires-clause-known g c κs within =
     let v = c.args.table.now in
     let w = c.dues_of.new.table in
     let reach = c.args.reach in
-    let before = asked_stays v w c.in_ok-dues.ensures.widens reach c.args.product.now.owners.items c.args.before.now c.requires.before in
+    let owners = c.args.subject.now.product.now.owners.items in
+    let before = asked_stays v w c.in_ok-dues.ensures.widens reach owners c.args.before.now c.requires.before in
     let known = c.in_ok-known.ensures w reach
     (subst (λ (os : List (Option ℕ)). IsAskedBefore w reach os c.args.before.now) (sym c.as_slice-owners.ensures.value) before) in
     subst (λ (ds : List Due). AreKnown w reach ds c.deref-3.result.now) (c.deref.ensures.value ∙ sym c.deref-2.ensures.value)
@@ -36,7 +37,7 @@ returns-in_err-next-clause-widens g c =
 pub returns-clause-next : goal.returns-clause-next
 returns-clause-next g c =
     let w = c.dues_of.new.table in
-    let t = parts_of c.args.task.now in
+    let t = parts_of c.args.subject.now.task.now in
     round_is t (sorts_in w) c.args.reach c.as_slice-owners.result.now (dues_in (sorts_in w) (trees_in w) c.deref-2.result.now)
     (choice_in c.args.choice.now) (choice_in c.in_ok-next.next) (rows c.in_ok-marks.marks.sites.items)
     (c.in_ok-dues.ensures.widens.sorts ∙ c.requires.knows.declared) (c.as_slice-owners.ensures.value ∙ c.requires.knows.owned)
@@ -48,7 +49,7 @@ returns-clause-before g c =
     let w = c.dues_of.new.table in
     let u = c.marks_after.new.table in
     let reach = c.args.reach in
-    let owners = c.args.product.now.owners.items in
+    let owners = c.args.subject.now.product.now.owners.items in
     let asked : Asked = record { dues = c.in_ok-dues.field-0.list; marks = c.in_ok-marks.marks } in
     left_asked u reach owners asked c.for_next.result c.for_next.ensures.dues c.for_next.ensures.marks
     (asked_stays w u c.in_ok-marks.ensures.widens reach owners (Some asked)

@@ -8,15 +8,15 @@ use Rattle.sm_sketch.specs.ChoiceViews.{choice_in}
 use Rattle.sm_houdini.specs.Closing.{closing}
 use Rattle.sm_houdini.specs.Known.{IsAskedBefore}
 use Rattle.sm_houdini.specs.Rounds.{next_round, settled, total}
-use Rattle.sm_houdini.proofs.rounds.settled.Given as goal
+use Rattle.sm_houdini.proofs.rounds.settle.Given as goal
 
 abbrev pub invariant-loop : goal.invariant-loop
 invariant-loop g l = record {
   settles :
-      settled (next_round (closing (sort_of (declared_of l.task.shared.decls)) l.reach) (parts_of l.task)) (l.rounds - l.counter)
-      (choice_in l.choice)
-      ≡ settled (next_round (closing (sort_of (declared_of l.task.shared.decls)) l.reach) (parts_of l.task))
+      settled (next_round (closing (sort_of (declared_of l.subject.task.now.shared.decls)) l.reach) (parts_of l.subject.task.now))
+      (l.rounds - l.counter) (choice_in l.choice)
+      ≡ settled (next_round (closing (sort_of (declared_of l.subject.task.now.shared.decls)) l.reach) (parts_of l.subject.task.now))
       (total (choice_in l.initial.choice)) (choice_in l.initial.choice);
-  before : IsAskedBefore l.table l.reach l.product.owners.items l.before;
+  before : IsAskedBefore l.table l.reach l.subject.product.now.owners.items l.before;
   widens : ExtendsTable l.initial.table l.table;
 }
