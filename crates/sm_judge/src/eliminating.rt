@@ -46,15 +46,17 @@ pub enum ByForms {
     Coefficient { op: Op, a: i128, b: i128 },
 }
 
-/// So many steps were taken, and so many may be.
+/// How far a walk is.
 #[derive(Clone, Copy)]
-pub(crate) struct Progress {
-    pub(crate) count: u64,
-    pub(crate) steps: u64,
+pub struct Progress {
+    /// So many steps were taken.
+    pub count: u64,
+    /// So many may be.
+    pub steps: u64,
 }
 
-/// What the forms of the branch of these facts come to after `count` steps of `steps`; its terms
-/// are those of the table, the forms those of the terms, and labels tell their classes.
+/// What the forms of the branch of these facts come to after the steps so far; its terms are those
+/// of the table, the forms those of the terms, and labels tell their classes.
 pub fn by_forms<S: Sees>(
     alloc: Global,
     sees: &S,
@@ -62,26 +64,24 @@ pub fn by_forms<S: Sees>(
     table: &TermTable,
     forms: &[LinForm],
     facts: &[Formula],
-    steps: u64,
-    count: u64,
+    so_far: Progress,
 ) -> Result<ByForms, AllocError>
     requires table { S.trees sees.now ≡ trees_in table.now }
     requires labels { AreLabels (trees_in table.now) (S.equal sees.now) labels.now }
     requires forms { AreAllForms (trees_in table.now) forms.now }
     requires facts { AreFormulasWithin (length (trees_in table.now)) (all_numbered facts.now) }
-    requires counted { count ≤ steps }
+    requires counted { so_far.count ≤ so_far.steps }
     ensures forms { let trees = trees_in table.now in
         let b = seen_in (sorts_in table.now) trees trees facts.now
         (S.equal sees.now) (S.apart sees.now) in
-        (next : ℕ → Walked) → IfOk result (λ r.
-        TellsForms r (by_forms steps count (length trees) (forms_of b) next) next) }
+        (next : ℕ → Walked) → IfOk result (λ r. TellsForms r
+        (by_forms so_far.steps so_far.count (length trees) (forms_of b) next) next) }
     ensures why { let trees = trees_in table.now in
         let b = seen_in (sorts_in table.now) trees trees facts.now
         (S.equal sees.now) (S.apart sees.now) in
         IfOk result (λ r. ShowsWhy b r) }
-    ensures counted { IfOk result (λ r. IsCountWithin steps r) }
+    ensures counted { IfOk result (λ r. IsCountWithin so_far.steps r) }
 {
-    let so_far = Progress { count, steps };
     match forms_of(alloc, sees, labels, table, forms, facts) {
         Ok(made) => eliminate(alloc, made, table.len(), so_far),
         Err(NumError::Beyond { op, a, b }) => Ok(ByForms::Coefficient { op, a, b }),

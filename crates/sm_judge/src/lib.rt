@@ -28,7 +28,7 @@ mod term_places;
 mod torn;
 
 pub use closing::{BranchSplit, Closing, closed_by, split_of};
-pub use eliminating::{ByForms, ElimLine, Refutation, by_forms};
+pub use eliminating::{ByForms, ElimLine, Progress, Refutation, by_forms};
 pub use forms::{Source, SourcedForms, forms_by_labels, forms_of};
 pub use linears::{add_linear_forms, linear_forms};
 pub use term_places::terms_have_places;

@@ -37,7 +37,7 @@ use crate::visiting::{Visit, are_few, visit_classes};
 use sm_cc::Classes;
 use sm_cert::CertTree;
 use sm_certify::{Base, all_terms};
-use sm_judge::{ByForms, by_forms, closed_by, forms_of};
+use sm_judge::{ByForms, Progress, by_forms, closed_by, forms_of};
 use sm_num::{LinForm, NumError};
 use sm_pairs::Sees;
 use sm_term::{Formula, TermTable, Terms};
@@ -191,7 +191,8 @@ fn why_inconsistent<'a>(
     if closed_by(alloc, classes, &labels, table, forms, facts)?.is_some() {
         return Ok(Some(InconsistentBy::Classes));
     }
-    match by_forms(alloc, classes, &labels, table, forms, facts, steps, 1)? {
+    let so_far = Progress { count: 1, steps };
+    match by_forms(alloc, classes, &labels, table, forms, facts, so_far)? {
         ByForms::Contradiction {
             count,
             refutation: _refutation,

@@ -26,7 +26,7 @@ use crate::deciding::{Decision, decide_forms};
 use sm_cc::Classes;
 use sm_cert::CertTree;
 use sm_certify::{Base, closing_tree, exact_tree, refutation_tree};
-use sm_judge::{BranchSplit, ByForms, by_forms, closed_by, split_of};
+use sm_judge::{BranchSplit, ByForms, Progress, by_forms, closed_by, split_of};
 use sm_num::Op;
 use sm_term::Formula;
 use std::alloc::{AllocError, Global};
@@ -181,16 +181,11 @@ fn visit_forms<'a>(
         IfOk result (ShowsVisit sorts trees all) }
     ensures counted { IfOk result (IsVisitCounted cx.now.reach.steps) }
 {
-    match by_forms(
-        alloc,
-        classes,
-        labels,
-        cx.table,
-        cx.forms,
-        facts,
-        cx.reach.steps,
+    let so_far = Progress {
         count,
-    )? {
+        steps: cx.reach.steps,
+    };
+    match by_forms(alloc, classes, labels, cx.table, cx.forms, facts, so_far)? {
         ByForms::Contradiction {
             count: at,
             refutation,
