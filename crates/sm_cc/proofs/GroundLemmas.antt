@@ -330,6 +330,10 @@ given_same (x ∷ xs) (y ∷ ys) e f =
         ∙ ap (λ (n : ℕ). let made : Given = record { fact = h.fact; left = n; right = g.right } in made) f
         ∙ ap (λ (n : ℕ). let made : Given = record { fact = h.fact; left = h.left; right = n } in made) k
 
+-- a base has a row for each of its terms
+pub rows_of_base : (v : ClassesValue) (g : BaseClasses) (n : Numbering) → AreBaseClasses v g n → length g.closure.rows.items ≡ length v.terms
+rows_of_base v g n is = is.classes.rows_stand.count ∙ length-map v.terms (λ (t : TermId). tree_at (trees_in v.table) t.0)
+
 module _ (old new : ClassesValue) (g : BaseClasses) (n : Numbering) (is : AreBaseClasses old g n) (led : IsLedBy old new) where
   abbrev ts : List Tree
   ts = (setting_of old).terms
@@ -343,30 +347,6 @@ module _ (old new : ClassesValue) (g : BaseClasses) (n : Numbering) (is : AreBas
   -- the terms are longer
   terms_longer : IsLonger ts us
   terms_longer = trees_longer (trees_in old.table) (trees_in new.table) led.table.trees old.terms new.terms is.before led.terms
-
-  -- there is a row for each term
-  pub count_is : length rows ≡ length old.terms
-  count_is = is.classes.rows_stand.count ∙ length-map old.terms (λ (t : TermId). tree_at (trees_in old.table) t.0)
-
-  pub count_within : length rows ≤ length new.terms
-  count_within =
-      let long = length-append old.terms led.terms.0 in
-      let all = ap length led.terms.1 in
-      let same = count_is in
-      omega (arith, long, all, same)
-
-  -- what positions of more terms ask
-  pub led_terms : (trees : List Tree) × (first : List TermId) × ArePositions trees (trees_of trees first) g.positions
-      × AreBefore (length trees) first × IsLonger trees (trees_in new.table) × IsLonger first new.terms × (length first ≡ length rows)
-  led_terms = (
-    trees_in old.table,
-    old.terms,
-    is.classes.positions_tell,
-    is.before,
-    led.table.trees,
-    led.terms,
-    sym count_is,
-  )
 
   -- what is given of the places is what is given of the terms
   pub placed : placed_of g.closure

@@ -26,7 +26,6 @@ use crate::positions::Positions;
 use crate::quiet::are_exact;
 use crate::regrounding::first_over;
 use crate::row::Row;
-use crate::rows::rows_from;
 use crate::told::labels_of;
 use sm_num::LinForm;
 use sm_term::{TermId, TermTable, Terms};
@@ -89,18 +88,8 @@ impl BaseClasses {
     {
         // A table has no term and no body twice, as its length ensures.
         table.len();
-        let from = self.closure.rows.len();
-        let positions = self.positions.more(alloc, table, &terms.list, from as u64)?;
-        let more = rows_from(
-            alloc,
-            table,
-            forms,
-            &positions,
-            numbering,
-            &terms.list,
-            from,
-        )?;
-        term_labels(alloc, self, &positions, &more, &terms.list, apart)
+        let more = self.added_rows(alloc, numbering, table, forms, &terms.list)?;
+        term_labels(alloc, self, &more.positions, &more.rows, &terms.list, apart)
     }
 }
 

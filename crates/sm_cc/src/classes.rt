@@ -10,7 +10,7 @@ ghost use Rattle.sm_cc.specs.Views.{equation_under, contrary_under};
 ghost use Rattle.sm_cc.specs.Assumed.{with_fact};
 
 use crate::facts::{places_of, places_over};
-use crate::ground::{BaseClasses, Numbering};
+use crate::ground::{AddedRows, BaseClasses, Numbering};
 use crate::places::PlaceClasses;
 use crate::positions::Positions;
 use sm_num::LinForm;
@@ -156,18 +156,11 @@ impl<'a> Classes<'a> {
         ensures ground { (v : ClassesValue) → AreBaseClasses v ground.now numbering.old →
             AreBaseClasses v ground.now numbering.new }
     {
-        let from = ground.closure.rows.len() as u64;
-        let positions = ground.positions.more(alloc, table, &terms.list, from)?;
-        let places = places_over(
-            alloc,
-            ground,
-            numbering,
-            table,
-            forms,
-            &terms.list,
-            &positions,
-            &given,
-        )?;
+        // A table has no term and no body twice, as its length ensures.
+        table.len();
+        let added = ground.added_rows(alloc, numbering, table, forms, &terms.list)?;
+        let AddedRows { positions, rows } = added;
+        let places = places_over(alloc, ground, rows, &positions, &given)?;
         Ok(Classes {
             table,
             terms: &terms.list,

@@ -1,20 +1,23 @@
 // Given facts by the places of their terms.
-ghost use Rattle.std.specs.Prelude.{◌≡◌, [], ◌∷◌, ◌++◌, length, not, if◌then◌else◌, IfOk, OnOk};
+ghost use Rattle.std.specs.Prelude.{◌≡◌, [], ◌∷◌, ◌++◌, length, not, if◌then◌else◌, List, IfOk, OnOk};
 ghost use Rattle.sm_term.specs.Tables.{trees_in, AreBefore};
 ghost use Rattle.sm_theory.specs.Standing.{AreLinearForms};
 ghost use Rattle.sm_cc.specs.Views.{ClassesValue, trees_of, AreOfTwoTerms};
 ghost use Rattle.sm_cc.specs.Positions.{ArePositions};
 ghost use Rattle.sm_cc.specs.Assumed.{placed_fact, placed_equations, placed_contraries};
 ghost use Rattle.sm_cc.specs.Assumed.{AreClasses};
-ghost use Rattle.sm_cc.specs.RowOf.{IsFurther};
-ghost use Rattle.sm_cc.specs.BaseClasses.{AreBaseClasses, IsLedBy};
+ghost use Rattle.sm_cc.specs.BaseClasses.{AreAllGiven, AreInside, AreKeyed};
+ghost use Rattle.sm_cc.specs.Closures.{IsSound};
+ghost use Rattle.sm_cc.specs.Exact.{placed_with};
+ghost use Rattle.sm_cc.specs.Growing.{AreGrown};
 
 use crate::classes::GivenFact;
-use crate::ground::{BaseClasses, Numbering};
+use crate::ground::BaseClasses;
 use crate::log::Given;
 use crate::places::PlaceClasses;
 use crate::positions::Positions;
-use crate::rows::{rows, rows_from};
+use crate::row::Row;
+use crate::rows::numbered_rows;
 use sm_num::LinForm;
 use sm_term::{TermId, TermTable};
 use std::alloc::{AllocError, Global};
@@ -38,44 +41,36 @@ pub(crate) fn places_of(
     ensures { IfOk result (λ p. AreClasses
         (record { table = table.now; terms = terms.now; given = facts.now }) positions.now p) }
 {
-    let rows = rows(alloc, table, forms, positions, terms)?;
+    let (rows, _) = numbered_rows(alloc, table, forms, positions, terms)?;
     let (equal, unequal) = placed_facts(alloc, positions, facts)?;
     let places = PlaceClasses::of(alloc, rows, equal, unequal)?;
     Ok(places)
 }
 
-/// The classes of the places of terms that begin with those of others, by all that is given of the
-/// terms.
+/// The classes of places that begin with those of others and have more rows behind them, by all that
+/// is given of the terms.
 pub(crate) fn places_over(
     alloc: Global,
     ground: &BaseClasses,
-    numbering: &mut Numbering,
-    table: &TermTable,
-    forms: &[LinForm],
-    terms: &[TermId],
+    more: Vec<Row>,
     positions: &Positions,
     facts: &[GivenFact],
 ) -> Result<PlaceClasses, AllocError>
-    requires forms { AreLinearForms (trees_in table.now) forms.now }
-    requires counted { length forms.now ≡ length (trees_in table.now) }
-    requires before { AreBefore (length (trees_in table.now)) terms.now }
-    requires positions { let trees = trees_in table.now in
-        ArePositions trees (trees_of trees terms.now) positions.now }
-    requires given { AreOfTwoTerms
-        (record { table = table.now; terms = terms.now; given = facts.now }) }
-    requires led { (v : ClassesValue) × AreBaseClasses v ground.now numbering.old
-        × IsLedBy v (record { table = table.now; terms = terms.now; given = facts.now }) }
-    ensures classes { IfOk result (λ p. AreClasses
-        (record { table = table.now; terms = terms.now; given = facts.now }) positions.now p) }
-    ensures further { IsFurther numbering.old numbering.new }
+    requires sound { IsSound ground.now.closure }
+    requires keyed { AreKeyed ground.now }
+    requires inside { AreInside ground.now.closure.rows.items }
+    requires equal { let equal = placed_equations positions.now facts.now in
+        AreAllGiven ground.now.closure.equal.items equal }
+    requires unequal { let unequal = placed_contraries positions.now facts.now in
+        AreAllGiven ground.now.closure.unequal.items unequal }
+    ensures { let equal = placed_equations positions.now facts.now in
+        let unequal = placed_contraries positions.now facts.now in
+        IfOk result (λ p. (rows : List Row)
+        × AreGrown ground.now.closure.rows.items more.items rows
+        × (p ≡ placed_with rows equal unequal)) }
 {
-    // A table has no term and no body twice, as its length ensures.
-    table.len();
-    let from = ground.closure.rows.len();
-    let more = rows_from(alloc, table, forms, positions, numbering, terms, from)?;
     let (equal, unequal) = placed_facts(alloc, positions, facts)?;
-    let places = PlaceClasses::over(alloc, ground, more, equal, unequal)?;
-    Ok(places)
+    PlaceClasses::over(alloc, ground, more, equal, unequal)
 }
 
 /// The equations among given facts and the contraries, each in order.

@@ -1,6 +1,7 @@
 // Classes that others begin with, whose terms go behind these.
-ghost use Rattle.std.specs.Prelude.{◌≡◌, IsTrue, length, IfOk, IfSome};
+ghost use Rattle.std.specs.Prelude.{◌≡◌, ◌+◌, IsTrue, length, IfOk, IfSome};
 ghost use Rattle.sm_term.specs.Tables.{trees_in, AreBefore};
+ghost use Rattle.sm_term.specs.TableLaws.{AddsTerms};
 ghost use Rattle.sm_theory.specs.Standing.{AreLinearForms};
 ghost use Rattle.sm_cc.specs.Assumed.{AreClasses, placed_equations, placed_contraries};
 ghost use Rattle.sm_cc.specs.Closures.{placed_of, are_together};
@@ -8,7 +9,10 @@ ghost use Rattle.sm_cc.specs.Exact.{IsExact, placed_with};
 ghost use Rattle.sm_cc.specs.Firsts.{AreFirsts, met_at, alike_at, headed_at};
 ghost use Rattle.sm_cc.specs.BaseClasses.{AreBaseClasses, AreInside, AreNumberedBy};
 ghost use Rattle.sm_cc.specs.BaseClasses.{AreBelow, IsElementBelow, IsRowBelow};
+ghost use Rattle.sm_cc.specs.Positions.{ArePositions};
+ghost use Rattle.sm_cc.specs.RowOf.{IsFurther, AreRowsFrom};
 ghost use Rattle.sm_cc.specs.Views.{ClassesValue, AreOfTwoTerms, trees_of};
+ghost use Rattle.sm_pairs.specs.Longer.{IsLonger};
 
 use crate::classes::GivenFact;
 use crate::closure::Closure;
@@ -21,10 +25,10 @@ use crate::positions::Positions;
 use crate::regrounding::{alike_places, headed_places};
 use crate::rounds::settle;
 use crate::row::{Element, Row};
-use crate::rows::numbered_rows;
+use crate::rows::{numbered_rows, rows_from};
 use crate::shapes::Shapes;
 use sm_num::LinForm;
-use sm_term::{TermTable, Terms};
+use sm_term::{TermId, TermTable, Terms};
 use std::alloc::{AllocError, Global};
 
 /// Classes of terms that others begin with: what is found of them needn't be found again where more
@@ -40,10 +44,19 @@ pub struct BaseClasses {
 }
 
 /// What the heads and the linear forms of terms are numbered by.
-#[derive(Drop)]
 pub struct Numbering {
     pub(crate) heads: Heads,
     pub(crate) shapes: Shapes,
+}
+
+// One call ends a value, and not one for each field: proofs of what has it stay small.
+impl Drop for Numbering {
+    fn drop(self) {
+        let Self {
+            heads: _,
+            shapes: _,
+        } = self;
+    }
 }
 
 /// Classes that others begin with, and what their terms are numbered by.
@@ -60,6 +73,13 @@ impl Drop for NumberedBase {
             numbering: _,
         } = self;
     }
+}
+
+// The positions of terms that begin with those of a base, and the rows of the terms behind these.
+#[derive(Drop)]
+pub(crate) struct AddedRows {
+    pub(crate) positions: Positions,
+    pub(crate) rows: Vec<Row>,
 }
 
 // The first places that have keys, of forms and of heads with arguments.
@@ -98,6 +118,36 @@ impl BaseClasses {
         let (rows, numbering) = numbered_rows(alloc, table, forms, &positions, &terms.list)?;
         let closure = placed_classes(alloc, &positions, rows, given)?;
         made_ground(alloc, positions, numbering, closure)
+    }
+
+    /// The positions of terms that begin with those of the base, and the rows of the terms behind
+    /// these. The forms are those of all terms of the table.
+    pub(crate) fn added_rows(
+        &self,
+        alloc: Global,
+        numbering: &mut Numbering,
+        table: &TermTable,
+        forms: &[LinForm],
+        terms: &[TermId],
+    ) -> Result<AddedRows, AllocError>
+        requires forms { AreLinearForms (trees_in table.now) forms.now }
+        requires counted { length forms.now ≡ length (trees_in table.now) }
+        requires before { AreBefore (length (trees_in table.now)) terms.now }
+        requires led { (v : ClassesValue) × AreBaseClasses v self.now numbering.old
+            × AddsTerms v.table table.now × IsLonger v.terms terms.now }
+        ensures further { IsFurther numbering.old numbering.new }
+        ensures positions { let trees = trees_in table.now in
+            IfOk result (λ m. ArePositions trees (trees_of trees terms.now) m.positions) }
+        ensures count { IfOk result (λ m.
+            length self.now.closure.rows.items + length m.rows.items ≡ length terms.now) }
+        ensures rows { let trees = trees_in table.now in
+            let from = length self.now.closure.rows.items in IfOk result (λ m.
+            AreRowsFrom table.now (trees_of trees terms.now) numbering.new from m.rows.items) }
+    {
+        let from = self.closure.rows.len();
+        let positions = self.positions.more(alloc, table, terms, from as u64)?;
+        let rows = rows_from(alloc, table, forms, &positions, numbering, terms, from)?;
+        Ok(AddedRows { positions, rows })
     }
 }
 

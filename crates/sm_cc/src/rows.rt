@@ -19,26 +19,6 @@ use sm_num::LinForm;
 use sm_term::{TermId, TermTable};
 use std::alloc::{AllocError, Global};
 
-/// A row for each term of a list, in order, by the positions of terms in it.
-pub(crate) fn rows(
-    alloc: Global,
-    table: &TermTable,
-    forms: &[LinForm],
-    positions: &Positions,
-    terms: &[TermId],
-) -> Result<Vec<Row>, AllocError>
-    requires forms { AreLinearForms (trees_in table.now) forms.now }
-    requires counted { length forms.now ≡ length (trees_in table.now) }
-    requires before { AreBefore (length (trees_in table.now)) terms.now }
-    requires positions { let trees = trees_in table.now in
-        ArePositions trees (trees_of trees terms.now) positions.now }
-    ensures { IfOk result (λ rows.
-        RowsStand (sorts_in table.now) (trees_of (trees_in table.now) terms.now) rows.items) }
-{
-    let (rows, _) = numbered_rows(alloc, table, forms, positions, terms)?;
-    Ok(rows)
-}
-
 /// A row for each term of a list, in order, with what the heads and the forms of the terms are
 /// numbered by.
 pub(crate) fn numbered_rows(

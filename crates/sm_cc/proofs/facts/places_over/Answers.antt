@@ -1,47 +1,30 @@
--- By what is so of the classes that these begin with.
-use Rattle.std.proofs.Common.{◌≡◌, ℕ, length, subst, arith}
-use Rattle.sm_term.specs.Tables.{trees_in}
-use Rattle.sm_cc.specs.Views.{ClassesValue, trees_of}
-use Rattle.sm_cc.specs.RowOf.{AreRowsFrom}
-use Rattle.sm_cc.proofs.GroundLemmas.{count_within, equal_still, unequal_still, classes_over}
+-- What is given of the terms is given of their places.
+use Rattle.std.proofs.Common.{◌≡◌, List, sym, subst}
+use Rattle.std.specs.Prelude.{IfOk}
+use Rattle.std.proofs.lemmas.Result.{IfOk-weaker}
+use Rattle.sm_cc.specs.declared.log.Given.{Given}
+use Rattle.sm_cc.specs.declared.row.Row.{Row}
+use Rattle.sm_cc.specs.Assumed.{placed_equations}
+use Rattle.sm_cc.specs.BaseClasses.{AreAllGiven}
+use Rattle.sm_cc.specs.Exact.{placed_with}
+use Rattle.sm_cc.specs.Growing.{AreGrown}
+use Rattle.sm_cc.specs.Log.{Placed}
 use Rattle.sm_cc.proofs.facts.places_over.Goals as goal
-
-pub rows_from-requires-clause-inside : goal.rows_from-requires-clause-inside
-rows_from-requires-clause-inside c =
-    let v : ClassesValue = record { table = c.args.table.now; terms = c.args.terms.now; given = c.args.facts.now } in
-    let led = c.requires.led in
-    let within = count_within led.0 v c.args.ground.now c.args.numbering.now led.1 led.2 in
-    let from = c.len-from.ensures in
-    omega (arith, within, from)
 
 pub over-requires-clause-equal : goal.over-requires-clause-equal
 over-requires-clause-equal c =
-    let v : ClassesValue = record { table = c.args.table.now; terms = c.args.terms.now; given = c.args.facts.now } in
-    let led = c.requires.led in
-    equal_still led.0 v c.args.ground.now c.args.numbering.now led.1 led.2 c.args.positions.now c.requires.positions
-    c.in_ok-equal.equal.items c.in_ok-equal.ensures.equal
+    subst (λ (es : List Given). AreAllGiven c.args.ground.now.closure.equal.items es) (sym c.in_ok-equal.ensures.equal) c.requires.equal
 
 pub over-requires-clause-unequal : goal.over-requires-clause-unequal
 over-requires-clause-unequal c =
-    let v : ClassesValue = record { table = c.args.table.now; terms = c.args.terms.now; given = c.args.facts.now } in
-    let led = c.requires.led in
-    unequal_still led.0 v c.args.ground.now c.args.numbering.now led.1 led.2 c.args.positions.now c.requires.positions
-    c.in_ok-equal.unequal.items c.in_ok-equal.ensures.unequal
+    subst (λ (us : List Given). AreAllGiven c.args.ground.now.closure.unequal.items us) (sym c.in_ok-equal.ensures.unequal) c.requires.unequal
 
-pub returns-clause-classes : goal.returns-clause-classes
-returns-clause-classes c =
-    let table = c.args.table.now in
-    let v : ClassesValue = record { table = table; terms = c.args.terms.now; given = c.args.facts.now } in
-    let led = c.requires.led in
-    let made = c.in_ok-more.ensures in
-    let numbering = c.rows_from.new.numbering in
-    let more = c.in_ok-more.more.items in
-    let given = c.in_ok-equal in
-    let grown = c.in_ok-places.ensures in
-    let from = c.len-from.ensures in
-    let same : c.len-from.result ≡ length c.args.ground.now.closure.rows.items = omega (arith, from) in
-    let count = made.count in
-    classes_over led.0 v c.args.ground.now c.args.numbering.now led.1 led.2 c.args.positions.now c.requires.positions c.len.ensures.apart
-    c.len.ensures.codes_apart c.requires.given numbering made.further more grown.0 (omega (arith, count, same))
-    (subst (λ (n : ℕ). AreRowsFrom table (trees_of (trees_in table) v.terms) numbering n more) same made.rows) grown.1 given.equal.items
-    given.unequal.items given.ensures.equal given.ensures.unequal c.in_ok-places.places grown.2
+pub returns : goal.returns
+returns c =
+    let base = c.args.ground.now.closure.rows.items in
+    let more = c.args.more.items in
+    let found = c.in_ok-equal in
+    let equations = placed_equations c.args.positions.now c.args.facts.now in
+    let are = λ (es us : List Given).
+    IfOk c.over.result (λ (p : Placed). (rows : List Row) × AreGrown base more rows × (p ≡ placed_with rows es us)) in
+    subst (are equations) found.ensures.unequal (subst (λ (es : List Given). are es found.unequal.items) found.ensures.equal c.over.ensures)
