@@ -1,5 +1,5 @@
 // Linear forms of terms, whose atoms are numbers of terms.
-ghost use Rattle.std.specs.Prelude.{◌≡◌, ◌<◌, ℕ, pos, negsuc, length, IsTrue};
+ghost use Rattle.std.specs.Prelude.{◌≡◌, ◌<◌, ℕ, pos, negsuc, List, length, Option, IsTrue};
 ghost use Rattle.std.specs.Prelude.{if◌then◌else◌, ◌⊎◌, nat_eq, Some, None, IfOk, IfErr};
 ghost use Rattle.std.specs.HashMap.{get};
 ghost use Rattle.sm_num.specs.declared.kind.Kind.TheVariants.{Eq};
@@ -8,6 +8,7 @@ ghost use Rattle.sm_num.specs.Range.{fits_form};
 ghost use Rattle.sm_num.specs.Combining.{Outcome, combined};
 ghost use Rattle.sm_num.specs.Errors.{Returns};
 ghost use Rattle.sm_term.specs.Tables.{trees_in, tree_at};
+ghost use Rattle.sm_term.specs.Terms.{Tree};
 ghost use Rattle.sm_theory.specs.LinearTerms.{linear_of, constant_form, atom_form, or_atom};
 ghost use Rattle.sm_theory.specs.LinearTerms.{scaled_form, product_form};
 ghost use Rattle.sm_theory.specs.Standing.{IsKeptFor, AreLinearForms};
@@ -124,25 +125,35 @@ fn form_of(
     // No term is there twice.
     let _count = table.len();
     match table.get(t) {
-        Term::Lit(z) => Ok(Found::Form(literal(alloc, t.0, z)?)),
+        Term::Lit(z) => found_form(literal(alloc, t.0, z)),
         Term::Neg(a) => match forms.get(&a.0) {
-            Some(f) => Ok(Found::Form(multiple(alloc, t.0, &-1, f)?)),
+            Some(f) => found_form(multiple(alloc, t.0, &-1, f)),
             None => Ok(Found::Part(a.0)),
         },
         Term::Add(a, b) => match parts(forms, *a, *b) {
-            Ok((f, g)) => Ok(Found::Form(sum(alloc, t.0, f, g)?)),
+            Ok((f, g)) => found_form(sum(alloc, t.0, f, g)),
             Err(p) => Ok(Found::Part(p)),
         },
         Term::Sub(a, b) => match parts(forms, *a, *b) {
-            Ok((f, g)) => Ok(Found::Form(difference(alloc, t.0, f, g)?)),
+            Ok((f, g)) => found_form(difference(alloc, t.0, f, g)),
             Err(p) => Ok(Found::Part(p)),
         },
         Term::Mul(a, b) => match parts(forms, *a, *b) {
-            Ok((f, g)) => Ok(Found::Form(product(alloc, t.0, f, g)?)),
+            Ok((f, g)) => found_form(product(alloc, t.0, f, g)),
             Err(p) => Ok(Found::Part(p)),
         },
-        _ => Ok(Found::Form(atom(alloc, t.0)?)),
+        _ => found_form(atom(alloc, t.0)),
     }
+}
+
+// The form that was made for a term.
+fn found_form(made: Result<LinForm, AllocError>) -> Result<Found, AllocError>
+    ensures { (trees : List Tree) (forms : ℕ → Option (Linear ℕ)) (n : ℕ) →
+        IfOk made (λ f. IsKeptFor trees f (linear_of (tree_at trees n))) →
+        IfOk result (IsFound trees forms n) }
+{
+    let form = made?;
+    Ok(Found::Form(form))
 }
 
 // The forms of two terms, or the first term that has none.
