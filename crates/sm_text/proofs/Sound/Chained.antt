@@ -1,5 +1,5 @@
 -- Chains of operators that group to the left.
-use Rattle.std.proofs.Common.{◌≡◌, ℕ, suc, zero, ◌+◌, ◌-◌, refl, sym, ap, ◌∙◌, subst, arith, Bool, true, false, Option, Some, None, Result}
+use Rattle.std.proofs.Common.{◌≡◌, ℕ, suc, zero, ◌+◌, ◌-◌, ◌≤◌, refl, sym, ap, ◌∙◌, subst, arith, Bool, true, false, Option, Some, None, Result}
 use Rattle.std.proofs.Common.{Ok, Err, List, [], ◌∷◌, ◌++◌, map, append_assoc}
 use Rattle.std.specs.Prelude.{nat_le, if◌then◌else◌}
 use Rattle.std.proofs.lemmas.Bool.Decides.{nat_tests}
@@ -10,7 +10,8 @@ use Rattle.sm_syntax.specs.declared.symbol.Symbol.TheVariants as s
 use Rattle.sm_syntax.specs.text.MarkedSymbols.{Marked, plain, joins}
 use Rattle.sm_text.specs.declared.rules.reading.Fault.{Fault}
 use Rattle.sm_text.specs.declared.rules.reading.FaultKind.TheVariants.{Nested}
-use Rattle.sm_text.specs.rules.Parsers.{first, rest, Parser, fault, go_on, pure, stands, Operators, chain_by, chain_in, chain_limit, chain}
+use Rattle.sm_text.specs.rules.Parsers.{first, rest, Parser, fault, go_on, pure, stands, Operators, chain_by, chain_in, next_operand}
+use Rattle.sm_text.specs.rules.Parsers.{chain_limit, chain}
 use Rattle.sm_text.proofs.Sound.Parsers.{Takes, Stops, Told, Describes, Both, map-plain-append, begins-alike, bind, weaken}
 use Rattle.sm_text.proofs.Sound.Choices.{stands-is}
 
@@ -248,21 +249,32 @@ pub chain-end : {T : Type 0} (operators : Operators T) (operand : Parser T) (n :
 chain-end operators operand zero left ts e = rw e refl
 chain-end operators operand (suc n) left ts e = rw e refl
 
--- an operator where no more may follow
-pub chain-full : {T : Type 0} (operators : Operators T) (operand : Parser T) (n : ℕ) (left : T) (ts : List Symbol) (make : T → T → T) →
-    operators (first ts) ≡ Some make → n ≡ 0 → chain_in operators operand n left ts ≡ Err (fault Nested ts)
-chain-full operators operand zero left ts make e none = rw e refl
-chain-full operators operand (suc n) left ts make e none = absurd (omega (arith, none))
-
 -- an operator and its operand
 pub chain-turn : {T : Type 0} (operators : Operators T) (operand : Parser T) (n : ℕ) (left : T) (ts : List Symbol) (make : T → T → T)
-    (right : T) (after : List Symbol) → operators (first ts) ≡ Some make → (n ≡ 0 → ⊥) → operand (rest ts) ≡ Ok (right, after) →
+    (right : T) (after : List Symbol) → operators (first ts) ≡ Some make → next_operand operand n ts ≡ Ok (right, after) →
     chain_in operators operand n left ts ≡ chain_in operators operand (n - 1) (make left right) after
-chain-turn operators operand zero left ts make right after e some one = absurd (some refl)
-chain-turn operators operand (suc n) left ts make right after e some one = let less : suc n - 1 ≡ n = omega arith in rw (e, one, less) refl
+chain-turn operators operand zero left ts make right after e h = absurd cc
+chain-turn operators operand (suc n) left ts make right after e h =
+    let one : operand (rest ts) ≡ Ok (right, after) = h in
+    let less : suc n - 1 ≡ n = omega arith in
+    rw (e, one, less) refl
 
 -- an operand that is refused
 pub chain-fault : {T : Type 0} (operators : Operators T) (operand : Parser T) (n : ℕ) (left : T) (ts : List Symbol) (make : T → T → T) →
-    operators (first ts) ≡ Some make → (n ≡ 0 → ⊥) → (f : Fault) → operand (rest ts) ≡ Err f → chain_in operators operand n left ts ≡ Err f
-chain-fault operators operand zero left ts make e some f one = absurd (some refl)
-chain-fault operators operand (suc n) left ts make e some f one = rw (e, one) refl
+    operators (first ts) ≡ Some make → (f : Fault) → next_operand operand n ts ≡ Err f → chain_in operators operand n left ts ≡ Err f
+chain-fault operators operand zero left ts make e f h = rw e h
+chain-fault operators operand (suc n) left ts make e f h = let one : operand (rest ts) ≡ Err f = h in rw (e, one) refl
+
+-- the operand after an operator: refused where no operator may stand there
+pub next-none : {T : Type 0} (operand : Parser T) (n : ℕ) (ts : List Symbol) → n ≡ 0 → next_operand operand n ts ≡ Err (fault Nested ts)
+next-none operand zero ts none = refl
+next-none operand (suc n) ts none = absurd (omega (arith, none))
+
+pub next-some : {T : Type 0} (operand : Parser T) (n : ℕ) (ts : List Symbol) → (n ≡ 0 → ⊥) → next_operand operand n ts ≡ operand (rest ts)
+next-some operand zero ts some = absurd (some refl)
+next-some operand (suc n) ts some = refl
+
+-- where it is read, an operator may stand there
+pub next-room : {T : Type 0} (operand : Parser T) (n : ℕ) (ts : List Symbol) (r : T × List Symbol) → next_operand operand n ts ≡ Ok r → 1 ≤ n
+next-room operand zero ts r h = absurd cc
+next-room operand (suc n) ts r h = omega arith

@@ -1,6 +1,8 @@
 -- One turn, the end and a fault of each loop that reads a list.
-use Rattle.std.proofs.Common.{◌≡◌, ℕ, zero, suc, ◌+◌, ◌-◌, ◌<◌, ◌≤◌, refl, sym, ap, ◌∙◌, arith, Bool, false, Option, Some, None}
+use Rattle.std.proofs.Common.{◌≡◌, ℕ, zero, suc, ◌+◌, ◌-◌, ◌<◌, ◌≤◌, refl, sym, ap, ◌∙◌, subst, arith, Bool, true, false, Option, Some, None, if◌then◌else◌}
 use Rattle.std.proofs.Common.{Result, Ok, Err, List, [], ◌∷◌, ◌++◌, length}
+use Rattle.std.specs.Borrow.{Bor}
+use Rattle.std.specs.Result.{IfOk, IfErr}
 use Rattle.sm_syntax.specs.declared.symbol.Mark.TheVariants as mark
 use Rattle.sm_syntax.specs.declared.symbol.Symbol.{Symbol}
 use Rattle.sm_syntax.specs.declared.tree.Name.{Name}
@@ -16,8 +18,8 @@ use Rattle.sm_text.specs.declared.rules.reading.Fault.{Fault}
 use Rattle.sm_text.specs.declared.rules.reading.FaultKind.TheVariants.{Nested}
 use Rattle.sm_text.specs.declared.rules.reading.ReadError.{ReadError}
 use Rattle.sm_text.specs.declared.rules.reading.ReadError.TheVariants as error
-use Rattle.sm_text.specs.rules.Answers.{Fails, Gives}
-use Rattle.sm_text.specs.rules.Parsers.{first, rest, fault, expect, Parser, stands, chain_limit, chain, inside_group}
+use Rattle.sm_text.specs.rules.Answers.{Fails, Gives, Parses}
+use Rattle.sm_text.specs.rules.Parsers.{first, rest, fault, go_on, pure, expect, Parser, stands, chain_limit, chain, inside_group}
 use Rattle.sm_text.specs.rules.Reading as r
 use Rattle.sm_text.specs.rules.Written.{statements_before}
 use Rattle.sm_syntax.specs.declared.tree.Stmt.{Stmt}
@@ -165,3 +167,52 @@ inside-fails deeper p close ts e f one = rw (e, one) refl
 pub inside-open : {T : Type 0} (deeper : Option (Parser T)) (p : Parser T) (close : Mark) (ts : List Symbol) (x : T) (after : List Symbol) →
     deeper ≡ Some p → p (rest ts) ≡ Ok (x, after) → (f : Fault) → expect close after ≡ Err f → inside_group deeper close ts ≡ Err f
 inside-open deeper p close ts x after e one f two = rw (e, one, two) refl
+
+-- a group, by what stands behind its inside
+pub inside-followed : {A T : Type 0} (view : A → T) (deeper : Option (Parser T)) (p : Parser T) (close : Mark) (ts : List Symbol) (value : A)
+    (after : List Symbol) (result : Result (A × Bor (List Symbol)) ReadError) → deeper ≡ Some p → p (rest ts) ≡ Ok (view value, after) →
+    IfOk result (λ x. (x.0 ≡ value) × (expect close after ≡ Ok (tt, x.1.now))) → IfErr result (λ e. Fails e (expect close after)) →
+    Parses view result (inside_group deeper close ts)
+inside-followed {A} {T} view deeper p close ts value after (Ok x) e one ok err =
+    let Read : A → Type 0 = λ v. p (rest ts) ≡ Ok (view v, after) in
+    inside-reads deeper p close ts (view x.0) after x.1.now e (subst Read (sym ok.0) one) ok.1
+inside-followed view deeper p close ts value after (Err (error.Fault f)) e one ok err =
+    inside-open deeper p close ts (view value) after e one f err
+inside-followed view deeper p close ts value after (Err error.Memory) e one ok err = tt
+
+-- what was read behind something else
+pub beside-reads : {B C : Type 0} (view : B → C) (read : Result (B × Bor (List Symbol)) ReadError) (reading : Result (C × List Symbol) Fault)
+    (x : B) (after : Bor (List Symbol)) → Parses view read reading → read ≡ Ok (x, after) → reading ≡ Ok (view x, after.now)
+beside-reads view read reading x after h same = subst (λ r. Parses view r reading) same h
+
+-- what wasn't
+pub beside-fails : {B C : Type 0} (view : B → C) (read : Result (B × Bor (List Symbol)) ReadError) (reading : Result (C × List Symbol) Fault)
+    (e : ReadError) → Parses view read reading → read ≡ Err e → Fails e reading
+beside-fails view read reading e h same = subst (λ r. Parses view r reading) same h
+
+-- what was read, where it is the same as another
+pub read-as : {A B : Type 0} (view : A → B) (reading : Result (B × List Symbol) Fault) (x y : A) (after : List Symbol) →
+    reading ≡ Ok (view x, after) → x ≡ y → reading ≡ Ok (view y, after)
+read-as {A} {B} view reading x y after h same =
+    let Read : A → Type 0 = λ z. reading ≡ Ok (view z, after) in
+    subst Read same h
+
+-- what was read, by the mark that has to stand behind it
+pub followed-reads : {A B : Type 0} (view : A → B) (m : Mark) (ts : List Symbol) (value : A) (result : Result (A × Bor (List Symbol)) ReadError) →
+    IfOk result (λ x. (x.0 ≡ value) × (expect m ts ≡ Ok (tt, x.1.now))) → IfErr result (λ e. Fails e (expect m ts)) →
+    Parses view result (go_on (expect m ts) (λ _. pure (view value)))
+followed-reads view m ts value (Ok x) ok err =
+    let one : expect m ts ≡ Ok (tt, x.1.now) = ok.1 in
+    let same : x.0 ≡ value = ok.0 in
+    rw (one, same) refl
+followed-reads view m ts value (Err (error.Fault f)) ok err = let one : expect m ts ≡ Err f = err in rw one refl
+followed-reads view m ts value (Err error.Memory) ok err = tt
+
+-- an operator that stands there, by a test, and none
+pub stood : {T : Type 0} (operators : Option Symbol → Option T) (make : T) {o p : Option Symbol} {b : Bool} → o ≡ p →
+    operators o ≡ (if b then Some make else None) → b ≡ true → operators p ≡ Some make
+stood {T} operators make e f g = ap operators (sym e) ∙ f ∙ ap (λ (c : Bool). if c then Some make else None) g
+
+pub unstood : {T : Type 0} (operators : Option Symbol → Option T) (make : T) {o p : Option Symbol} {b : Bool} → o ≡ p →
+    operators o ≡ (if b then Some make else None) → b ≡ false → operators p ≡ None
+unstood {T} operators make e f g = ap operators (sym e) ∙ f ∙ ap (λ (c : Bool). if c then Some make else None) g

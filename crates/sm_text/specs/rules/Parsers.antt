@@ -103,6 +103,11 @@ chain_in operators operand zero left ts = chain_by (operators (first ts)) operan
 chain_in operators operand (suc n) left ts =
     chain_by (operators (first ts)) operand (suc n) (chain_in operators operand n) left ts
 
+-- the operand after an operator, where n operators may still stand there
+abbrev pub next_operand : {A : Type 0} → Parser A → ℕ → Parser A
+next_operand operand zero = refuse Nested
+next_operand operand (suc n) = skip >> operand
+
 -- how many operators a chain may have
 unfoldable pub chain_limit : ℕ
 chain_limit = 63

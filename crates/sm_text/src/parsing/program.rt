@@ -12,7 +12,7 @@ use crate::lexing::lexer::tokens;
 use crate::parsing::text::{lexical_error, refused};
 use crate::resolving::resolve::symbols;
 use crate::rules::names::{declarations, outputs};
-use crate::rules::reading::{FaultKind, ReadError, first, refusal};
+use crate::rules::reading::{FaultKind, ReadError, beside, first, refusal};
 use crate::rules::sections::shared;
 use sm_syntax::{NameTable, Program, Symbol};
 use std::alloc::Global;
@@ -26,9 +26,10 @@ fn program(
 ) -> Result<(Program, &[Symbol]), ReadError>
     ensures { Gives (λ x. (program_parts x.0, x.1.now)) result (spec.program names symbols.now) }
 {
-    let (decls, after) = declarations(alloc, symbols)?;
-    let (outputs, after) = outputs(alloc, after)?;
-    let (body, after) = shared(alloc, after)?;
+    let (declared, after) = beside(names, declarations(alloc, symbols))?;
+    let (front, after) = beside(declared, outputs(alloc, after))?;
+    let (parts, after) = beside(front, shared(alloc, after))?;
+    let (((names, decls), outputs), body) = parts;
     let program = Program {
         names,
         decls,

@@ -2,13 +2,13 @@
 ghost use Rattle.std.specs.Prelude.{◌≡◌, if◌then◌else◌, Some, None, IfOk};
 ghost use Rattle.sm_syntax.specs.trees.Views.{condition_of};
 ghost use Rattle.sm_text.specs.rules.Answers.{Parses};
-ghost use Rattle.sm_text.specs.rules.Parsers.{inside_group};
+ghost use Rattle.sm_text.specs.rules.Parsers.{inside_group, next_operand};
 ghost use Rattle.sm_text.specs.rules.Reading as spec;
 ghost use Rattle.sm_text.specs.rules.Written.{connected_by};
 
 use crate::rules::expressions::{CHAIN_LIMIT, expression};
 use crate::rules::names::stands;
-use crate::rules::reading::{FaultKind, Parsed, expect, first, refusal, rest};
+use crate::rules::reading::{FaultKind, Parsed, beside, boxed, first, followed, refusal, rest};
 use sm_syntax::{Cmp, Cond, Mark, Symbol};
 use std::alloc::{AllocError, Global};
 
@@ -77,8 +77,9 @@ fn compared(alloc: Global, groups: u64, symbols: &[Symbol]) -> Parsed<'_, Cond>
     ensures { Parses condition_of result (spec.compared (spec.expression groups) symbols.now) }
 {
     let (left, after) = expression(alloc, groups, symbols)?;
-    let (sign, after) = comparison(after)?;
-    let (right, after) = expression(alloc, groups, after)?;
+    let (front, after) = beside(left, comparison(after))?;
+    let (sides, after) = beside(front, expression(alloc, groups, after))?;
+    let ((left, sign), right) = sides;
     Ok((Cond::Cmp(sign, left, right), after))
 }
 
@@ -92,8 +93,7 @@ fn group(alloc: Global, groups: u64, close: Mark, symbols: &[Symbol]) -> Parsed<
         return Err(refusal(FaultKind::Nested, symbols));
     }
     let (test, after) = chained(alloc, groups - 1, CondChain::Disjunction, rest(symbols))?;
-    let after = expect(close, after)?;
-    Ok((test, after))
+    followed(test, close, after)
 }
 
 /// A condition in square brackets.
@@ -156,8 +156,7 @@ fn join(alloc: Global, chain: CondChain, left: Cond, right: Cond) -> Result<Cond
     ensures { IfOk result (λ b.
         condition_of b ≡ connected_by chain (condition_of left) (condition_of right)) }
 {
-    let left = Box::new(alloc, left)?;
-    let right = Box::new(alloc, right)?;
+    let (left, right) = boxed(alloc, left, right)?;
     Ok(match chain {
         CondChain::Conjunction => Cond::And(left, right),
         CondChain::Disjunction => Cond::Or(left, right),
@@ -177,6 +176,26 @@ fn operand(alloc: Global, groups: u64, chain: CondChain, symbols: &[Symbol]) -> 
     }
 }
 
+/// What stands behind the operator of a chain, where `room` operators may still stand there.
+#[cycle(conditions)]
+fn next_operand(
+    alloc: Global,
+    groups: u64,
+    chain: CondChain,
+    room: u64,
+    symbols: &[Symbol],
+) -> Parsed<'_, Cond>
+    ensures { Parses condition_of result
+        (next_operand
+        (spec.condition_operand (spec.inner_condition groups) (spec.expression groups) chain)
+        room symbols.now) }
+{
+    if room == 0 {
+        return Err(refusal(FaultKind::Nested, symbols));
+    }
+    operand(alloc, groups, chain, rest(symbols))
+}
+
 /// A chain, grouped to the left.
 #[cycle(conditions)]
 fn chained(alloc: Global, groups: u64, chain: CondChain, symbols: &[Symbol]) -> Parsed<'_, Cond>
@@ -187,11 +206,8 @@ fn chained(alloc: Global, groups: u64, chain: CondChain, symbols: &[Symbol]) -> 
     let (mut left, mut after) = operand(alloc, groups, chain, symbols)?;
     let mut room = CHAIN_LIMIT;
     'operators: while goes_on(chain, first(after)) {
-        if room == 0 {
-            return Err(refusal(FaultKind::Nested, after));
-        }
-        let (right, behind) = operand(alloc, groups, chain, rest(after))?;
-        left = join(alloc, chain, left, right)?;
+        let (sides, behind) = beside(left, next_operand(alloc, groups, chain, room, after))?;
+        left = join(alloc, chain, sides.0, sides.1)?;
         room -= 1;
         after = behind;
     }

@@ -2,12 +2,12 @@
 ghost use Rattle.std.specs.Prelude.{◌≡◌, option_map, IfOk};
 ghost use Rattle.sm_syntax.specs.trees.Views.{expression_of};
 ghost use Rattle.sm_text.specs.rules.Answers.{Parses};
-ghost use Rattle.sm_text.specs.rules.Parsers.{inside_group};
+ghost use Rattle.sm_text.specs.rules.Parsers.{inside_group, next_operand};
 ghost use Rattle.sm_text.specs.rules.Reading as spec;
 ghost use Rattle.sm_text.specs.rules.Written.{joined_by};
 
 use crate::rules::names::stands;
-use crate::rules::reading::{FaultKind, Parsed, expect, first, refusal, rest};
+use crate::rules::reading::{FaultKind, Parsed, beside, boxed, first, followed, refusal, rest};
 use sm_syntax::{Expr, Mark, Name, Symbol};
 use std::alloc::{AllocError, Global};
 
@@ -46,8 +46,7 @@ fn group(alloc: Global, groups: u64, close: Mark, symbols: &[Symbol]) -> Parsed<
         return Err(refusal(FaultKind::Nested, symbols));
     }
     let (value, after) = chained(alloc, groups - 1, ExprChain::Sum, rest(symbols))?;
-    let after = expect(close, after)?;
-    Ok((value, after))
+    followed(value, close, after)
 }
 
 /// The index of an element, after the name of its array.
@@ -145,8 +144,7 @@ fn join(alloc: Global, operator: Operator, left: Expr, right: Expr) -> Result<Ex
     ensures { IfOk result (λ e.
         expression_of e ≡ joined_by operator (expression_of left) (expression_of right)) }
 {
-    let left = Box::new(alloc, left)?;
-    let right = Box::new(alloc, right)?;
+    let (left, right) = boxed(alloc, left, right)?;
     Ok(match operator {
         Operator::Plus => Expr::Add(left, right),
         Operator::Minus => Expr::Sub(left, right),
@@ -166,6 +164,24 @@ fn operand(alloc: Global, groups: u64, chain: ExprChain, symbols: &[Symbol]) -> 
     }
 }
 
+/// What stands behind the operator of a chain, where `room` operators may still stand there.
+#[cycle(expressions)]
+fn next_operand(
+    alloc: Global,
+    groups: u64,
+    chain: ExprChain,
+    room: u64,
+    symbols: &[Symbol],
+) -> Parsed<'_, Expr>
+    ensures { Parses expression_of result
+        (next_operand (spec.expression_operand (spec.inner_sum groups) chain) room symbols.now) }
+{
+    if room == 0 {
+        return Err(refusal(FaultKind::Nested, symbols));
+    }
+    operand(alloc, groups, chain, rest(symbols))
+}
+
 /// A chain, grouped to the left.
 #[cycle(expressions)]
 fn chained(alloc: Global, groups: u64, chain: ExprChain, symbols: &[Symbol]) -> Parsed<'_, Expr>
@@ -175,11 +191,8 @@ fn chained(alloc: Global, groups: u64, chain: ExprChain, symbols: &[Symbol]) -> 
     let (mut left, mut after) = operand(alloc, groups, chain, symbols)?;
     let mut room = CHAIN_LIMIT;
     'operators: while let Some(operator) = operator_of(chain, first(after)) {
-        if room == 0 {
-            return Err(refusal(FaultKind::Nested, after));
-        }
-        let (right, behind) = operand(alloc, groups, chain, rest(after))?;
-        left = join(alloc, operator, left, right)?;
+        let (sides, behind) = beside(left, next_operand(alloc, groups, chain, room, after))?;
+        left = join(alloc, operator, sides.0, sides.1)?;
         room -= 1;
         after = behind;
     }

@@ -1,10 +1,10 @@
 // What every rule is made of: a look at the first symbol, a step past it, and a refusal.
-ghost use Rattle.std.specs.Prelude.{◌≡◌, ◌<◌, drop, length, IfOk};
-ghost use Rattle.sm_text.specs.rules.Answers.{Gives};
+ghost use Rattle.std.specs.Prelude.{◌≡◌, ◌<◌, drop, length, Ok, Err, IfOk, IfErr};
+ghost use Rattle.sm_text.specs.rules.Answers.{Fails, Gives};
 ghost use Rattle.sm_text.specs.rules.Parsers as spec;
 
 use sm_syntax::{Mark, Symbol};
-use std::alloc::{AllocError, AllocFailed};
+use std::alloc::{AllocError, AllocFailed, Global};
 
 /// Why a rule doesn't go on.
 #[derive(Clone, Copy)]
@@ -89,4 +89,41 @@ pub(crate) fn expect(mark: Mark, symbols: &[Symbol]) -> Result<&[Symbol], ReadEr
         Some(Symbol::Mark(found)) if found == mark => Ok(rest(symbols)),
         _ => Err(refusal(FaultKind::Expected, symbols)),
     }
+}
+
+/// What was read, where this mark stands behind it, which is stepped past.
+pub(crate) fn followed<T: Drop>(value: T, mark: Mark, symbols: &[Symbol]) -> Parsed<'_, T>
+    ensures ok { IfOk result (λ x.
+        (x.0 ≡ value) × (spec.expect mark symbols.now ≡ Ok (tt, x.1.now))) }
+    ensures err { IfErr result (λ e. Fails e (spec.expect mark symbols.now)) }
+{
+    match expect(mark, symbols) {
+        Ok(after) => Ok((value, after)),
+        Err(error) => Err(error),
+    }
+}
+
+/// What was read, and what was read behind it. Where that is a refusal, the front is let go here,
+/// as a value of any type: written out for its own parts, that costs more than the rule.
+pub(crate) fn beside<'s, A: Drop, B>(front: A, read: Parsed<'s, B>) -> Parsed<'s, (A, B)>
+    ensures ok { IfOk result (λ x. (x.0.0 ≡ front) × (read.entry ≡ Ok (x.0.1, x.1))) }
+    ensures err { IfErr result (λ e. read.entry ≡ Err e) }
+{
+    match read {
+        Ok((value, after)) => Ok(((front, value), after)),
+        Err(error) => Err(error),
+    }
+}
+
+/// Two values of one type, each in a box.
+pub(crate) fn boxed<T: Drop>(
+    alloc: Global,
+    left: T,
+    right: T,
+) -> Result<(Box<T>, Box<T>), AllocError>
+    ensures { IfOk result (λ p. (p.0.value ≡ left) × (p.1.value ≡ right)) }
+{
+    let left = Box::new(alloc, left)?;
+    let right = Box::new(alloc, right)?;
+    Ok((left, right))
 }

@@ -9,7 +9,7 @@ ghost use Rattle.sm_text.specs.Tasks.{head_parts, lists_of, parts_of};
 
 use crate::rules::conditions::condition;
 use crate::rules::names::{GROUP_LIMIT, declarations, hole_number, outputs, stands};
-use crate::rules::reading::{FaultKind, ReadError, expect, first, refusal, rest};
+use crate::rules::reading::{FaultKind, ReadError, beside, expect, first, followed, refusal, rest};
 use crate::rules::statements::block;
 use crate::task::Task;
 use sm_syntax::{Block, Cond, Filling, Fillings, Mark, NameTable, PerCopy, Program, Symbol};
@@ -52,8 +52,7 @@ fn list(alloc: Global, mark: Mark, symbols: &[Symbol]) -> Result<(Fillings, &[Sy
     let after = expect(mark, symbols)?;
     let after = expect(Mark::OpenCurly, after)?;
     let (fillings, after) = fillings(alloc, after)?;
-    let after = expect(Mark::CloseCurly, after)?;
-    Ok((fillings, after))
+    followed(fillings, Mark::CloseCurly, after)
 }
 
 /// The shared block.
@@ -76,8 +75,8 @@ fn assumption_line(
         (spec.assumption_line symbols.now) }
 {
     let (test, after) = condition(alloc, GROUP_LIMIT, symbols)?;
-    let after = expect(Mark::Semicolon, after)?;
-    Ok((Some(test), after))
+    let (assumed, after) = followed(test, Mark::Semicolon, after)?;
+    Ok((Some(assumed), after))
 }
 
 /// What is assumed, if anything is.
@@ -110,10 +109,11 @@ pub(crate) fn head(
         result
         (spec.head names symbols.now) }
 {
-    let (decls, after) = declarations(alloc, symbols)?;
-    let (outputs, after) = outputs(alloc, after)?;
-    let (assumed, after) = assumed(alloc, after)?;
-    let (body, after) = shared(alloc, after)?;
+    let (declared, after) = beside(names, declarations(alloc, symbols))?;
+    let (named, after) = beside(declared, outputs(alloc, after))?;
+    let (front, after) = beside(named, assumed(alloc, after))?;
+    let (parts, after) = beside(front, shared(alloc, after))?;
+    let ((((names, decls), outputs), assumed), body) = parts;
     let program = Program {
         names,
         decls,
@@ -151,8 +151,9 @@ pub(crate) fn four_lists(
 fn task(alloc: Global, names: NameTable, symbols: &[Symbol]) -> Result<(Task, &[Symbol]), ReadError>
     ensures { Gives (λ x. (parts_of x.0, x.1.now)) result (spec.task names symbols.now) }
 {
-    let ((shared, assumed), after) = head(alloc, names, symbols)?;
-    let (lists, after) = four_lists(alloc, after)?;
+    let (front, after) = head(alloc, names, symbols)?;
+    let (parts, after) = beside(front, four_lists(alloc, after))?;
+    let ((shared, assumed), lists) = parts;
     let task = Task {
         shared,
         assumed,

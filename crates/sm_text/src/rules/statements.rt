@@ -10,7 +10,7 @@ ghost use Rattle.sm_text.specs.rules.Written.{statements_before};
 use crate::rules::conditions::guard;
 use crate::rules::expressions::{expression, index};
 use crate::rules::names::{begins_statement, hole, nothing, stands};
-use crate::rules::reading::{FaultKind, Parsed, expect, first, refusal, rest};
+use crate::rules::reading::{FaultKind, Parsed, beside, expect, first, followed, refusal, rest};
 use sm_syntax::{Block, Mark, Name, Stmt, Symbol};
 use std::alloc::Global;
 
@@ -21,8 +21,8 @@ fn assignment(alloc: Global, groups: u64, name: Name, symbols: &[Symbol]) -> Par
 {
     let after = expect(Mark::Becomes, symbols)?;
     let (value, after) = expression(alloc, groups, after)?;
-    let after = expect(Mark::Semicolon, after)?;
-    Ok((Stmt::Assign(name, value), after))
+    let (written, after) = followed(value, Mark::Semicolon, after)?;
+    Ok((Stmt::Assign(name, written), after))
 }
 
 /// A write to an element of the array whose name was read.
@@ -31,10 +31,10 @@ fn write_element(alloc: Global, groups: u64, name: Name, symbols: &[Symbol]) -> 
     ensures { Parses statement_of result (spec.write groups name symbols.now) }
 {
     let (place, after) = index(alloc, groups, symbols)?;
-    let after = expect(Mark::Becomes, after)?;
-    let (value, after) = expression(alloc, groups, after)?;
-    let after = expect(Mark::Semicolon, after)?;
-    Ok((Stmt::Store(name, place, value), after))
+    let (left, after) = followed(place, Mark::Becomes, after)?;
+    let (sides, after) = beside(left, expression(alloc, groups, after))?;
+    let (written, after) = followed(sides, Mark::Semicolon, after)?;
+    Ok((Stmt::Store(name, written.0, written.1), after))
 }
 
 /// A statement after the name that it begins with.
@@ -57,9 +57,10 @@ fn branch(alloc: Global, groups: u64, symbols: &[Symbol]) -> Parsed<'_, Stmt>
     ensures { Parses statement_of result (spec.branch groups (spec.block groups) symbols.now) }
 {
     let (test, after) = guard(alloc, groups, symbols)?;
-    let (yes, after) = block(alloc, groups, after)?;
-    let after = expect(Mark::Else, after)?;
-    let (no, after) = block(alloc, groups, after)?;
+    let (first, after) = beside(test, block(alloc, groups, after))?;
+    let (front, after) = followed(first, Mark::Else, after)?;
+    let (parts, after) = beside(front, block(alloc, groups, after))?;
+    let ((test, yes), no) = parts;
     Ok((Stmt::If(test, yes, no), after))
 }
 
@@ -71,8 +72,8 @@ fn repeated(alloc: Global, groups: u64, symbols: &[Symbol]) -> Parsed<'_, Stmt>
     ensures { Parses statement_of result (spec.repeated groups (spec.block groups) symbols.now) }
 {
     let (test, after) = guard(alloc, groups, symbols)?;
-    let (body, after) = block(alloc, groups, after)?;
-    Ok((Stmt::While(test, body), after))
+    let (parts, after) = beside(test, block(alloc, groups, after))?;
+    Ok((Stmt::While(parts.0, parts.1), after))
 }
 
 /// A statement that begins with a mark.
@@ -148,8 +149,7 @@ fn group(alloc: Global, groups: u64, symbols: &[Symbol]) -> Parsed<'_, Block>
         return Err(refusal(FaultKind::Nested, symbols));
     }
     let (body, after) = code(alloc, groups - 1, rest(symbols))?;
-    let after = expect(Mark::CloseCurly, after)?;
-    Ok((body, after))
+    followed(body, Mark::CloseCurly, after)
 }
 
 /// A block.

@@ -9,7 +9,7 @@ use Rattle.sm_text.proofs.rules.conditions.+conditions.Given as goal
 -- a conjunction stands inside a disjunction
 abbrev pub height : CondChain → ℕ
 height Conjunction = 6
-height Disjunction = 8
+height Disjunction = 9
 
 abbrev pub decreases-bracketed : goal.decreases-bracketed
 decreases-bracketed l = 10 * l.groups + 3
@@ -27,7 +27,10 @@ abbrev pub decreases-operand : goal.decreases-operand
 decreases-operand l = 10 * l.groups + height l.chain
 
 abbrev pub decreases-chained : goal.decreases-chained
-decreases-chained l = 10 * l.groups + height l.chain + 1
+decreases-chained l = 10 * l.groups + height l.chain + 2
+
+abbrev pub decreases-next_operand : goal.decreases-next_operand
+decreases-next_operand l = 10 * l.groups + height l.chain + 1
 
 abbrev pub invariant-chained-operators : goal.invariant-chained-operators
 invariant-chained-operators l =

@@ -1,11 +1,16 @@
-use Rattle.std.proofs.Common.{◌-◌, sym, ap, ◌∙◌}
+use Rattle.std.proofs.Common.{◌≤◌, ◌-◌, sym, ap, ◌∙◌, subst, arith, Result, List}
 use Rattle.std.proofs.lemmas.Result.{err_from_is_err_and}
 use Rattle.sm_syntax.specs.claim.Syntax.{Expression}
-use Rattle.sm_text.specs.rules.Parsers.{Parser}
+use Rattle.sm_syntax.specs.declared.symbol.Symbol.{Symbol}
+use Rattle.sm_syntax.specs.trees.Views.{expression_of}
+use Rattle.sm_text.specs.declared.rules.reading.Fault.{Fault}
+use Rattle.sm_text.specs.rules.Answers.{Parses}
+use Rattle.sm_text.specs.rules.Parsers.{Parser, chain_in, next_operand}
 use Rattle.sm_text.specs.rules.Reading as spec
-use Rattle.sm_text.proofs.Sound.Loops.{leaves, expression_chain-is, inner_sum-none, inner_sum-some, inside-none}
-use Rattle.sm_text.proofs.Sound.Loops.{inside-reads, inside-fails, inside-open}
-use Rattle.sm_text.proofs.Sound.Chained.{chain-begins, chain-refused}
+use Rattle.sm_text.specs.rules.Written.{joined_by}
+use Rattle.sm_text.proofs.Sound.Loops.{found, leaves, expression_chain-is, inner_sum-none, inner_sum-some, inside-none}
+use Rattle.sm_text.proofs.Sound.Loops.{inside-fails, inside-followed, beside-reads, beside-fails}
+use Rattle.sm_text.proofs.Sound.Chained.{chain-begins, chain-refused, chain-turn, chain-fault, chain-end, next-none, next-some, next-room}
 use Rattle.sm_text.proofs.rules.expressions.+expressions.Goals as goal
 
 pub chained-returns-in_err-left : goal.chained-returns-in_err-left
@@ -28,13 +33,53 @@ group-returns-in_err-value t c =
     (λ f e. inside-fails _ _ _ _ (inner_sum-some _ c.if-groups-eq0.false) f
     (ap (spec.sum (spec.inner_sum (c.args.groups - 1))) (sym c.rest.ensures) ∙ e))
 
-pub group-returns-in_err-after : goal.group-returns-in_err-after
-group-returns-in_err-after t c =
-    leaves _ c.from_residual-in_err-after.result _
-    (err_from_is_err_and c.from_residual-in_err-after.result c.from_residual-in_err-after.ensures.1) _ _ c.in_err-after.ensures
-    (inside-open _ _ _ _ _ _ (inner_sum-some _ c.if-groups-eq0.false)
-    (ap (spec.sum (spec.inner_sum (c.args.groups - 1))) (sym c.rest.ensures) ∙ c.in_ok-value.ensures))
-
 pub group-returns : goal.group-returns
-group-returns t c = inside-reads _ _ _ _ _ _ _ (inner_sum-some _ c.if-groups-eq0.false)
-    (ap (spec.sum (spec.inner_sum (c.args.groups - 1))) (sym c.rest.ensures) ∙ c.in_ok-value.ensures) c.in_ok-after.ensures
+group-returns t c = inside-followed expression_of _ _ _ _ _ _ c.followed.result (inner_sum-some _ c.if-groups-eq0.false)
+    (ap (spec.sum (spec.inner_sum (c.args.groups - 1))) (sym c.rest.ensures) ∙ c.in_ok-value.ensures) c.followed.ensures.ok
+    c.followed.ensures.err
+
+pub next_operand-returns-then-room-eq0 : goal.next_operand-returns-then-room-eq0
+next_operand-returns-then-room-eq0 t c = rw c.refusal.ensures (next-none (spec.expression_operand (spec.inner_sum c.args.groups) c.args.chain) c.args.room c.args.symbols.now c.if-room-eq0.true)
+
+pub next_operand-returns : goal.next_operand-returns
+next_operand-returns t c =
+    let operand = spec.expression_operand (spec.inner_sum c.args.groups) c.args.chain in
+    let Read : Result (Expression × List Symbol) Fault → Type 0 = λ r. Parses expression_of c.operand.result r in
+    subst Read (ap operand c.rest.ensures ∙ sym (next-some operand c.args.room c.args.symbols.now c.if-room-eq0.false)) c.operand.ensures
+
+pub chained-overflow_sub-room : goal.chained-overflow_sub-room
+chained-overflow_sub-room t c =
+    let operand = spec.expression_operand (spec.inner_sum c.args.groups) c.args.chain in
+    let some : 1 ≤ c.operators.room = next-room operand c.operators.room c.operators.after.now _
+    (beside-reads expression_of c.next_operand.result (next_operand operand c.operators.room c.operators.after.now) _ _ c.next_operand.ensures
+    c.in_ok-sides.ensures.ok.1) in
+    omega (arith, some)
+
+pub chained-operators-smaller : goal.chained-operators-smaller
+chained-operators-smaller t c =
+    let operand = spec.expression_operand (spec.inner_sum c.args.groups) c.args.chain in
+    let some : 1 ≤ c.operators.room = next-room operand c.operators.room c.operators.after.now _
+    (beside-reads expression_of c.next_operand.result (next_operand operand c.operators.room c.operators.after.now) _ _ c.next_operand.ensures
+    c.in_ok-sides.ensures.ok.1) in
+    omega (arith, some)
+
+pub chained-returns-in_err-sides : goal.chained-returns-in_err-sides
+chained-returns-in_err-sides t c =
+    leaves _ c.from_residual-in_err-sides.result _
+    (err_from_is_err_and c.from_residual-in_err-sides.result c.from_residual-in_err-sides.ensures.1) _ _
+    (beside-fails expression_of c.next_operand.result (next_operand (spec.expression_operand (spec.inner_sum c.args.groups) c.args.chain) c.operators.room c.operators.after.now) _ c.next_operand.ensures c.in_err-sides.ensures.err)
+    (λ f e. c.operators.invariant
+    ∙ chain-fault (spec.expression_operators c.args.chain) (spec.expression_operand (spec.inner_sum c.args.groups) c.args.chain) c.operators.room (expression_of c.operators.left) c.operators.after.now _ (found (spec.expression_operators c.args.chain) c.first.ensures c.in-Some.ensures) f e)
+
+pub chained-operators-preserved : goal.chained-operators-preserved
+chained-operators-preserved t c =
+    let operand = spec.expression_operand (spec.inner_sum c.args.groups) c.args.chain in
+    c.operators.invariant ∙ chain-turn (spec.expression_operators c.args.chain) operand c.operators.room (expression_of c.operators.left) c.operators.after.now (joined_by c.in-Some.operator) (expression_of c.in_ok-sides.sides.1) c.in_ok-sides.behind.now (found (spec.expression_operators c.args.chain) c.first.ensures c.in-Some.ensures)
+    (beside-reads expression_of c.next_operand.result (next_operand operand c.operators.room c.operators.after.now) _ _ c.next_operand.ensures c.in_ok-sides.ensures.ok.1)
+    ∙ ap (λ (e : Expression). chain_in (spec.expression_operators c.args.chain) operand (c.operators.room - 1) e c.in_ok-sides.behind.now)
+    {x = joined_by c.in-Some.operator (expression_of c.operators.left) (expression_of c.in_ok-sides.sides.1)}
+    (cc (c.in_ok-left-2.ensures, c.in_ok-sides.ensures.ok.0))
+
+pub chained-returns : goal.chained-returns
+chained-returns t c =
+    c.operators.invariant ∙ chain-end (spec.expression_operators c.args.chain) (spec.expression_operand (spec.inner_sum c.args.groups) c.args.chain) c.operators.room (expression_of c.operators.left) c.operators.after.now (found (spec.expression_operators c.args.chain) c.first.ensures c.in_default.ensures)

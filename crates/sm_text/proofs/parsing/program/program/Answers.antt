@@ -1,0 +1,44 @@
+-- Each part stands behind those before it.
+use Rattle.std.proofs.Common.{refl, sym, ap, ◌∙◌}
+use Rattle.std.proofs.lemmas.Result.{err_from_is_err_and}
+use Rattle.sm_syntax.specs.trees.Programs.{declared_of, outputs_of}
+use Rattle.sm_syntax.specs.trees.Views.{code_of}
+use Rattle.sm_text.specs.parsing.Program as spec
+use Rattle.sm_text.proofs.Sound.Loops.{leaves, beside-reads, beside-fails, read-as}
+use Rattle.sm_text.proofs.parsing.program.program.Goals as goal
+
+pub returns-in_err-declared : goal.returns-in_err-declared
+unfolding spec.program
+returns-in_err-declared c =
+    leaves _ c.from_residual.result _ (err_from_is_err_and c.from_residual.result c.from_residual.ensures.1) _ _
+    (beside-fails declared_of c.declarations.result _ _ c.declarations.ensures c.in_err-declared.ensures.err) (λ f e. rw e refl)
+
+pub returns-in_err-front : goal.returns-in_err-front
+unfolding spec.program
+returns-in_err-front c =
+    let decls = beside-reads declared_of c.declarations.result _ _ _ c.declarations.ensures c.in_ok-declared.ensures.ok.1 in
+    leaves _ c.from_residual-in_err-front.result _
+    (err_from_is_err_and c.from_residual-in_err-front.result c.from_residual-in_err-front.ensures.1) _ _
+    (beside-fails outputs_of c.outputs.result _ _ c.outputs.ensures c.in_err-front.ensures.err) (λ f e. rw (decls, e) refl)
+
+pub returns-in_err-parts : goal.returns-in_err-parts
+unfolding spec.program
+returns-in_err-parts c =
+    let decls = beside-reads declared_of c.declarations.result _ _ _ c.declarations.ensures c.in_ok-declared.ensures.ok.1 in
+    let outputs = beside-reads outputs_of c.outputs.result _ _ _ c.outputs.ensures c.in_ok-front.ensures.ok.1 in
+    leaves _ c.from_residual-in_err-parts.result _
+    (err_from_is_err_and c.from_residual-in_err-parts.result c.from_residual-in_err-parts.ensures.1) _ _
+    (beside-fails code_of c.shared.result _ _ c.shared.ensures c.in_err-parts.ensures.err) (λ f e. rw (decls, outputs, e) refl)
+
+pub returns : goal.returns
+unfolding spec.program
+returns c =
+    let front = c.in_ok-parts.ensures.ok.0 in
+    let declared = ap (λ p. p.0) front ∙ c.in_ok-front.ensures.ok.0 in
+    let names = ap (λ p. p.0) declared ∙ c.in_ok-declared.ensures.ok.0 in
+    let decls = read-as declared_of _ _ _ _ (beside-reads declared_of c.declarations.result _ _ _ c.declarations.ensures c.in_ok-declared.ensures.ok.1)
+    (sym (ap (λ p. p.1) declared)) in
+    let outputs = read-as outputs_of _ _ _ _ (beside-reads outputs_of c.outputs.result _ _ _ c.outputs.ensures c.in_ok-front.ensures.ok.1)
+    (sym (ap (λ p. p.1) front)) in
+    let body = beside-reads code_of c.shared.result _ _ _ c.shared.ensures c.in_ok-parts.ensures.ok.1 in
+    rw (decls, outputs, body, names) refl
