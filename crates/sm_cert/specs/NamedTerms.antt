@@ -2,7 +2,7 @@
 use Rattle.sm_syntax.specs.text.Sorts.{Sorts}
 use Rattle.sm_term.specs.Terms.{Tree}
 use Rattle.sm_term.specs.Sorted.{IsSorted}
-use Rattle.sm_theory.specs.SortedFacts.{EachNamed}
+use Rattle.sm_theory.specs.Named.{EachNamed}
 use Rattle.sm_cert.specs.Certificates.{Certificate, Next, Closed, Split}
 
 -- something is so of each term that a line of the certificate names

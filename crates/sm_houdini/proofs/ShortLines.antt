@@ -24,7 +24,7 @@ use Rattle.sm_theory.specs.Equality.{or_other, formula_if, say_equal, is_inhabit
 use Rattle.sm_theory.specs.Facts.{BranchFact}
 use Rattle.sm_theory.specs.Lines as cert
 use Rattle.sm_theory.specs.Lines.{CertificateLine}
-use Rattle.sm_theory.specs.SortedFacts.{EachNamed}
+use Rattle.sm_theory.specs.Named.{EachNamed}
 use Rattle.sm_theory.specs.Ways.{Ways, ways_with, adding, adds}
 use Rattle.sm_cert.specs.Certificates.{Certificate, Next, Closed, Split, lines_in, splits_above, in_one_way, in_no_way, in_two_ways, first_bad}
 use Rattle.sm_cert.specs.Certificates.{TooManySplits, bad_line, refused}

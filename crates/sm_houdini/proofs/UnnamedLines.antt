@@ -5,7 +5,7 @@ use Rattle.std.specs.Prelude.{map}
 use Rattle.sm_term.specs.Terms.{Tree}
 use Rattle.sm_theory.specs.declared.line.CertLine.{CertLine}
 use Rattle.sm_theory.specs.declared.line.CertLine.TheVariants as cert
-use Rattle.sm_theory.specs.SortedFacts.{EachNamed}
+use Rattle.sm_theory.specs.Named.{EachNamed}
 use Rattle.sm_theory.specs.Views.{line_in, IsLineWithin}
 use Rattle.sm_cert.specs.declared.tree.CertEnd.{CertEnd, CertEnd-F, roll-CertEnd, map-CertEnd, fold-roll-CertEnd}
 use Rattle.sm_cert.specs.declared.tree.CertEnd.TheOpen as layer

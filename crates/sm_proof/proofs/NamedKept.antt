@@ -8,7 +8,7 @@ use Rattle.sm_term.specs.Terms.{Tree}
 use Rattle.sm_term.specs.Assertions.{Assertion}
 use Rattle.sm_theory.specs.Lines as cert
 use Rattle.sm_theory.specs.Lines.{CertificateLine, followed}
-use Rattle.sm_theory.specs.SortedFacts.{EachNamed}
+use Rattle.sm_theory.specs.Named.{EachNamed}
 use Rattle.sm_theory.proofs.FactsLemmas.{followed_from}
 use Rattle.sm_plan.specs.Copies.{Copies}
 use Rattle.sm_plan.specs.Masks.{set_of}

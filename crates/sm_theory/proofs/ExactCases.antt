@@ -114,5 +114,5 @@ unfolding exact gcd pughs
 wants_all_steps = refl
 
 -- a number of steps is no fact's
-steps_stay : moved_line (λ (n : ℕ). suc n) (Exact 7) ≡ Exact 7
+steps_stay : moved_line {T = Tree} (λ (n : ℕ). suc n) (Exact 7) ≡ Exact 7
 steps_stay = refl

@@ -6,35 +6,39 @@ use Rattle.sm_term.specs.Terms.{Tree}
 use Rattle.sm_term.specs.Assertions.{Assertion, Yes, No, Eq, Ne, Le, Lt, And, Or}
 use Rattle.sm_theory.specs.Facts.{BranchFact, Formal, Sum}
 
--- a line: facts are named by their numbers on the branch, terms stand whole
-pub data CertificateLine : Type 0 where
+-- a line: facts are named by their numbers on the branch, and terms in a way that is left open
+pub data LineOver (T : Type 0) : Type 0 where
   -- both parts of a conjunction
-  Both : ℕ → CertificateLine
+  Both : ℕ → LineOver T
   -- one part of a disjunction, or the other
-  Either : ℕ → CertificateLine
+  Either : ℕ → LineOver T
   -- two numbers are equal, or they aren't
-  Cases : Tree → Tree → CertificateLine
+  Cases : T → T → LineOver T
   -- of two numbers that aren't equal one is less than the other
-  Order : ℕ → CertificateLine
+  Order : ℕ → LineOver T
   -- equality: reflexive, symmetric, transitive, put into a contrary, and kept by functions
-  Refl : Tree → CertificateLine
-  Sym : ℕ → CertificateLine
-  Trans Subst : ℕ → ℕ → CertificateLine
-  Cong : Tree → Tree → List ℕ → CertificateLine
+  Refl : T → LineOver T
+  Sym : ℕ → LineOver T
+  Trans Subst : ℕ → ℕ → LineOver T
+  Cong : T → T → List ℕ → LineOver T
   -- numbers whose linear forms are equal, or differ in the constant alone
-  Same Apart : Tree → Tree → CertificateLine
+  Same Apart : T → T → LineOver T
   -- an element that was written is read, at its index or at another
-  Hit : Tree → ℕ → CertificateLine
-  Miss : Tree → Tree → ℕ → CertificateLine
+  Hit : T → ℕ → LineOver T
+  Miss : T → T → ℕ → LineOver T
   -- a comparison as a linear form, the sum of two in which an atom cancels, and a tight form
-  Lin : ℕ → CertificateLine
-  Elim : ℕ → ℕ → Tree → CertificateLine
-  Tight : ℕ → CertificateLine
+  Lin : ℕ → LineOver T
+  Elim : ℕ → ℕ → T → LineOver T
+  Tight : ℕ → LineOver T
   -- the forms of the branch have no solution, by the exact decision in so many steps
-  Exact : ℕ → CertificateLine
+  Exact : ℕ → LineOver T
   -- a fact that can't hold, or a fact and its contrary
-  Close : ℕ → CertificateLine
-  Clash : ℕ → ℕ → CertificateLine
+  Close : ℕ → LineOver T
+  Clash : ℕ → ℕ → LineOver T
+
+-- a line whose terms stand whole
+abbrev pub CertificateLine : Type 0
+CertificateLine = LineOver Tree
 
 -- goes on with what is there
 abbrev pub followed : {S T : Type 0} → Option S → (S → Option T) → Option T

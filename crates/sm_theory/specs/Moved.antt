@@ -2,13 +2,13 @@
 use Rattle.std.specs.Prelude.{◌≡◌, ℕ, IsTrue, slice_get, Some, List, map}
 use Rattle.std.specs.List.{AllByRecursion}
 use Rattle.sm_theory.specs.Facts.{BranchFact}
-use Rattle.sm_theory.specs.Lines.{CertificateLine, Both, Either, Cases, Order, Refl, Sym, Trans}
-use Rattle.sm_theory.specs.Lines.{Subst, Cong, Same, Apart, Hit, Miss, Lin, Elim, Tight, Exact}
+use Rattle.sm_theory.specs.Lines.{CertificateLine, LineOver, Both, Either, Cases, Order, Refl}
+use Rattle.sm_theory.specs.Lines.{Sym, Trans, Subst, Cong, Same, Apart, Hit, Miss, Lin, Elim, Tight, Exact}
 use Rattle.sm_theory.specs.Lines.{Close, Clash}
 use Rattle.sm_theory.specs.Named.{facts_named, reads_all}
 
 -- a line with other numbers of facts; a number of steps stays
-abbrev pub moved_line : (ℕ → ℕ) → CertificateLine → CertificateLine
+abbrev pub moved_line : {T : Type 0} → (ℕ → ℕ) → LineOver T → LineOver T
 moved_line move (Both n) = Both (move n)
 moved_line move (Either n) = Either (move n)
 moved_line move (Cases t u) = Cases t u

@@ -7,9 +7,8 @@ use Rattle.sm_term.specs.Terms.{Tree}
 use Rattle.sm_term.specs.Sorted.{IsSorted, HasSort, IsFormSorted}
 use Rattle.sm_term.specs.Fresh.{IsBelow, IsFormBelow}
 use Rattle.sm_theory.specs.Facts.{BranchFact, Formal, Sum}
-use Rattle.sm_theory.specs.Lines.{CertificateLine, Both, Either, Cases, Order, Refl, Sym, Trans}
-use Rattle.sm_theory.specs.Lines.{Subst, Cong, Same, Apart, Hit, Miss, Lin, Elim, Tight, Exact}
-use Rattle.sm_theory.specs.Lines.{Close, Clash}
+use Rattle.sm_theory.specs.Lines.{CertificateLine}
+use Rattle.sm_theory.specs.Named.{EachNamed}
 
 -- something is so of the term of each part
 abbrev pub EachAtom : (Tree → Type 0) → List (Tree × ℤ) → Type 0
@@ -41,28 +40,6 @@ IsFactBelow k (Sum f) = EachAtom (IsBelow k) f.parts
 abbrev pub AreFactsBelow : ℕ → List BranchFact → Type 0
 AreFactsBelow k [] = Unit {0}
 AreFactsBelow k (f ∷ fs) = IsFactBelow k f × AreFactsBelow k fs
-
--- something is so of each term that a line names
-abbrev pub EachNamed : (Tree → Type 0) → CertificateLine → Type 0
-EachNamed P (Both n) = Unit {0}
-EachNamed P (Either n) = Unit {0}
-EachNamed P (Cases t u) = P t × P u
-EachNamed P (Order n) = Unit {0}
-EachNamed P (Refl t) = P t
-EachNamed P (Sym n) = Unit {0}
-EachNamed P (Trans m n) = Unit {0}
-EachNamed P (Subst m n) = Unit {0}
-EachNamed P (Cong t u ns) = P t × P u
-EachNamed P (Same t u) = P t × P u
-EachNamed P (Apart t u) = P t × P u
-EachNamed P (Hit t n) = P t
-EachNamed P (Miss t u n) = P t × P u
-EachNamed P (Lin n) = Unit {0}
-EachNamed P (Elim m n t) = P t
-EachNamed P (Tight n) = Unit {0}
-EachNamed P (Exact n) = Unit {0}
-EachNamed P (Close n) = Unit {0}
-EachNamed P (Clash m n) = Unit {0}
 
 -- the terms that a line names are sorted
 abbrev pub IsLineSorted : Sorts → CertificateLine → Type 0

@@ -10,54 +10,41 @@ use Rattle.sm_theory.specs.declared.fact.Fact.TheVariants as fact
 use Rattle.sm_theory.specs.declared.line.CertLine.{CertLine}
 use Rattle.sm_theory.specs.declared.line.CertLine.TheVariants as line
 use Rattle.sm_theory.specs.Facts.{BranchFact, Formal, Sum}
-use Rattle.sm_theory.specs.Lines.{CertificateLine, Both, Either, Cases, Order, Refl, Sym, Trans}
-use Rattle.sm_theory.specs.Lines.{Subst, Cong, Same, Apart, Hit, Miss, Lin, Elim, Tight, Exact}
+use Rattle.sm_theory.specs.Lines.{CertificateLine, LineOver, Both, Either, Cases, Order, Refl}
+use Rattle.sm_theory.specs.Lines.{Sym, Trans, Subst, Cong, Same, Apart, Hit, Miss, Lin, Elim, Tight, Exact}
 use Rattle.sm_theory.specs.Lines.{Close, Clash}
+use Rattle.sm_theory.specs.Named.{EachNamed, with_terms}
 use Rattle.sm_theory.specs.Standing.{IsKeptFor}
+
+-- a line of the program, by its numbers of terms and facts
+abbrev pub numbered_line : CertLine → LineOver ℕ
+numbered_line (line.Both n) = Both n
+numbered_line (line.Either n) = Either n
+numbered_line (line.Cases t u) = Cases t.0 u.0
+numbered_line (line.Order n) = Order n
+numbered_line (line.Refl t) = Refl t.0
+numbered_line (line.Sym n) = Sym n
+numbered_line (line.Trans m n) = Trans m n
+numbered_line (line.Subst m n) = Subst m n
+numbered_line (line.Cong t u ns) = Cong t.0 u.0 ns.list.items
+numbered_line (line.Same t u) = Same t.0 u.0
+numbered_line (line.Apart t u) = Apart t.0 u.0
+numbered_line (line.Hit t n) = Hit t.0 n
+numbered_line (line.Miss t u n) = Miss t.0 u.0 n
+numbered_line (line.Lin n) = Lin n
+numbered_line (line.Elim m n t) = Elim m n t.0
+numbered_line (line.Tight n) = Tight n
+numbered_line (line.Exact n) = Exact n
+numbered_line (line.Close n) = Close n
+numbered_line (line.Clash m n) = Clash m n
 
 -- the line that a line of the program stands for
 abbrev pub line_in : List Tree → CertLine → CertificateLine
-line_in trees (line.Both n) = Both n
-line_in trees (line.Either n) = Either n
-line_in trees (line.Cases t u) = Cases (tree_at trees t.0) (tree_at trees u.0)
-line_in trees (line.Order n) = Order n
-line_in trees (line.Refl t) = Refl (tree_at trees t.0)
-line_in trees (line.Sym n) = Sym n
-line_in trees (line.Trans m n) = Trans m n
-line_in trees (line.Subst m n) = Subst m n
-line_in trees (line.Cong t u ns) = Cong (tree_at trees t.0) (tree_at trees u.0) ns.list.items
-line_in trees (line.Same t u) = Same (tree_at trees t.0) (tree_at trees u.0)
-line_in trees (line.Apart t u) = Apart (tree_at trees t.0) (tree_at trees u.0)
-line_in trees (line.Hit t n) = Hit (tree_at trees t.0) n
-line_in trees (line.Miss t u n) = Miss (tree_at trees t.0) (tree_at trees u.0) n
-line_in trees (line.Lin n) = Lin n
-line_in trees (line.Elim m n t) = Elim m n (tree_at trees t.0)
-line_in trees (line.Tight n) = Tight n
-line_in trees (line.Exact n) = Exact n
-line_in trees (line.Close n) = Close n
-line_in trees (line.Clash m n) = Clash m n
+line_in trees l = with_terms (tree_at trees) (numbered_line l)
 
 -- the terms that a line names are in a table of `count` terms
 abbrev pub IsLineWithin : ℕ → CertLine → Type 0
-IsLineWithin count (line.Both n) = Unit {0}
-IsLineWithin count (line.Either n) = Unit {0}
-IsLineWithin count (line.Cases t u) = (t.0 < count) × (u.0 < count)
-IsLineWithin count (line.Order n) = Unit {0}
-IsLineWithin count (line.Refl t) = t.0 < count
-IsLineWithin count (line.Sym n) = Unit {0}
-IsLineWithin count (line.Trans m n) = Unit {0}
-IsLineWithin count (line.Subst m n) = Unit {0}
-IsLineWithin count (line.Cong t u ns) = (t.0 < count) × (u.0 < count)
-IsLineWithin count (line.Same t u) = (t.0 < count) × (u.0 < count)
-IsLineWithin count (line.Apart t u) = (t.0 < count) × (u.0 < count)
-IsLineWithin count (line.Hit t n) = t.0 < count
-IsLineWithin count (line.Miss t u n) = (t.0 < count) × (u.0 < count)
-IsLineWithin count (line.Lin n) = Unit {0}
-IsLineWithin count (line.Elim m n t) = t.0 < count
-IsLineWithin count (line.Tight n) = Unit {0}
-IsLineWithin count (line.Exact n) = Unit {0}
-IsLineWithin count (line.Close n) = Unit {0}
-IsLineWithin count (line.Clash m n) = Unit {0}
+IsLineWithin count l = EachNamed (λ (n : ℕ). n < count) (numbered_line l)
 
 -- a fact of the program stands for a fact: a formula for its assertion, a form for one with the same
 -- coefficients; its terms are in the table

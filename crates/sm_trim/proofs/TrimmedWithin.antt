@@ -11,7 +11,7 @@ use Rattle.sm_theory.specs.Lines.{Elim}
 use Rattle.sm_theory.specs.Lines.{Tight, Exact, Close, Clash}
 use Rattle.sm_theory.specs.Named.{facts_added}
 use Rattle.sm_theory.specs.Moved.{moved_line}
-use Rattle.sm_theory.specs.SortedFacts.{EachNamed}
+use Rattle.sm_theory.specs.Named.{EachNamed}
 use Rattle.sm_theory.specs.Views.{line_in, IsLineWithin}
 use Rattle.sm_cert.specs.declared.tree.CertEnd.{CertEnd, CertEnd-F, roll-CertEnd, map-CertEnd, fold-roll-CertEnd}
 use Rattle.sm_cert.specs.declared.tree.CertEnd.TheOpen as layer

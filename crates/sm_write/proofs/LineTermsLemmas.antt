@@ -5,7 +5,7 @@ use Rattle.sm_term.specs.Tables.{tree_at}
 use Rattle.sm_term.specs.Terms.{Tree}
 use Rattle.sm_theory.specs.declared.line.CertLine.{CertLine}
 use Rattle.sm_theory.specs.declared.line.CertLine.TheVariants as cert
-use Rattle.sm_theory.specs.SortedFacts.{EachNamed}
+use Rattle.sm_theory.specs.Named.{EachNamed}
 use Rattle.sm_theory.specs.Views.{line_in, IsLineWithin}
 use Rattle.sm_write.specs.LineTerms.{first_term, second_term}
 use Rattle.sm_write.specs.Written.{Names, IsNamed, IsLineNamed}

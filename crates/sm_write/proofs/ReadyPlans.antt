@@ -11,7 +11,7 @@ use Rattle.sm_term.specs.Terms.{Tree}
 use Rattle.sm_theory.specs.Facts.{BranchFact}
 use Rattle.sm_theory.specs.Lines as cert
 use Rattle.sm_theory.specs.Lines.{CertificateLine}
-use Rattle.sm_theory.specs.SortedFacts.{EachNamed}
+use Rattle.sm_theory.specs.Named.{EachNamed}
 use Rattle.sm_cert.specs.Certificates.{Certificate, Next, Closed, Split}
 use Rattle.sm_cert.specs.NamedTerms.{EachTerm}
 use Rattle.sm_plan.specs.Limits.{is_shallow}

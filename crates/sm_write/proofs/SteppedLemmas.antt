@@ -14,7 +14,7 @@ use Rattle.sm_plan.specs.States.{State}
 use Rattle.sm_proof.specs.Lines.{Cert}
 use Rattle.sm_proof.specs.Passing.{Pending, Branch, Progress, taken}
 use Rattle.sm_proof.specs.Verdicts.{Subject}
-use Rattle.sm_theory.specs.SortedFacts.{EachNamed}
+use Rattle.sm_theory.specs.Named.{EachNamed}
 use Rattle.sm_cert.specs.Certificates.{Certificate, Next, Closed, Split, splits_above}
 use Rattle.sm_cert.specs.Views.{lines_before}
 use Rattle.sm_write.specs.Seen.{IsBuilt, Seen}

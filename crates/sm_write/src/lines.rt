@@ -2,7 +2,7 @@
 ghost use Rattle.std.specs.Prelude.{◌<◌, List, length, nat_eq, IfSome, OnOk};
 ghost use Rattle.std.specs.HashMap.{get};
 ghost use Rattle.sm_term.specs.Tables.{trees_in, tree_at};
-ghost use Rattle.sm_theory.specs.SortedFacts.{EachNamed};
+ghost use Rattle.sm_theory.specs.Named.{EachNamed};
 ghost use Rattle.sm_theory.specs.Views.{line_in, IsLineWithin};
 ghost use Rattle.sm_plan.specs.States.{State};
 ghost use Rattle.sm_proof.specs.Passing.{Progress};
