@@ -1,12 +1,13 @@
 -- Cited by public clauses: what a line names by numbers, and the words by which a line is refused.
 use Rattle.std.specs.Prelude.{ℕ, nat_lt, nat_le, Bool, true, ◌&&◌, if◌then◌else◌}
-use Rattle.std.specs.Prelude.{Option, Some, None, Result, Ok, Err, List, [], ◌∷◌, slice_get}
+use Rattle.std.specs.Prelude.{Option, Some, None, Result, Ok, Err, List, [], ◌∷◌, length, slice_get}
 use Rattle.sm_syntax.specs.claim.ConflictFree.{copy_of}
 use Rattle.sm_syntax.specs.text.Parts.{by_copy}
 use Rattle.sm_term.specs.Terms.{Tree}
 use Rattle.sm_term.specs.Assertions.{Assertion}
-use Rattle.sm_theory.specs.Lines as cert
+use Rattle.sm_term.specs.Tables.{tree_at}
 use Rattle.sm_theory.specs.Lines.{CertificateLine, followed}
+use Rattle.sm_theory.specs.Named.{facts_named, terms_named, with_terms}
 use Rattle.sm_plan.specs.Masks.{set_of}
 use Rattle.sm_plan.specs.Nodes as plan
 use Rattle.sm_proof.specs.declared.line.NodeLine.{NodeLine}
@@ -37,45 +38,12 @@ abbrev pub are_there : ℕ → List ℕ → Bool
 are_there count [] = true
 are_there count (n ∷ ns) = nat_lt n count && are_there count ns
 
--- a line with facts, where they are on a branch of `count` facts
-abbrev pub naming_facts : ℕ → List ℕ → CertificateLine → Option CertificateLine
-naming_facts count ns line = if are_there count ns then Some line else None
-
--- a line with a term that is there, and facts that are
-abbrev pub naming_term : List Tree → ℕ → (Tree → Option CertificateLine) → Option CertificateLine
-naming_term trees t next = followed (slice_get trees t) next
-
--- a line of a certificate with the terms that it names, where these and its facts are there
+-- a line of a certificate with the terms that it names, where these are there and its facts are on a
+-- branch of `count` facts
 abbrev pub named_line : List Tree → ℕ → NumberedLine → Option CertificateLine
-named_line trees count (Both n) = naming_facts count (n ∷ []) (cert.Both n)
-named_line trees count (Either n) = naming_facts count (n ∷ []) (cert.Either n)
-named_line trees count (Cases t u) =
-    naming_term trees t (λ (a : Tree). naming_term trees u (λ (b : Tree). Some (cert.Cases a b)))
-named_line trees count (Order n) = naming_facts count (n ∷ []) (cert.Order n)
-named_line trees count (Refl t) = naming_term trees t (λ (a : Tree). Some (cert.Refl a))
-named_line trees count (Sym n) = naming_facts count (n ∷ []) (cert.Sym n)
-named_line trees count (Trans m n) = naming_facts count (m ∷ n ∷ []) (cert.Trans m n)
-named_line trees count (Subst m n) = naming_facts count (m ∷ n ∷ []) (cert.Subst m n)
-named_line trees count (Cong t u ns) =
-    naming_term trees t
-    (λ (a : Tree). naming_term trees u (λ (b : Tree). naming_facts count ns (cert.Cong a b ns)))
-named_line trees count (Same t u) =
-    naming_term trees t (λ (a : Tree). naming_term trees u (λ (b : Tree). Some (cert.Same a b)))
-named_line trees count (Apart t u) =
-    naming_term trees t (λ (a : Tree). naming_term trees u (λ (b : Tree). Some (cert.Apart a b)))
-named_line trees count (Hit t n) =
-    naming_term trees t (λ (a : Tree). naming_facts count (n ∷ []) (cert.Hit a n))
-named_line trees count (Miss t u n) =
-    naming_term trees t
-    (λ (a : Tree). naming_term trees u
-    (λ (b : Tree). naming_facts count (n ∷ []) (cert.Miss a b n)))
-named_line trees count (Lin n) = naming_facts count (n ∷ []) (cert.Lin n)
-named_line trees count (Elim m n t) =
-    naming_term trees t (λ (a : Tree). naming_facts count (m ∷ n ∷ []) (cert.Elim m n a))
-named_line trees count (Tight n) = naming_facts count (n ∷ []) (cert.Tight n)
-named_line trees count (Exact n) = Some (cert.Exact n)
-named_line trees count (Close n) = naming_facts count (n ∷ []) (cert.Close n)
-named_line trees count (Clash m n) = naming_facts count (m ∷ n ∷ []) (cert.Clash m n)
+named_line trees count line =
+    if are_there (length trees) (terms_named line) && are_there count (facts_named line)
+    then Some (with_terms (tree_at trees) line) else None
 
 -- a node with the formula that it keeps, where that is there; a set of more than four copies fits
 -- no state

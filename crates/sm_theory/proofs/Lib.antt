@@ -1,4 +1,5 @@
 pub mod FactsLemmas
+pub mod LinesOver
 pub mod BranchesLemmas
 pub mod EqualityLemmas
 pub mod CongruenceSound
