@@ -8,9 +8,9 @@ use Rattle.sm_term.specs.Formulas.{NumberedFormula, Yes, No, Eq, Ne, Le, Lt, And
 use Rattle.sm_term.specs.Tables.{tree_at}
 use Rattle.sm_term.specs.Terms.{Tree}
 use Rattle.sm_theory.specs.declared.line.CertLine.{CertLine}
-use Rattle.sm_theory.specs.declared.line.CertLine.TheVariants as cert
 use Rattle.sm_theory.specs.Named.{EachNamed}
-use Rattle.sm_theory.specs.Views.{line_in, IsLineWithin}
+use Rattle.sm_theory.specs.Views.{line_in, IsLineWithin, numbered_line}
+use Rattle.sm_theory.proofs.LinesOver.{each_with, each_more}
 use Rattle.sm_cert.specs.Certificates.{Certificate}
 use Rattle.sm_cert.specs.NamedTerms.{EachTerm}
 use Rattle.sm_cert.specs.Views.{lines_before, AreLinesWithin}
@@ -38,25 +38,9 @@ module _ (since : List (Option ℕ)) (k : ℕ) where
   known_inside n count few known = let here = inside since n known.0 known.1 in omega (arith, here, few)
 
   line_within : (count : ℕ) → length since ≤ count → (l : CertLine) → IsLineKnown since k l → IsLineWithin count l
-  line_within count few (cert.Both n) h = tt
-  line_within count few (cert.Either n) h = tt
-  line_within count few (cert.Cases t u) h = (known_inside t.0 count few h.0, known_inside u.0 count few h.1)
-  line_within count few (cert.Order n) h = tt
-  line_within count few (cert.Refl t) h = known_inside t.0 count few h
-  line_within count few (cert.Sym n) h = tt
-  line_within count few (cert.Trans m n) h = tt
-  line_within count few (cert.Subst m n) h = tt
-  line_within count few (cert.Cong t u ns) h = (known_inside t.0 count few h.0, known_inside u.0 count few h.1)
-  line_within count few (cert.Same t u) h = (known_inside t.0 count few h.0, known_inside u.0 count few h.1)
-  line_within count few (cert.Apart t u) h = (known_inside t.0 count few h.0, known_inside u.0 count few h.1)
-  line_within count few (cert.Hit t n) h = known_inside t.0 count few h
-  line_within count few (cert.Miss t u n) h = (known_inside t.0 count few h.0, known_inside u.0 count few h.1)
-  line_within count few (cert.Lin n) h = tt
-  line_within count few (cert.Elim m n t) h = known_inside t.0 count few h
-  line_within count few (cert.Tight n) h = tt
-  line_within count few (cert.Exact n) h = tt
-  line_within count few (cert.Close n) h = tt
-  line_within count few (cert.Clash m n) h = tt
+  line_within count few l h =
+      each_more (IsKnownBy since k) (λ (n : ℕ). n < count) (numbered_line l)
+      (λ (n : ℕ) (known : IsKnownBy since k n). known_inside n count few known) h
 
   pub lines_within : (count : ℕ) → length since ≤ count → (ls : List CertLine) → AreLinesFit since k ls → AreLinesWithin count ls
   lines_within count few [] all = tt
@@ -86,25 +70,9 @@ module _ (since : List (Option ℕ)) (k : ℕ) where
     known n h = (known_named sorts states trees since all k n h).1
 
     pub line_named : (l : CertLine) → IsLineKnown since k l → EachNamed Named (line_in trees l)
-    line_named (cert.Both n) h = tt
-    line_named (cert.Either n) h = tt
-    line_named (cert.Cases t u) h = (known t.0 h.0, known u.0 h.1)
-    line_named (cert.Order n) h = tt
-    line_named (cert.Refl t) h = known t.0 h
-    line_named (cert.Sym n) h = tt
-    line_named (cert.Trans m n) h = tt
-    line_named (cert.Subst m n) h = tt
-    line_named (cert.Cong t u ns) h = (known t.0 h.0, known u.0 h.1)
-    line_named (cert.Same t u) h = (known t.0 h.0, known u.0 h.1)
-    line_named (cert.Apart t u) h = (known t.0 h.0, known u.0 h.1)
-    line_named (cert.Hit t n) h = known t.0 h
-    line_named (cert.Miss t u n) h = (known t.0 h.0, known u.0 h.1)
-    line_named (cert.Lin n) h = tt
-    line_named (cert.Elim m n t) h = known t.0 h
-    line_named (cert.Tight n) h = tt
-    line_named (cert.Exact n) h = tt
-    line_named (cert.Close n) h = tt
-    line_named (cert.Clash m n) h = tt
+    line_named l h =
+        each_with Named (tree_at trees) (numbered_line l)
+        (each_more (IsKnownBy since k) (λ (n : ℕ). Named (tree_at trees n)) (numbered_line l) known h)
 
     pub lines_named : (ls : List CertLine) (c : Certificate) → AreLinesFit since k ls → EachTerm Named c →
         EachTerm Named (lines_before trees ls c)

@@ -3,8 +3,8 @@ use Rattle.std.specs.Prelude.{ℕ, suc, Option, List, [], ◌∷◌}
 use Rattle.sm_term.specs.Formulas.{NumberedFormula, Yes, No, Eq, Ne, Le, Lt, And, Or, numbered}
 use Rattle.sm_term.specs.Terms.{Tree}
 use Rattle.sm_theory.specs.declared.line.CertLine.{CertLine}
-use Rattle.sm_theory.specs.declared.line.CertLine.TheVariants as line
-use Rattle.sm_theory.specs.Views.{line_in}
+use Rattle.sm_theory.specs.Named.{EachNamed}
+use Rattle.sm_theory.specs.Views.{line_in, numbered_line}
 use Rattle.sm_plan.specs.declared.node.NodeRow.{NodeRow}
 use Rattle.sm_plan.specs.declared.node.NodeRow.TheVariants as node
 use Rattle.sm_write.specs.Writable.{IsShortLine}
@@ -38,25 +38,7 @@ AreRowsKnown since n (r ∷ rows) = IsRowKnown since n r × AreRowsKnown since (
 
 -- each term that a line names is known
 abbrev pub IsLineKnown : List (Option ℕ) → ℕ → CertLine → Type 0
-IsLineKnown since k (line.Both n) = Unit {0}
-IsLineKnown since k (line.Either n) = Unit {0}
-IsLineKnown since k (line.Cases t u) = IsKnownBy since k t.0 × IsKnownBy since k u.0
-IsLineKnown since k (line.Order n) = Unit {0}
-IsLineKnown since k (line.Refl t) = IsKnownBy since k t.0
-IsLineKnown since k (line.Sym n) = Unit {0}
-IsLineKnown since k (line.Trans m n) = Unit {0}
-IsLineKnown since k (line.Subst m n) = Unit {0}
-IsLineKnown since k (line.Cong t u ns) = IsKnownBy since k t.0 × IsKnownBy since k u.0
-IsLineKnown since k (line.Same t u) = IsKnownBy since k t.0 × IsKnownBy since k u.0
-IsLineKnown since k (line.Apart t u) = IsKnownBy since k t.0 × IsKnownBy since k u.0
-IsLineKnown since k (line.Hit t n) = IsKnownBy since k t.0
-IsLineKnown since k (line.Miss t u n) = IsKnownBy since k t.0 × IsKnownBy since k u.0
-IsLineKnown since k (line.Lin n) = Unit {0}
-IsLineKnown since k (line.Elim m n t) = IsKnownBy since k t.0
-IsLineKnown since k (line.Tight n) = Unit {0}
-IsLineKnown since k (line.Exact n) = Unit {0}
-IsLineKnown since k (line.Close n) = Unit {0}
-IsLineKnown since k (line.Clash m n) = Unit {0}
+IsLineKnown since k l = EachNamed (IsKnownBy since k) (numbered_line l)
 
 -- a line is short, and each term that it names is known
 abbrev pub IsLineFit : List (Option ℕ) → ℕ → CertLine → Type 0

@@ -8,13 +8,15 @@ use Rattle.std.proofs.lemmas.Bool.{ltb-true, ltb-false, lt-ltb}
 use Rattle.sm_syntax.specs.text.Sorts.{Sorts}
 use Rattle.sm_term.specs.Terms.{Tree}
 use Rattle.sm_term.specs.TableLaws.{AreTreesSorted}
+use Rattle.sm_term.specs.Sorted.{IsSorted}
+use Rattle.sm_term.specs.Tables.{tree_at}
 use Rattle.sm_theory.specs.declared.fact.Fact.{Fact}
 use Rattle.sm_theory.specs.declared.line.CertLine.{CertLine}
-use Rattle.sm_theory.specs.declared.line.CertLine.TheVariants as line
 use Rattle.sm_theory.specs.Facts.{BranchFact}
 use Rattle.sm_theory.specs.SortedFacts.{AreFactsSorted, IsLineSorted}
 use Rattle.sm_theory.specs.Laws.{TheoryAdds, AddsWhatHolds, AddsWhatIsSorted}
-use Rattle.sm_theory.specs.Views.{line_in, IsLineWithin, AllStand}
+use Rattle.sm_theory.specs.Views.{line_in, IsLineWithin, AllStand, numbered_line}
+use Rattle.sm_theory.proofs.LinesOver.{each_with, each_more}
 use Rattle.sm_theory.specs.Ways.{Ways, ways_with}
 use Rattle.sm_theory.proofs.WaysLemmas.{ways_with_sorted}
 use Rattle.sm_theory.proofs.TheoriesLemmas.{one_of, one_of_holds, one_of_sorted}
@@ -154,25 +156,9 @@ closed_depth trees t l e = ap splits_above (tree_closed trees t l e) ∙ splits_
 -- a line whose terms are in a table is sorted
 pub line_sorted : (sorts : Sorts) (trees : List Tree) (l : CertLine) → AreTreesSorted sorts trees → IsLineWithin (length trees) l →
     IsLineSorted sorts (line_in trees l)
-line_sorted sorts trees (line.Both n) all within = tt
-line_sorted sorts trees (line.Either n) all within = tt
-line_sorted sorts trees (line.Cases t u) all within = (all t.0 within.0, all u.0 within.1)
-line_sorted sorts trees (line.Order n) all within = tt
-line_sorted sorts trees (line.Refl t) all within = all t.0 within
-line_sorted sorts trees (line.Sym n) all within = tt
-line_sorted sorts trees (line.Trans m n) all within = tt
-line_sorted sorts trees (line.Subst m n) all within = tt
-line_sorted sorts trees (line.Cong t u ns) all within = (all t.0 within.0, all u.0 within.1)
-line_sorted sorts trees (line.Same t u) all within = (all t.0 within.0, all u.0 within.1)
-line_sorted sorts trees (line.Apart t u) all within = (all t.0 within.0, all u.0 within.1)
-line_sorted sorts trees (line.Hit t n) all within = all t.0 within
-line_sorted sorts trees (line.Miss t u n) all within = (all t.0 within.0, all u.0 within.1)
-line_sorted sorts trees (line.Lin n) all within = tt
-line_sorted sorts trees (line.Elim m n t) all within = all t.0 within
-line_sorted sorts trees (line.Tight n) all within = tt
-line_sorted sorts trees (line.Exact n) all within = tt
-line_sorted sorts trees (line.Close n) all within = tt
-line_sorted sorts trees (line.Clash m n) all within = tt
+line_sorted sorts trees l all within =
+    each_with (IsSorted sorts) (tree_at trees) (numbered_line l)
+    (each_more (λ (n : ℕ). n < length trees) (λ (n : ℕ). IsSorted sorts (tree_at trees n)) (numbered_line l) all within)
 
 -- three theories are sound together
 pub three_sound : (a b c : TheoryAdds) → AddsWhatHolds a → AddsWhatHolds b → AddsWhatHolds c → AddsWhatIsSorted a → AddsWhatIsSorted b →

@@ -13,6 +13,7 @@ use Rattle.sm_term.specs.Terms.{Tree}
 use Rattle.sm_theory.specs.Facts.{BranchFact}
 use Rattle.sm_theory.specs.Lines.{CertificateLine}
 use Rattle.sm_theory.specs.Ways.{Ways, ways}
+use Rattle.sm_theory.specs.Named.{is_split}
 use Rattle.sm_plan.specs.Limits.{is_shallow}
 use Rattle.sm_plan.specs.Views.{stores_in}
 use Rattle.sm_proof.specs.declared.word.Word.{Word}
@@ -20,7 +21,7 @@ use Rattle.sm_proof.specs.declared.word.Word.TheVariants.{BadNumber, Deep, First
 use Rattle.sm_proof.specs.Lines.{NumberedLine}
 use Rattle.sm_proof.specs.Named.{found_or, tested_or, and_then, named_line, line_head}
 use Rattle.sm_proof.specs.Passing as plain
-use Rattle.sm_proof.specs.Passing.{Pending, Progress, is_split, branches_before, after_line}
+use Rattle.sm_proof.specs.Passing.{Pending, Progress, branches_before, after_line}
 use Rattle.sm_check.specs.declared.fault.LineFault.{LineFault}
 use Rattle.sm_check.specs.declared.fault.LineFault.TheVariants.{Wrong, Memory}
 use Rattle.sm_check.specs.declared.pending.Due.{Due}

@@ -30,14 +30,14 @@ use Rattle.sm_proof.specs.declared.word.Word.TheVariants.{First}
 use Rattle.sm_proof.specs.Lines.{numbered_line}
 use Rattle.sm_proof.specs.Named.{found_or}
 use Rattle.sm_proof.specs.Passing as plain
-use Rattle.sm_proof.specs.Passing.{Pending, is_split, branches_before}
+use Rattle.sm_proof.specs.Passing.{Pending, branches_before}
 use Rattle.std.specs.declared.rc.Rc.{Rc}
 use Rattle.std.specs.declared.alloc.Global.{Global}
+use Rattle.sm_theory.specs.Named.{is_split, is_closing}
 use Rattle.sm_check.specs.declared.pending.Due.{Due}
 use Rattle.sm_check.specs.declared.pending.Due.TheVariants as due
 use Rattle.sm_check.specs.declared.pending.Waiting.{Waiting}
 use Rattle.sm_check.specs.declared.pending.Waiting.TheVariants as waits
-use Rattle.sm_check.specs.LineKinds.{is_closing}
 use Rattle.sm_check.specs.Pending.{AllWait, PendingStands}
 use Rattle.sm_check.specs.Tells.{Tells}
 use Rattle.sm_check.proofs.PendingLemmas.{wait_moves, wait_looser, last_first, take_whole}

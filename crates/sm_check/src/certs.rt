@@ -9,14 +9,14 @@ ghost use Rattle.sm_theory.specs.Facts.{BranchFact};
 ghost use Rattle.sm_theory.specs.SortedFacts.{AreFactsSorted};
 ghost use Rattle.sm_theory.specs.Views.{AllStand, line_in, IsLineWithin};
 ghost use Rattle.sm_theory.specs.Ways.{ways};
+ghost use Rattle.sm_theory.specs.Named.{is_split, is_closing};
 ghost use Rattle.sm_plan.specs.ReadyStates.{AreStoresReady};
 ghost use Rattle.sm_plan.specs.Views.{stores_in};
 ghost use Rattle.sm_proof.specs.declared.word.Word.TheVariants.{First};
 ghost use Rattle.sm_proof.specs.Lines.{numbered_line};
 ghost use Rattle.sm_proof.specs.Named.{found_or};
-ghost use Rattle.sm_proof.specs.Passing.{Pending, is_split, branches_before};
+ghost use Rattle.sm_proof.specs.Passing.{Pending, branches_before};
 ghost use Rattle.sm_check.specs.Tells.{Tells};
-ghost use Rattle.sm_check.specs.LineKinds.{is_closing};
 ghost use Rattle.sm_check.specs.Pending.{IsReadyIfDue, AreWaitingReady, AllWait, PendingStands};
 
 use crate::due::{facts_on, next_due};

@@ -1,10 +1,11 @@
 // Lines of certificates with the terms that they name.
 ghost use Rattle.std.specs.Prelude.{◌≡◌, length, Some, IfOk, IfErr};
 ghost use Rattle.sm_term.specs.Tables.{trees_in, AreBefore};
+ghost use Rattle.sm_theory.specs.Named.{facts_named, terms_named, with_terms};
 ghost use Rattle.sm_theory.specs.Views.{line_in, IsLineWithin};
 ghost use Rattle.sm_proof.specs.Lines.{numbered_line};
 ghost use Rattle.sm_proof.specs.Named.{are_there, named_line, line_head};
-ghost use Rattle.sm_check.specs.LineKinds.{Misses, has_terms, has_facts, with_terms, number_of};
+ghost use Rattle.sm_check.specs.LineKinds.{Misses, number_of};
 ghost use Rattle.sm_check.specs.Walks.{terms_in};
 
 use crate::fault::LineFault;
@@ -41,34 +42,26 @@ pub(crate) fn named_line(
 
 // Whether the terms that a line names are there, where lines made so many.
 fn has_terms(made: u64, line: &CertLine) -> bool
-    ensures { result ≡ has_terms made (numbered_line line.now) }
+    ensures { result ≡ are_there made (terms_named (numbered_line line.now)) }
 {
     match line {
-        CertLine::Refl(t) | CertLine::Hit(t, _) | CertLine::Elim(_, _, t) => t.0 < made,
+        CertLine::Refl(t) | CertLine::Hit(t, _) | CertLine::Elim(_, _, t) => {
+            are_there(made, &[t.0])
+        }
         CertLine::Cases(t, u)
         | CertLine::Cong(t, u, _)
         | CertLine::Same(t, u)
         | CertLine::Apart(t, u)
-        | CertLine::Miss(t, u, _) => t.0 < made && u.0 < made,
+        | CertLine::Miss(t, u, _) => are_there(made, &[t.0, u.0]),
         _ => true,
     }
 }
 
 // Whether the facts that a line names are there, at a branch of `count` facts.
 fn has_facts(count: u64, line: &CertLine) -> bool
-    ensures { result ≡ has_facts count (numbered_line line.now) }
+    ensures { result ≡ are_there count (facts_named (numbered_line line.now)) }
 {
     match line {
-        CertLine::Cases(_, _)
-        | CertLine::Refl(_)
-        | CertLine::Same(_, _)
-        | CertLine::Apart(_, _)
-        | CertLine::Exact(_) => true,
-        CertLine::Trans(m, n)
-        | CertLine::Subst(m, n)
-        | CertLine::Elim(m, n, _)
-        | CertLine::Clash(m, n) => *m < count && *n < count,
-        CertLine::Cong(_, _, facts) => are_there(count, &facts.list),
         CertLine::Both(n)
         | CertLine::Either(n)
         | CertLine::Order(n)
@@ -77,15 +70,21 @@ fn has_facts(count: u64, line: &CertLine) -> bool
         | CertLine::Miss(_, _, n)
         | CertLine::Lin(n)
         | CertLine::Tight(n)
-        | CertLine::Close(n) => *n < count,
+        | CertLine::Close(n) => are_there(count, &[*n]),
+        CertLine::Trans(m, n)
+        | CertLine::Subst(m, n)
+        | CertLine::Elim(m, n, _)
+        | CertLine::Clash(m, n) => are_there(count, &[*m, *n]),
+        CertLine::Cong(_, _, facts) => are_there(count, &facts.list),
+        _ => true,
     }
 }
 
-// Whether all of these facts are there.
-fn are_there(count: u64, facts: &[u64]) -> bool
-    ensures { result ≡ are_there count facts.now }
+// Whether all of these are there, of so many.
+fn are_there(count: u64, numbers: &[u64]) -> bool
+    ensures { result ≡ are_there count numbers.now }
 {
-    for n in facts {
+    for n in numbers {
         if *n >= count {
             return false;
         }

@@ -1,12 +1,13 @@
 -- Certificates that name no term are within each table.
-use Rattle.std.proofs.Common.{◌≡◌, ℕ, List, [], ◌∷◌, ◌++◌, subst, sym}
+use Rattle.std.proofs.Common.{◌≡◌, ◌<◌, ℕ, List, [], ◌∷◌, ◌++◌, subst, sym}
 use Rattle.std.specs.List.{AllByRecursion}
 use Rattle.std.specs.Prelude.{map}
+use Rattle.sm_term.specs.Tables.{tree_at}
 use Rattle.sm_term.specs.Terms.{Tree}
 use Rattle.sm_theory.specs.declared.line.CertLine.{CertLine}
-use Rattle.sm_theory.specs.declared.line.CertLine.TheVariants as cert
 use Rattle.sm_theory.specs.Named.{EachNamed}
-use Rattle.sm_theory.specs.Views.{line_in, IsLineWithin}
+use Rattle.sm_theory.specs.Views.{line_in, IsLineWithin, numbered_line}
+use Rattle.sm_theory.proofs.LinesOver.{each_back, each_more}
 use Rattle.sm_cert.specs.declared.tree.CertEnd.{CertEnd, CertEnd-F, roll-CertEnd, map-CertEnd, fold-roll-CertEnd}
 use Rattle.sm_cert.specs.declared.tree.CertEnd.TheOpen as layer
 use Rattle.sm_cert.specs.declared.tree.CertTree.{CertTree, CertTree-F, roll-CertTree, map-CertTree, fold-roll-CertTree, ind-CertTree}
@@ -19,25 +20,9 @@ use Rattle.sm_write.specs.TreesWithin.{AreTreesWithin}
 
 module _ (count : ℕ) (trees : List Tree) where
   line_within : (l : CertLine) → EachNamed NoTerm (line_in trees l) → IsLineWithin count l
-  line_within (cert.Both n) h = tt
-  line_within (cert.Either n) h = tt
-  line_within (cert.Cases t u) h = absurd h.0
-  line_within (cert.Order n) h = tt
-  line_within (cert.Refl t) h = absurd h
-  line_within (cert.Sym n) h = tt
-  line_within (cert.Trans m n) h = tt
-  line_within (cert.Subst m n) h = tt
-  line_within (cert.Cong t u ns) h = absurd h.0
-  line_within (cert.Same t u) h = absurd h.0
-  line_within (cert.Apart t u) h = absurd h.0
-  line_within (cert.Hit t n) h = absurd h
-  line_within (cert.Miss t u n) h = absurd h.0
-  line_within (cert.Lin n) h = tt
-  line_within (cert.Elim m n t) h = absurd h
-  line_within (cert.Tight n) h = tt
-  line_within (cert.Exact n) h = tt
-  line_within (cert.Close n) h = tt
-  line_within (cert.Clash m n) h = tt
+  line_within l h =
+      each_more (λ (n : ℕ). NoTerm (tree_at trees n)) (λ (n : ℕ). n < count) (numbered_line l)
+      (λ (n : ℕ) (none : NoTerm (tree_at trees n)). absurd none) (each_back NoTerm (tree_at trees) (numbered_line l) h)
 
   -- lines before a certificate
   lines_within : (ls : List CertLine) (c : Certificate) → EachTerm NoTerm (lines_before trees ls c) →

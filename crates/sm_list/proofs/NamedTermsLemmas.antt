@@ -6,9 +6,9 @@ use Rattle.std.specs.declared.alloc.Global.{Global}
 use Rattle.sm_term.specs.Terms.{Tree}
 use Rattle.sm_term.specs.Tables.{tree_at}
 use Rattle.sm_theory.specs.declared.line.CertLine.{CertLine}
-use Rattle.sm_theory.specs.declared.line.CertLine.TheVariants as line
 use Rattle.sm_theory.specs.Named.{EachNamed}
-use Rattle.sm_theory.specs.Views.{line_in, IsLineWithin}
+use Rattle.sm_theory.specs.Views.{line_in, numbered_line, IsLineWithin}
+use Rattle.sm_theory.proofs.LinesOver.{each_with, each_more}
 use Rattle.sm_cert.specs.declared.tree.CertTree.{CertTree}
 use Rattle.sm_cert.specs.declared.tree.CertEnd.TheVariants as ends
 use Rattle.sm_cert.specs.Certificates.{Certificate, Closed, Split}
@@ -25,25 +25,9 @@ one_at trees n h = there_among trees n (tree_at trees n) (slice_get-get_or trees
 
 -- the terms that a line names are among those of the table
 line_names : (trees : List Tree) (l : CertLine) → IsLineWithin (length trees) l → EachNamed (IsOneOf trees) (line_in trees l)
-line_names trees (line.Both n) h = tt
-line_names trees (line.Either n) h = tt
-line_names trees (line.Cases t u) h = (one_at trees t.0 h.0, one_at trees u.0 h.1)
-line_names trees (line.Order n) h = tt
-line_names trees (line.Refl t) h = one_at trees t.0 h
-line_names trees (line.Sym n) h = tt
-line_names trees (line.Trans m n) h = tt
-line_names trees (line.Subst m n) h = tt
-line_names trees (line.Cong t u ns) h = (one_at trees t.0 h.0, one_at trees u.0 h.1)
-line_names trees (line.Same t u) h = (one_at trees t.0 h.0, one_at trees u.0 h.1)
-line_names trees (line.Apart t u) h = (one_at trees t.0 h.0, one_at trees u.0 h.1)
-line_names trees (line.Hit t n) h = one_at trees t.0 h
-line_names trees (line.Miss t u n) h = (one_at trees t.0 h.0, one_at trees u.0 h.1)
-line_names trees (line.Lin n) h = tt
-line_names trees (line.Elim m n t) h = one_at trees t.0 h
-line_names trees (line.Tight n) h = tt
-line_names trees (line.Exact n) h = tt
-line_names trees (line.Close n) h = tt
-line_names trees (line.Clash m n) h = tt
+line_names trees l h =
+    each_with (IsOneOf trees) (tree_at trees) (numbered_line l)
+    (each_more (λ (n : ℕ). n < length trees) (λ (n : ℕ). IsOneOf trees (tree_at trees n)) (numbered_line l) (one_at trees) h)
 
 -- lines before a certificate
 lines_name : (trees : List Tree) (ls : List CertLine) (c : Certificate) → AreLinesWithin (length trees) ls →

@@ -10,14 +10,15 @@ use Rattle.sm_term.specs.Sorted.{tree_sort}
 use Rattle.sm_term.specs.Assertions as plain
 use Rattle.sm_term.specs.Formulas.{NumberedFormula, Yes, No, Eq, Ne, Le, Lt, And, Or, assertion_in, IsFormulaWithin}
 use Rattle.sm_theory.specs.declared.line.CertLine.{CertLine}
-use Rattle.sm_theory.specs.declared.line.CertLine.TheVariants as line
 use Rattle.sm_theory.specs.Lines as told
-use Rattle.sm_theory.specs.Views.{line_in, IsLineWithin}
+use Rattle.sm_theory.specs.Named.{with_terms, EachNamed}
+use Rattle.sm_theory.specs.Views.{line_in, numbered_line, IsLineWithin}
+use Rattle.sm_theory.proofs.LinesOver.{with_twice, with_same, each_with, each_more}
 use Rattle.sm_cert.specs.Views.{AreLinesWithin}
 use Rattle.sm_cert.proofs.CheckLemmas.{within_parts}
 use Rattle.sm_terms.specs.Listing.{trees_at, numbers_of, AreBelow}
 use Rattle.sm_list.specs.Parts.{assertions_in, AreFormulasWithin}
-use Rattle.sm_list.specs.Renumber.{number_under, formula_under, line_by, terms_in_line, IsLineUnder, AreLinesUnder}
+use Rattle.sm_list.specs.Renumber.{number_under, formula_under, IsLineUnder, AreLinesUnder}
 use Rattle.sm_list.specs.Renumbered.{AreTermsOf}
 use Rattle.sm_terms.proofs.ListingLemmas.{below_at, tree_of_place}
 
@@ -117,98 +118,6 @@ formula_stands trees others new all (Lt t u) h = (all t h.0, all u h.1)
 formula_stands trees others new all (And p q) h = (formula_stands trees others new all p h.0, formula_stands trees others new all q h.1)
 formula_stands trees others new all (Or p q) h = (formula_stands trees others new all p h.0, formula_stands trees others new all q h.1)
 
--- a line by the trees of its numbers
-line_is : (trees : List Tree) (l : CertLine) → line_in trees l ≡ line_by (tree_at trees) l
-line_is trees (line.Both n) = refl
-line_is trees (line.Either n) = refl
-line_is trees (line.Cases t u) = refl
-line_is trees (line.Order n) = refl
-line_is trees (line.Refl t) = refl
-line_is trees (line.Sym n) = refl
-line_is trees (line.Trans m n) = refl
-line_is trees (line.Subst m n) = refl
-line_is trees (line.Cong t u ns) = refl
-line_is trees (line.Same t u) = refl
-line_is trees (line.Apart t u) = refl
-line_is trees (line.Hit t n) = refl
-line_is trees (line.Miss t u n) = refl
-line_is trees (line.Lin n) = refl
-line_is trees (line.Elim m n t) = refl
-line_is trees (line.Tight n) = refl
-line_is trees (line.Exact n) = refl
-line_is trees (line.Close n) = refl
-line_is trees (line.Clash m n) = refl
-
--- its terms are in the table
-below_line : (count : ℕ) (l : CertLine) → IsLineWithin count l → AreBelow count (terms_in_line l)
-below_line count (line.Both n) h = tt
-below_line count (line.Either n) h = tt
-below_line count (line.Cases t u) h = (h.0, (h.1, tt))
-below_line count (line.Order n) h = tt
-below_line count (line.Refl t) h = (h, tt)
-below_line count (line.Sym n) h = tt
-below_line count (line.Trans m n) h = tt
-below_line count (line.Subst m n) h = tt
-below_line count (line.Cong t u ns) h = (h.0, (h.1, tt))
-below_line count (line.Same t u) h = (h.0, (h.1, tt))
-below_line count (line.Apart t u) h = (h.0, (h.1, tt))
-below_line count (line.Hit t n) h = (h, tt)
-below_line count (line.Miss t u n) h = (h.0, (h.1, tt))
-below_line count (line.Lin n) h = tt
-below_line count (line.Elim m n t) h = (h, tt)
-below_line count (line.Tight n) h = tt
-below_line count (line.Exact n) h = tt
-below_line count (line.Close n) h = tt
-below_line count (line.Clash m n) h = tt
-
-within_line : (count : ℕ) (l : CertLine) → AreBelow count (terms_in_line l) → IsLineWithin count l
-within_line count (line.Both n) h = tt
-within_line count (line.Either n) h = tt
-within_line count (line.Cases t u) h = (h.0, h.1.0)
-within_line count (line.Order n) h = tt
-within_line count (line.Refl t) h = h.0
-within_line count (line.Sym n) h = tt
-within_line count (line.Trans m n) h = tt
-within_line count (line.Subst m n) h = tt
-within_line count (line.Cong t u ns) h = (h.0, h.1.0)
-within_line count (line.Same t u) h = (h.0, h.1.0)
-within_line count (line.Apart t u) h = (h.0, h.1.0)
-within_line count (line.Hit t n) h = h.0
-within_line count (line.Miss t u n) h = (h.0, h.1.0)
-within_line count (line.Lin n) h = tt
-within_line count (line.Elim m n t) h = h.0
-within_line count (line.Tight n) h = tt
-within_line count (line.Exact n) h = tt
-within_line count (line.Close n) h = tt
-within_line count (line.Clash m n) h = tt
-
--- numbers have the same trees by two ways to tell them
-abbrev AreSameAt : (ℕ → Tree) → (ℕ → Tree) → List ℕ → Type 0
-AreSameAt at by [] = Unit {0}
-AreSameAt at by (n ∷ ns) = (at n ≡ by n) × AreSameAt at by ns
-
-line_same_by : (at by : ℕ → Tree) (l : CertLine) → AreSameAt at by (terms_in_line l) → line_by at l ≡ line_by by l
-line_same_by at by (line.Both n) h = refl
-line_same_by at by (line.Either n) h = refl
-line_same_by at by (line.Cases t u) h = ap (λ (x : Tree). told.Cases x (at u.0)) h.0 ∙ ap (told.Cases (by t.0)) h.1.0
-line_same_by at by (line.Order n) h = refl
-line_same_by at by (line.Refl t) h = ap told.Refl h.0
-line_same_by at by (line.Sym n) h = refl
-line_same_by at by (line.Trans m n) h = refl
-line_same_by at by (line.Subst m n) h = refl
-line_same_by at by (line.Cong t u ns) h =
-    ap (λ (x : Tree). told.Cong x (at u.0) ns.list.items) h.0 ∙ ap (λ (x : Tree). told.Cong (by t.0) x ns.list.items) h.1.0
-line_same_by at by (line.Same t u) h = ap (λ (x : Tree). told.Same x (at u.0)) h.0 ∙ ap (told.Same (by t.0)) h.1.0
-line_same_by at by (line.Apart t u) h = ap (λ (x : Tree). told.Apart x (at u.0)) h.0 ∙ ap (told.Apart (by t.0)) h.1.0
-line_same_by at by (line.Hit t n) h = ap (λ (x : Tree). told.Hit x n) h.0
-line_same_by at by (line.Miss t u n) h = ap (λ (x : Tree). told.Miss x (at u.0) n) h.0 ∙ ap (λ (x : Tree). told.Miss (by t.0) x n) h.1.0
-line_same_by at by (line.Lin n) h = refl
-line_same_by at by (line.Elim m n t) h = ap (told.Elim m n) h.0
-line_same_by at by (line.Tight n) h = refl
-line_same_by at by (line.Exact n) h = refl
-line_same_by at by (line.Close n) h = refl
-line_same_by at by (line.Clash m n) h = refl
-
 -- so a line under other numbers is the same line
 pub record LineStands (trees others : List Tree) (old new : CertLine) : Type 0 where
   pub same : line_in others new ≡ line_in trees old
@@ -217,23 +126,21 @@ pub record LineStands (trees others : List Tree) (old new : CertLine) : Type 0 w
 pub line_stands : (trees others : List Tree) (numbers : List TermId) (old new : CertLine) → AreTermsOf others numbers trees →
     IsLineUnder numbers old new → IsLineWithin (length trees) old → LineStands trees others old new
 line_stands trees others numbers old new are under within =
-    let below = below_line (length trees) old within in
+    let line = numbered_line old in
+    let to = number_under numbers in
+    let stand : (n : ℕ) → n < length trees → Stands trees others to n = terms_stand trees others numbers are in
     record {
       same =
-          line_is others new ∙ under.line (tree_at others)
-          ∙ line_same_by (λ (n : ℕ). tree_at others (number_under numbers n)) (tree_at trees) old (sames (terms_in_line old) below)
-          ∙ sym (line_is trees old);
+          ap (with_terms (tree_at others)) under ∙ with_twice (tree_at others) to line
+          ∙ with_same (λ (n : ℕ). tree_at others (to n)) (tree_at trees) line
+          (each_more (λ (n : ℕ). n < length trees) (λ (n : ℕ). tree_at others (to n) ≡ tree_at trees n) line
+          (λ (n : ℕ) (h : n < length trees). (stand n h).same) within);
       there =
-          within_line (length others) new (subst (AreBelow (length others)) (sym under.terms) (belows (terms_in_line old) below));
+          subst (EachNamed (λ (n : ℕ). n < length others)) (sym under)
+          (each_with (λ (n : ℕ). n < length others) to line
+          (each_more (λ (n : ℕ). n < length trees) (λ (n : ℕ). to n < length others) line
+          (λ (n : ℕ) (h : n < length trees). (stand n h).there) within));
     }
-  where
-    sames : (ns : List ℕ) → AreBelow (length trees) ns → AreSameAt (λ (n : ℕ). tree_at others (number_under numbers n)) (tree_at trees) ns
-    sames [] h = tt
-    sames (n ∷ ns) h = ((terms_stand trees others numbers are n h.0).same, sames ns h.1)
-
-    belows : (ns : List ℕ) → AreBelow (length trees) ns → AreBelow (length others) (map (number_under numbers) ns)
-    belows [] h = tt
-    belows (n ∷ ns) h = ((terms_stand trees others numbers are n h.0).there, belows ns h.1)
 
 pub within-append : (count : ℕ) (xs ys : List CertLine) → AreLinesWithin count xs → AreLinesWithin count ys →
     AreLinesWithin count (xs ++ ys)

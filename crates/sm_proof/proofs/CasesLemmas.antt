@@ -1,6 +1,7 @@
 -- The verdicts worked by hand.
 use Rattle.std.proofs.Common.{◌≡◌, ◌<◌, ℕ, zero, suc, Bool, false, not, Result, Ok, Err, List, [], ◌∷◌, ◌++◌, take, refl, ap, ◌∙◌, arith}
 use Rattle.std.proofs.lemmas.Bool.{ne_eqb}
+use Rattle.sm_theory.specs.Named.{reads_all}
 use Rattle.sm_num.specs.Eliminating.{gcd}
 use Rattle.sm_omega.specs.Exact.{exact}
 use Rattle.sm_plan.specs.Limits.{is_shallow}
@@ -11,7 +12,7 @@ use Rattle.sm_proof.specs.declared.word.Word.{Word}
 use Rattle.sm_proof.specs.declared.word.Word.TheVariants.{Truncated, BadVersion, BadLine, Extra}
 use Rattle.sm_proof.specs.Lines.{NumberedLine, ProofLine, Header, Cert}
 use Rattle.sm_proof.specs.Named.{tested_or}
-use Rattle.sm_proof.specs.Versions.{has_exact, is_exact_step}
+use Rattle.sm_proof.specs.Versions.{has_exact}
 use Rattle.sm_proof.specs.Verdicts.{Subject, Standing, Reached, next_standing, reached_after, reached, lines_in, verdict_at_end, Rejected}
 use Rattle.sm_proof.specs.Verdicts.{Unopened, Before, passes_version, opens_if}
 use Rattle.sm_proof.specs.Cases.{reached_on, verdict_on, AreRead, FilesAreLines, whole, plain, WholeComesOut, VersionsComeOut, WordsComeOut}
@@ -58,7 +59,7 @@ fronts_fail (suc (suc (suc (suc (suc (suc (suc (suc zero)))))))) h = refl
 fronts_fail (suc (suc (suc (suc (suc (suc (suc (suc (suc n))))))))) h = absurd (omega (arith, h))
 
 -- behind the end each line but `exact` is one too many
-more_line : (l : NumberedLine) → is_exact_step l ≡ false → verdict_on plain (whole ++ Cert l ∷ []) ≡ Rejected 10 Extra
+more_line : (l : NumberedLine) → reads_all l ≡ false → verdict_on plain (whole ++ Cert l ∷ []) ≡ Rejected 10 Extra
 unfolding is_shallow
 more_line l e =
     ap (λ (b : Bool). verdict_at_end (reached_after 10 (tested_or (not b) BadLine (Err Extra)) (λ (after : Standing). Before 11 after)) []) e

@@ -1,6 +1,6 @@
 -- Lines of certificates name terms that are there, and nodes keep formulas that are there.
-use Rattle.std.proofs.Common.{◌≡◌, ℕ, Bool, ◌&&◌, true, false, nat_lt, nat_le, if◌then◌else◌, Option, Some, None, slice_get, List, [], ◌∷◌, length, refl, subst}
-use Rattle.std.proofs.lemmas.Bool.{ltb-true}
+use Rattle.std.proofs.Common.{◌≡◌, ℕ, ◌<◌, Bool, ◌&&◌, true, false, nat_lt, nat_le, if◌then◌else◌, Option, Some, None, slice_get, List, [], ◌∷◌, length, refl, ap, subst}
+use Rattle.std.proofs.lemmas.Bool.{and_from, ltb-true, lt-ltb}
 use Rattle.std.proofs.lemmas.Option.{same_Some, slice_get-get_or}
 use Rattle.sm_syntax.specs.claim.ConflictFree.{copy_of}
 use Rattle.sm_syntax.specs.text.Parts.{by_copy}
@@ -10,7 +10,7 @@ use Rattle.sm_term.specs.Assertions.{Assertion}
 use Rattle.sm_term.specs.Tables.{tree_at}
 use Rattle.sm_theory.specs.Lines.{CertificateLine}
 use Rattle.sm_theory.specs.Named.{facts_named, terms_named, with_terms, EachOf, EachNamed}
-use Rattle.sm_theory.proofs.LinesOver.{each_with}
+use Rattle.sm_theory.proofs.LinesOver.{each_with, each_more}
 use Rattle.sm_theory.proofs.FactsLemmas.{followed_from}
 use Rattle.sm_plan.specs.Copies.{Copies}
 use Rattle.sm_plan.specs.Masks.{set_of}
@@ -28,19 +28,27 @@ both : (a b : Bool) → (a && b) ≡ true → (a ≡ true) × (b ≡ true)
 both true b e = (refl, e)
 both false b e = absurd cc
 
--- what is so of each term that is there is so of those with these numbers
-each_there : (P : Tree → Type 0) (trees : List Tree) → Each P trees → (ns : List ℕ) → are_there (length trees) ns ≡ true →
-    EachOf (λ (n : ℕ). P (tree_at trees n)) ns
-each_there P trees all ns = of ns
-  where
-    at : (n : ℕ) → nat_lt n (length trees) ≡ true → P (tree_at trees n)
-    at n e = each_at P trees n (tree_at trees n) all (slice_get-get_or trees n _ (ltb-true n (length trees) e))
+-- numbers that are there are below the count
+pub there_below : (count : ℕ) (ns : List ℕ) → are_there count ns ≡ true → EachOf (λ (n : ℕ). n < count) ns
+there_below count [] e = tt
+there_below count (n ∷ []) e = ltb-true n count (both (nat_lt n count) true e).0
+there_below count (n ∷ (m ∷ ms)) e =
+    let it = both (nat_lt n count) (are_there count (m ∷ ms)) e in (ltb-true n count it.0, there_below count (m ∷ ms) it.1)
 
-    of : (ns : List ℕ) → are_there (length trees) ns ≡ true → EachOf (λ (n : ℕ). P (tree_at trees n)) ns
-    of [] e = tt
-    of (n ∷ []) e = at n (both (nat_lt n (length trees)) _ e).0
-    of (n ∷ (m ∷ ms)) e =
-        let it = both (nat_lt n (length trees)) _ e in (at n it.0, of (m ∷ ms) it.1)
+-- numbers below the count are there
+all_there : (count : ℕ) (ns : List ℕ) → EachOf (λ (n : ℕ). n < count) ns → are_there count ns ≡ true
+all_there count [] all = refl
+all_there count (n ∷ []) all = and_from (nat_lt n count) true (lt-ltb n count all) refl
+all_there count (n ∷ (m ∷ ms)) all =
+    and_from (nat_lt n count) (are_there count (m ∷ ms)) (lt-ltb n count all.0) (all_there count (m ∷ ms) all.1)
+
+-- so a line whose terms and facts are there is named
+pub named_from : (trees : List Tree) (count : ℕ) (line : NumberedLine) → EachNamed (λ (n : ℕ). n < length trees) line →
+    are_there count (facts_named line) ≡ true → named_line trees count line ≡ Some (with_terms (tree_at trees) line)
+named_from trees count line all facts =
+    ap (λ (b : Bool). if b then Some (with_terms (tree_at trees) line) else None)
+    (and_from (are_there (length trees) (terms_named line)) (are_there count (facts_named line))
+    (all_there (length trees) (terms_named line) all) facts)
 
 -- a line that is named has its terms and facts
 pub named_there : (trees : List Tree) (count : ℕ) (line : NumberedLine) (l : CertificateLine) → named_line trees count line ≡ Some l →
@@ -60,7 +68,11 @@ pub named_line_fine : (P : Tree → Type 0) (trees : List Tree) (count : ℕ) (l
     EachNamed P l
 named_line_fine P trees count line l all e =
     let is = named_there trees count line l e in
-    subst (EachNamed P) is.2 (each_with P (tree_at trees) line (each_there P trees all (terms_named line) is.0))
+    subst (EachNamed P) is.2
+    (each_with P (tree_at trees) line
+    (each_more (λ (n : ℕ). n < length trees) (λ (n : ℕ). P (tree_at trees n)) line
+    (λ (n : ℕ) (h : n < length trees). each_at P trees n (tree_at trees n) all (slice_get-get_or trees n _ h))
+    (there_below (length trees) (terms_named line) is.0)))
 
 -- the formula that a node keeps is sorted, and names no new value of node k or of a later one
 abbrev pub IsNodeFine : Sorts → ℕ → plan.Node → Type 0

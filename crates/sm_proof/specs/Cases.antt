@@ -11,6 +11,7 @@ use Rattle.sm_syntax.specs.claim.Syntax.{Condition, Yes}
 use Rattle.sm_syntax.specs.claim.Syntax as syntax
 use Rattle.sm_syntax.specs.claim.ConflictFree.{Copy}
 use Rattle.sm_syntax.specs.text.Parts.{Parts}
+use Rattle.sm_theory.specs.Named.{reads_all}
 use Rattle.sm_proof.specs.declared.line.FormLine.{FormLine}
 use Rattle.sm_proof.specs.declared.line.FormLine.TheVariants as form
 use Rattle.sm_proof.specs.declared.line.NodeLine.{NodeLine}
@@ -28,7 +29,6 @@ use Rattle.sm_proof.specs.Verdicts.{Subject, subject_of, Standing, Unopened, nex
 use Rattle.sm_proof.specs.Verdicts.{Reached, Before, reached_after, lines_in}
 use Rattle.sm_proof.specs.Verdicts.{Verdict, Pass, Rejected, verdict_at_end, verdict}
 use Rattle.sm_proof.specs.Reading.{read}
-use Rattle.sm_proof.specs.Versions.{is_exact_step}
 
 -- how far lines that were read come, the first with number n
 abbrev pub reached_on : Subject → ℕ → Standing → List ProofLine → Reached
@@ -121,7 +121,7 @@ pub record WholeComesOut : Type 0 where
   pub more_forms : (l : FormLine) → verdict_on plain (whole ++ Form l ∷ []) ≡ Rejected 10 Extra
   pub more_nodes : (l : NodeLine) → verdict_on plain (whole ++ Node l ∷ []) ≡ Rejected 10 Extra
   pub more_lines :
-      (l : NumberedLine) → is_exact_step l ≡ false →
+      (l : NumberedLine) → reads_all l ≡ false →
       verdict_on plain (whole ++ Cert l ∷ []) ≡ Rejected 10 Extra
   pub more_exact : (n : ℕ) → verdict_on plain (whole ++ Cert (Exact n) ∷ []) ≡ Rejected 10 BadLine
   pub more_headers : (n : ℕ) → verdict_on plain (whole ++ Header n ∷ []) ≡ Rejected 10 BadLine

@@ -16,6 +16,7 @@ use Rattle.sm_term.specs.Symbolic.{SymbolicStore}
 use Rattle.sm_theory.specs.Facts.{BranchFact, Formal, as_facts}
 use Rattle.sm_theory.specs.Lines.{CertificateLine, followed, formula_in}
 use Rattle.sm_theory.specs.Ways.{ways}
+use Rattle.sm_theory.specs.Named.{is_split}
 use Rattle.sm_plan.specs.Limits.{is_shallow}
 use Rattle.sm_plan.specs.NodeLists.{above_opened}
 use Rattle.sm_plan.specs.Nodes as plan
@@ -73,28 +74,6 @@ after_node p st above rest line node =
     (found_or (opened_by p.nodes st node) (First (node_head line))
     (λ (q : Opened).
     Ok (record p { nodes = suc p.nodes; pending = opened_before st above_it q rest })))
-
--- whether a line splits a branch, by its kind alone
-abbrev pub is_split : NumberedLine → Bool
-is_split (line.Both n) = false
-is_split (line.Either n) = true
-is_split (line.Cases t u) = true
-is_split (line.Order n) = true
-is_split (line.Refl t) = false
-is_split (line.Sym n) = false
-is_split (line.Trans m n) = false
-is_split (line.Subst m n) = false
-is_split (line.Cong t u ns) = false
-is_split (line.Same t u) = false
-is_split (line.Apart t u) = false
-is_split (line.Hit t n) = false
-is_split (line.Miss t u n) = false
-is_split (line.Lin n) = false
-is_split (line.Elim m n t) = false
-is_split (line.Tight n) = false
-is_split (line.Exact n) = false
-is_split (line.Close n) = false
-is_split (line.Clash m n) = false
 
 -- the ways in which a branch goes on, before what was pending
 abbrev pub branches_before :

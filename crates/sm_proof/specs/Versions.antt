@@ -3,6 +3,7 @@
 use Rattle.std.specs.Prelude.{ℕ, ◌==◌, Bool, true, false, not, if◌then◌else◌}
 use Rattle.std.specs.Prelude.{Result, Err, List, [], ◌∷◌}
 use Rattle.std.specs.Str.{bytes_eq}
+use Rattle.sm_theory.specs.Named.{reads_all}
 use Rattle.sm_proof.specs.declared.word.Head.TheVariants as head
 use Rattle.sm_proof.specs.declared.word.Word.{Word}
 use Rattle.sm_proof.specs.declared.word.Word.TheVariants.{BadLine}
@@ -19,18 +20,13 @@ has_exact (Form line) = false
 has_exact (Node line) = false
 has_exact (Cert line) = false
 
--- whether a line of a certificate is a line `exact`
-abbrev pub is_exact_step : NumberedLine → Bool
-is_exact_step (Exact n) = true
-is_exact_step line = false
-
--- whether a line is one
+-- whether a line is a line `exact`
 abbrev pub is_exact : ProofLine → Bool
 is_exact (Header version) = false
 is_exact (Term line) = false
 is_exact (Form line) = false
 is_exact (Node line) = false
-is_exact (Cert line) = is_exact_step line
+is_exact (Cert line) = reads_all line
 
 -- whether a line may stand where lines `exact` may or may not
 abbrev pub may_stand : (exact : Bool) → ProofLine → Bool

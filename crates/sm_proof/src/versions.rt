@@ -1,7 +1,8 @@
 // Which lines may stand in files of a version.
 ghost use Rattle.std.specs.Prelude.{◌≡◌};
+ghost use Rattle.sm_theory.specs.Named.{reads_all};
 ghost use Rattle.sm_proof.specs.Lines.{line_of, numbered_line};
-ghost use Rattle.sm_proof.specs.Versions.{is_exact, is_exact_step, may_stand};
+ghost use Rattle.sm_proof.specs.Versions.{is_exact, may_stand};
 
 use crate::line::Line;
 use sm_theory::CertLine;
@@ -25,7 +26,7 @@ fn is_exact(line: &Line) -> bool
 
 // Whether a line of a certificate is one.
 fn is_exact_step(line: &CertLine) -> bool
-    ensures { result ≡ is_exact_step (numbered_line line.now) }
+    ensures { result ≡ reads_all (numbered_line line.now) }
 {
     match line {
         CertLine::Exact(_) => true,

@@ -4,6 +4,8 @@ use Rattle.std.proofs.Common.{inl, inr, refl, ap, sym, subst, ◌∙◌, arith}
 use Rattle.std.specs.List.{list_any}
 use Rattle.std.proofs.lemmas.Bool.Decides.{Decides-eqb}
 use Rattle.std.proofs.lemmas.List.{length-append, get_or_append_left}
+use Rattle.sm_theory.specs.Named.{reads_all}
+use Rattle.sm_theory.proofs.LinesOver.{terms_with, reads_with}
 use Rattle.sm_proof.specs.declared.line.FormLine.{FormLine}
 use Rattle.sm_proof.specs.declared.line.FormLine.TheVariants as form
 use Rattle.sm_proof.specs.declared.line.NodeLine.{NodeLine}
@@ -12,9 +14,9 @@ use Rattle.sm_proof.specs.declared.line.TermLine.{TermLine}
 use Rattle.sm_proof.specs.declared.line.TermLine.TheVariants as term
 use Rattle.sm_proof.specs.Lines as line
 use Rattle.sm_proof.specs.Lines.{NumberedLine, ProofLine, Header, Term, Form, Node, Cert}
-use Rattle.sm_proof.specs.Versions.{is_exact, is_exact_step}
-use Rattle.sm_prune.specs.LineNumbers.{terms_of_term, terms_of_form, terms_of_cert, terms_of, forms_of_form, forms_of_node, forms_of}
-use Rattle.sm_prune.specs.LineNumbers.{names_term, names_form, renumbered_term, renumbered_form, renumbered_node, renumbered_cert, renumbered}
+use Rattle.sm_proof.specs.Versions.{is_exact}
+use Rattle.sm_prune.specs.LineNumbers.{terms_of_term, terms_of_form, terms_of, forms_of_form, forms_of_node, forms_of}
+use Rattle.sm_prune.specs.LineNumbers.{names_term, names_form, renumbered_term, renumbered_form, renumbered_node, renumbered}
 use Rattle.sm_prune.specs.LeftLines.{left_passes, terms_after, forms_after, AreTold}
 use Rattle.sm_prune.specs.LeftLines.{Numbering, numbers_after, new_number, line_by, line_before, left_lines}
 use Rattle.sm_prune.specs.UsedLines.{AreNamed}
@@ -70,35 +72,13 @@ node_names move_form (node.Block k0 k1 k2 k3 keep) = refl
 node_names move_form node.Dead = refl
 node_names move_form node.End = refl
 
--- with other numbers a line of a certificate names its terms by these, and is `exact` as before
-cert_names : (move : ℕ → ℕ) (l : NumberedLine) →
-    (terms_of_cert (renumbered_cert move l) ≡ map move (terms_of_cert l)) × (is_exact_step (renumbered_cert move l) ≡ is_exact_step l)
-cert_names move (line.Both n) = (refl, refl)
-cert_names move (line.Either n) = (refl, refl)
-cert_names move (line.Cases t u) = (refl, refl)
-cert_names move (line.Order n) = (refl, refl)
-cert_names move (line.Refl t) = (refl, refl)
-cert_names move (line.Sym n) = (refl, refl)
-cert_names move (line.Trans m n) = (refl, refl)
-cert_names move (line.Subst m n) = (refl, refl)
-cert_names move (line.Cong t u ns) = (refl, refl)
-cert_names move (line.Same t u) = (refl, refl)
-cert_names move (line.Apart t u) = (refl, refl)
-cert_names move (line.Hit t n) = (refl, refl)
-cert_names move (line.Miss t u n) = (refl, refl)
-cert_names move (line.Lin n) = (refl, refl)
-cert_names move (line.Elim m n t) = (refl, refl)
-cert_names move (line.Tight n) = (refl, refl)
-cert_names move (line.Exact n) = (refl, refl)
-cert_names move (line.Close n) = (refl, refl)
-cert_names move (line.Clash m n) = (refl, refl)
-
+-- with other numbers a line names its terms by these
 terms_moved : (move move_form : ℕ → ℕ) (l : ProofLine) → terms_of (renumbered move move_form l) ≡ map move (terms_of l)
 terms_moved move move_form (Header version) = refl
 terms_moved move move_form (Term t) = term_names move t
 terms_moved move move_form (Form f) = (form_names move move_form f).0
 terms_moved move move_form (Node n) = refl
-terms_moved move move_form (Cert c) = (cert_names move c).0
+terms_moved move move_form (Cert c) = terms_with move c
 
 forms_moved : (move move_form : ℕ → ℕ) (l : ProofLine) → forms_of (renumbered move move_form l) ≡ map move_form (forms_of l)
 forms_moved move move_form (Header version) = refl
@@ -259,7 +239,7 @@ left_exact terms forms m (false ∷ bs) (Form f ∷ lines) told =
 left_exact terms forms m (true ∷ bs) (Node n ∷ lines) told = left_exact terms forms m bs lines told.1
 left_exact terms forms m (false ∷ bs) (Node n ∷ lines) told = absurd cc
 left_exact terms forms m (true ∷ bs) (Cert l ∷ lines) told =
-    let one = (cert_names (new_number m.terms) l).1 in
+    let one = reads_with (new_number m.terms) l in
     let more = left_exact terms forms m bs lines told.1 in
     λ i. one i || more i
 left_exact terms forms m (false ∷ bs) (Cert l ∷ lines) told = absurd cc

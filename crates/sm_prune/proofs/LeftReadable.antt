@@ -6,6 +6,7 @@ use Rattle.std.specs.Str.Parse.{AllDigits, IsNumeral}
 use Rattle.std.proofs.lemmas.Fmt.{decimal_is_IsNumeral, decimal_nonempty, length-decimal-le}
 use Rattle.std.proofs.lemmas.List.{length-append}
 use Rattle.std.proofs.lemmas.Str.Parse.{numerals_by_value, tells_digits, digits_value_short}
+use Rattle.sm_theory.specs.Named.{with_terms}
 use Rattle.sm_proof.specs.declared.kind.FormKind.TheVariants as kind
 use Rattle.sm_proof.specs.declared.kind.TermKind.TheVariants as kinds
 use Rattle.sm_proof.specs.declared.line.FormLine.{FormLine}
@@ -22,7 +23,7 @@ use Rattle.sm_proof.specs.Lines as line
 use Rattle.sm_proof.specs.Lines.{NumberedLine, ProofLine, Header, Term, Form, Node, Cert}
 use Rattle.sm_proof.specs.Named.{line_head}
 use Rattle.sm_proof.specs.Spelling.{spaced, spelled, line_words, HasKnownVersion}
-use Rattle.sm_prune.specs.LineNumbers.{renumbered_term, renumbered_form, renumbered_node, renumbered_cert, renumbered}
+use Rattle.sm_prune.specs.LineNumbers.{renumbered_term, renumbered_form, renumbered_node, renumbered}
 use Rattle.sm_prune.specs.LeftLines.{AreTold, terms_after, forms_after}
 use Rattle.sm_prune.specs.LeftLines.{Numbering, more_if, numbers_after, new_number, line_by, line_before, left_lines}
 use Rattle.sm_prune.specs.Texts.{IsReadable, AreReadable}
@@ -229,7 +230,7 @@ cert_by l k is same low =
     (subst (λ (h : Head). AreShorter (line_words (Cert l)) (head_word h ∷ map decimal (numbers_of k))) same
     (words_after (head_word (line_head l)) (numbers_of l) (numbers_of k) low is.within))
 
-cert_readable : (move : ℕ → ℕ) → IsLow move → (l : NumberedLine) → IsReadable (Cert l) → IsReadable (Cert (renumbered_cert move l))
+cert_readable : (move : ℕ → ℕ) → IsLow move → (l : NumberedLine) → IsReadable (Cert l) → IsReadable (Cert (with_terms move l))
 cert_readable move low (line.Both n) is = is
 cert_readable move low (line.Either n) is = is
 cert_readable move low (line.Cases t u) is =

@@ -1,10 +1,14 @@
 -- What a line makes or names is the same by other numbers, where all that it names stands under these.
-use Rattle.std.proofs.Common.{◌≡◌, ℕ, Bool, Option, Some, None, slice_get, Result, Ok, List, [], ◌∷◌, ap, ◌∙◌}
+use Rattle.std.proofs.Common.{◌≡◌, ℕ, ◌<◌, Option, Some, slice_get, Result, Ok, List, [], ◌∷◌, length, ap, ◌∙◌}
+use Rattle.std.proofs.lemmas.Option.{slice_get-get_or, slice_get_within, get_or_from_slice_get}
 use Rattle.sm_syntax.specs.text.Sorts.{Sorts}
 use Rattle.sm_term.specs.Assertions.{Assertion}
+use Rattle.sm_term.specs.Tables.{tree_at}
 use Rattle.sm_term.specs.Terms.{Tree}
 use Rattle.sm_theory.specs.Lines.{CertificateLine, followed}
+use Rattle.sm_theory.specs.Named.{terms_named, with_terms, EachOf, EachNamed}
 use Rattle.sm_theory.proofs.FactsLemmas.{followed_from}
+use Rattle.sm_theory.proofs.LinesOver.{facts_with, with_twice, with_same, each_with}
 use Rattle.sm_plan.specs.Nodes as plan
 use Rattle.sm_proof.specs.declared.line.FormLine.{FormLine}
 use Rattle.sm_proof.specs.declared.line.FormLine.TheVariants as form
@@ -13,13 +17,13 @@ use Rattle.sm_proof.specs.declared.line.NodeLine.TheVariants as node
 use Rattle.sm_proof.specs.declared.line.TermLine.{TermLine}
 use Rattle.sm_proof.specs.declared.line.TermLine.TheVariants as term
 use Rattle.sm_proof.specs.declared.word.Word.{Word}
-use Rattle.sm_proof.specs.Lines.{NumberedLine, Both, Either, Cases, Order, Refl, Sym, Trans, Subst}
-use Rattle.sm_proof.specs.Lines.{Cong, Same, Apart, Hit, Miss, Lin, Elim, Tight, Exact, Close, Clash}
-use Rattle.sm_proof.specs.Named.{found_or, named_line, named_node}
+use Rattle.sm_proof.specs.Lines.{NumberedLine}
+use Rattle.sm_proof.specs.Named.{found_or, are_there, named_line, named_node}
 use Rattle.sm_proof.specs.Passing.{Pending, term_made, form_made}
+use Rattle.sm_proof.proofs.NamedKept.{named_there, named_from, there_below}
 use Rattle.sm_proof.proofs.ProgressLemmas.{found_from}
-use Rattle.sm_prune.specs.LineNumbers.{terms_of_term, terms_of_form, forms_of_form, forms_of_node, terms_of_cert}
-use Rattle.sm_prune.specs.LineNumbers.{renumbered_term, renumbered_form, renumbered_node, renumbered_cert}
+use Rattle.sm_prune.specs.LineNumbers.{terms_of_term, terms_of_form, forms_of_form, forms_of_node}
+use Rattle.sm_prune.specs.LineNumbers.{renumbered_term, renumbered_form, renumbered_node}
 use Rattle.sm_prune.proofs.CarriedLemmas.{StandsAt, EachStands}
 
 -- what goes on with an element to a good end does so with it in the other list
@@ -92,28 +96,31 @@ node_moves move_form fs gs node.End it k e = e
 
 -- the line of a certificate
 pub cert_moves : (move : ℕ → ℕ) (xs ys : List Tree) (count : ℕ) (l : NumberedLine) (it : CertificateLine) →
-    EachStands move xs ys (terms_of_cert l) → named_line xs count l ≡ Some it → named_line ys count (renumbered_cert move l) ≡ Some it
-cert_moves move xs ys count (Both n) it h e = e
-cert_moves move xs ys count (Either n) it h e = e
-cert_moves move xs ys count (Cases t u) it h e =
-    follow_moves move xs ys t _ _ it h.0 e (λ a e. follow_moves move xs ys u _ _ it h.1.0 e (λ b e. e))
-cert_moves move xs ys count (Order n) it h e = e
-cert_moves move xs ys count (Refl t) it h e = follow_moves move xs ys t _ _ it h.0 e (λ a e. e)
-cert_moves move xs ys count (Sym n) it h e = e
-cert_moves move xs ys count (Trans m n) it h e = e
-cert_moves move xs ys count (Subst m n) it h e = e
-cert_moves move xs ys count (Cong t u ns) it h e =
-    follow_moves move xs ys t _ _ it h.0 e (λ a e. follow_moves move xs ys u _ _ it h.1.0 e (λ b e. e))
-cert_moves move xs ys count (Same t u) it h e =
-    follow_moves move xs ys t _ _ it h.0 e (λ a e. follow_moves move xs ys u _ _ it h.1.0 e (λ b e. e))
-cert_moves move xs ys count (Apart t u) it h e =
-    follow_moves move xs ys t _ _ it h.0 e (λ a e. follow_moves move xs ys u _ _ it h.1.0 e (λ b e. e))
-cert_moves move xs ys count (Hit t n) it h e = follow_moves move xs ys t _ _ it h.0 e (λ a e. e)
-cert_moves move xs ys count (Miss t u n) it h e =
-    follow_moves move xs ys t _ _ it h.0 e (λ a e. follow_moves move xs ys u _ _ it h.1.0 e (λ b e. e))
-cert_moves move xs ys count (Lin n) it h e = e
-cert_moves move xs ys count (Elim m n t) it h e = follow_moves move xs ys t _ _ it h.0 e (λ a e. e)
-cert_moves move xs ys count (Tight n) it h e = e
-cert_moves move xs ys count (Exact n) it h e = e
-cert_moves move xs ys count (Close n) it h e = e
-cert_moves move xs ys count (Clash m n) it h e = e
+    EachStands move xs ys (terms_named l) → named_line xs count l ≡ Some it → named_line ys count (with_terms move l) ≡ Some it
+cert_moves move xs ys count l it h e =
+    let is = named_there xs count l it e in
+    let below : EachNamed (λ (n : ℕ). n < length xs) l = there_below (length xs) (terms_named l) is.0 in
+    named_from ys count (with_terms move l)
+    (each_with (λ (n : ℕ). n < length ys) move l (each_meets (λ (n : ℕ). move n < length ys) (λ n stands less. (moved n stands less).0) l below h))
+    (ap (are_there count) (facts_with move l) ∙ is.1)
+    ∙ ap (λ (x : CertificateLine). Some x)
+    (with_twice (tree_at ys) move l
+    ∙ with_same (λ (n : ℕ). tree_at ys (move n)) (tree_at xs) l
+    (each_meets (λ (n : ℕ). tree_at ys (move n) ≡ tree_at xs n) (λ n stands less. (moved n stands less).1) l below h)
+    ∙ is.2)
+  where
+    -- a term that is there stands under its new number
+    moved : (n : ℕ) → StandsAt move xs ys n → n < length xs → (move n < length ys) × (tree_at ys (move n) ≡ tree_at xs n)
+    moved n stands less =
+        let there = stands (tree_at xs n) (slice_get-get_or xs n _ less) in
+        (slice_get_within ys (move n) (tree_at xs n) there, get_or_from_slice_get ys (move n) (tree_at xs n) _ there)
+
+    each_of : (P : ℕ → Type 0) → ((n : ℕ) → StandsAt move xs ys n → n < length xs → P n) → (ns : List ℕ) →
+        EachOf (λ (n : ℕ). n < length xs) ns → EachStands move xs ys ns → EachOf P ns
+    each_of P gives [] less all = tt
+    each_of P gives (n ∷ []) less all = gives n all.0 less
+    each_of P gives (n ∷ (m ∷ ms)) less all = (gives n all.0 less.0, each_of P gives (m ∷ ms) less.1 all.1)
+
+    each_meets : (P : ℕ → Type 0) → ((n : ℕ) → StandsAt move xs ys n → n < length xs → P n) → (k : NumberedLine) →
+        EachNamed (λ (n : ℕ). n < length xs) k → EachStands move xs ys (terms_named k) → EachNamed P k
+    each_meets P gives k less all = each_of P gives (terms_named k) less all

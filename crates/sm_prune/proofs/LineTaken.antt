@@ -9,6 +9,8 @@ use Rattle.sm_term.specs.Terms.{Tree}
 use Rattle.sm_theory.specs.Facts.{BranchFact}
 use Rattle.sm_theory.specs.Lines.{CertificateLine}
 use Rattle.sm_theory.specs.Ways.{ways}
+use Rattle.sm_theory.specs.Named.{terms_named, with_terms, is_split}
+use Rattle.sm_theory.proofs.LinesOver.{splits_with}
 use Rattle.sm_plan.specs.Limits.{is_shallow}
 use Rattle.sm_plan.specs.NodeLists.{above_opened}
 use Rattle.sm_plan.specs.Nodes as plan
@@ -21,11 +23,11 @@ use Rattle.sm_proof.specs.declared.word.Word.TheVariants.{BadNumber, Deep, First
 use Rattle.sm_proof.specs.Lines as line
 use Rattle.sm_proof.specs.Lines.{NumberedLine, Header, Term, Form, Node, Cert}
 use Rattle.sm_proof.specs.Named.{found_or, tested_or, and_then, named_line, named_node, node_head, line_head}
-use Rattle.sm_proof.specs.Passing.{Pending, Due, Branch, Progress, term_made, form_made, is_split, taken_at}
+use Rattle.sm_proof.specs.Passing.{Pending, Due, Branch, Progress, term_made, form_made, taken_at}
 use Rattle.sm_proof.specs.Passing.{opened_before, branches_before, after_node, after_line}
 use Rattle.sm_proof.proofs.ProgressLemmas.{found_from, tested_from, made_from, same_end}
-use Rattle.sm_prune.specs.LineNumbers.{terms_of_term, terms_of_form, forms_of_form, forms_of_node, terms_of_cert}
-use Rattle.sm_prune.specs.LineNumbers.{renumbered_term, renumbered_form, renumbered_node, renumbered_cert}
+use Rattle.sm_prune.specs.LineNumbers.{terms_of_term, terms_of_form, forms_of_form, forms_of_node}
+use Rattle.sm_prune.specs.LineNumbers.{renumbered_term, renumbered_form, renumbered_node}
 use Rattle.sm_prune.proofs.CarriedLemmas.{EachStands}
 use Rattle.sm_prune.proofs.LineMoves.{term_moves, form_moves, node_moves, cert_moves}
 
@@ -134,36 +136,14 @@ node_taken sorts move_form p q ys gs (Due st above ∷ rest) l k e =
           ∙ ap (λ (o : Option plan.Opened). found_or o (First (node_head m)) on) opened.1);
     }
 
--- a line of a certificate splits where it does by other numbers
-split_alike : (move : ℕ → ℕ) (l : NumberedLine) → is_split (renumbered_cert move l) ≡ is_split l
-split_alike move (line.Both n) = refl
-split_alike move (line.Either n) = refl
-split_alike move (line.Cases t u) = refl
-split_alike move (line.Order n) = refl
-split_alike move (line.Refl t) = refl
-split_alike move (line.Sym n) = refl
-split_alike move (line.Trans m n) = refl
-split_alike move (line.Subst m n) = refl
-split_alike move (line.Cong t u ns) = refl
-split_alike move (line.Same t u) = refl
-split_alike move (line.Apart t u) = refl
-split_alike move (line.Hit t n) = refl
-split_alike move (line.Miss t u n) = refl
-split_alike move (line.Lin n) = refl
-split_alike move (line.Elim m n t) = refl
-split_alike move (line.Tight n) = refl
-split_alike move (line.Exact n) = refl
-split_alike move (line.Close n) = refl
-split_alike move (line.Clash m n) = refl
-
 -- a line of a certificate
 pub cert_taken : (sorts : Sorts) (move : ℕ → ℕ) (p q : Progress) (ys : List Tree) (gs : List Assertion) (pending : List Pending)
-    (l : NumberedLine) → EachStands move p.terms ys (terms_of_cert l) → taken_at sorts p pending (Cert l) ≡ Ok q →
-    GoesAlike sorts p q ys gs pending (Cert (renumbered_cert move l))
+    (l : NumberedLine) → EachStands move p.terms ys (terms_named l) → taken_at sorts p pending (Cert l) ≡ Ok q →
+    GoesAlike sorts p q ys gs pending (Cert (with_terms move l))
 cert_taken sorts move p q ys gs [] l h e = absurd cc
 cert_taken sorts move p q ys gs (Due st above ∷ rest) l h e = absurd cc
 cert_taken sorts move p q ys gs (Branch stores facts splits ∷ rest) l h e =
-    let m : NumberedLine = renumbered_cert move l in
+    let m : NumberedLine = with_terms move l in
     let named =
     found_from (named_line p.terms (length facts) l) BadNumber (after_line sorts p stores facts splits rest l) q e in
     let it = named.0 in
@@ -185,7 +165,7 @@ cert_taken sorts move p q ys gs (Branch stores facts splits ∷ rest) l h e =
           (cert_moves move p.terms ys (length facts) l it h named.1)
           ∙ (ap
           (λ (b : Bool). tested_or (is_shallow (splits_over b)) Deep (found_or (ways sorts facts it) (First (line_head m)) (on b)))
-          (split_alike move l)
+          (splits_with move l)
           ∙ (ap
           (λ (b : Bool). tested_or b Deep (found_or (ways sorts facts it) (First (line_head m)) (on (is_split l)))) tested.0
           ∙ ap (λ (o : Option (List (List BranchFact))). found_or o (First (line_head m)) (on (is_split l))) goes_on.1));

@@ -2,15 +2,13 @@
 -- numbers, and the line with other numbers of terms and formulas.
 use Rattle.std.specs.Prelude.{ℕ, nat_eq, Bool, false, List, [], ◌∷◌}
 use Rattle.std.specs.List.{list_any}
+use Rattle.sm_theory.specs.Named.{terms_named, with_terms}
 use Rattle.sm_proof.specs.declared.line.FormLine.{FormLine}
 use Rattle.sm_proof.specs.declared.line.FormLine.TheVariants as form
 use Rattle.sm_proof.specs.declared.line.NodeLine.{NodeLine}
 use Rattle.sm_proof.specs.declared.line.NodeLine.TheVariants as node
 use Rattle.sm_proof.specs.declared.line.TermLine.{TermLine}
 use Rattle.sm_proof.specs.declared.line.TermLine.TheVariants as term
-use Rattle.sm_proof.specs.Lines.{NumberedLine, Both, Either, Cases, Order, Refl, Sym, Trans, Subst}
-use Rattle.sm_proof.specs.Lines.{Cong, Same, Apart, Hit, Miss, Lin, Elim, Tight, Exact}
-use Rattle.sm_proof.specs.Lines.{Close, Clash}
 use Rattle.sm_proof.specs.Lines.{ProofLine, Header, Term, Form, Node, Cert}
 
 -- the terms that a line `t` names
@@ -61,35 +59,13 @@ forms_of_node (node.Block k0 k1 k2 k3 keep) = keep ∷ []
 forms_of_node node.Dead = []
 forms_of_node node.End = []
 
--- the terms that a line of a certificate names
-abbrev pub terms_of_cert : NumberedLine → List ℕ
-terms_of_cert (Both n) = []
-terms_of_cert (Either n) = []
-terms_of_cert (Cases t u) = t ∷ u ∷ []
-terms_of_cert (Order n) = []
-terms_of_cert (Refl t) = t ∷ []
-terms_of_cert (Sym n) = []
-terms_of_cert (Trans m n) = []
-terms_of_cert (Subst m n) = []
-terms_of_cert (Cong t u ns) = t ∷ u ∷ []
-terms_of_cert (Same t u) = t ∷ u ∷ []
-terms_of_cert (Apart t u) = t ∷ u ∷ []
-terms_of_cert (Hit t n) = t ∷ []
-terms_of_cert (Miss t u n) = t ∷ u ∷ []
-terms_of_cert (Lin n) = []
-terms_of_cert (Elim m n t) = t ∷ []
-terms_of_cert (Tight n) = []
-terms_of_cert (Exact n) = []
-terms_of_cert (Close n) = []
-terms_of_cert (Clash m n) = []
-
 -- the terms that any line names
 abbrev pub terms_of : ProofLine → List ℕ
 terms_of (Header version) = []
 terms_of (Term t) = terms_of_term t
 terms_of (Form f) = terms_of_form f
 terms_of (Node n) = []
-terms_of (Cert l) = terms_of_cert l
+terms_of (Cert l) = terms_named l
 
 -- the formulas that any line names
 abbrev pub forms_of : ProofLine → List ℕ
@@ -144,32 +120,10 @@ renumbered_node move_form (node.Block k0 k1 k2 k3 keep) = node.Block k0 k1 k2 k3
 renumbered_node move_form node.Dead = node.Dead
 renumbered_node move_form node.End = node.End
 
--- a line of a certificate with other numbers of terms
-abbrev pub renumbered_cert : (ℕ → ℕ) → NumberedLine → NumberedLine
-renumbered_cert move (Both n) = Both n
-renumbered_cert move (Either n) = Either n
-renumbered_cert move (Cases t u) = Cases (move t) (move u)
-renumbered_cert move (Order n) = Order n
-renumbered_cert move (Refl t) = Refl (move t)
-renumbered_cert move (Sym n) = Sym n
-renumbered_cert move (Trans m n) = Trans m n
-renumbered_cert move (Subst m n) = Subst m n
-renumbered_cert move (Cong t u ns) = Cong (move t) (move u) ns
-renumbered_cert move (Same t u) = Same (move t) (move u)
-renumbered_cert move (Apart t u) = Apart (move t) (move u)
-renumbered_cert move (Hit t n) = Hit (move t) n
-renumbered_cert move (Miss t u n) = Miss (move t) (move u) n
-renumbered_cert move (Lin n) = Lin n
-renumbered_cert move (Elim m n t) = Elim m n (move t)
-renumbered_cert move (Tight n) = Tight n
-renumbered_cert move (Exact n) = Exact n
-renumbered_cert move (Close n) = Close n
-renumbered_cert move (Clash m n) = Clash m n
-
 -- any line with other numbers of terms and of formulas
 abbrev pub renumbered : (ℕ → ℕ) → (ℕ → ℕ) → ProofLine → ProofLine
 renumbered move move_form (Header version) = Header version
 renumbered move move_form (Term t) = Term (renumbered_term move t)
 renumbered move move_form (Form f) = Form (renumbered_form move move_form f)
 renumbered move move_form (Node n) = Node (renumbered_node move_form n)
-renumbered move move_form (Cert l) = Cert (renumbered_cert move l)
+renumbered move move_form (Cert l) = Cert (with_terms move l)

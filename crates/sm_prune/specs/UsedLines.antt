@@ -3,16 +3,13 @@ use Rattle.std.specs.Prelude.{◌≡◌, ℕ, zero, suc, nat_eq, Bool, true, fal
 use Rattle.std.specs.Prelude.{if◌then◌else◌, Ok, List, [], ◌∷◌, length}
 use Rattle.std.specs.List.{list_any}
 use Rattle.sm_syntax.specs.text.Sorts.{Sorts}
+use Rattle.sm_theory.specs.Named.{facts_named, reads_all, is_closing, facts_added, is_split}
 use Rattle.sm_proof.specs.declared.line.TermLine.{TermLine}
 use Rattle.sm_proof.specs.declared.line.TermLine.TheVariants as term
 use Rattle.sm_proof.specs.Cases.{AreRead}
-use Rattle.sm_proof.specs.Lines.{NumberedLine, Both, Either, Cases, Order, Refl, Sym, Trans, Subst}
-use Rattle.sm_proof.specs.Lines.{Cong, Same, Apart, Hit, Miss, Lin, Elim, Tight, Exact}
-use Rattle.sm_proof.specs.Lines.{Close, Clash}
-use Rattle.sm_proof.specs.Lines.{ProofLine, Header, Term, Form, Node, Cert}
-use Rattle.sm_proof.specs.Passing.{Pending, Due, Branch, Progress, start_progress, is_split, taken}
+use Rattle.sm_proof.specs.Lines.{NumberedLine, ProofLine, Header, Term, Form, Node, Cert}
+use Rattle.sm_proof.specs.Passing.{Pending, Due, Branch, Progress, start_progress, taken}
 use Rattle.sm_proof.specs.Verdicts.{Subject, lines_in}
-use Rattle.sm_proof.specs.Versions.{is_exact_step}
 use Rattle.sm_prune.specs.LineNumbers.{names_term, names_form}
 
 -- each line that makes a term or a formula is named by a later one, where so many terms and formulas
@@ -32,28 +29,6 @@ abbrev pub HasNamedLines : List ℕ → Type 0
 HasNamedLines bytes =
     (lines : List ProofLine) × AreRead (lines_in bytes).ended lines × AreNamed 0 0 lines
 
--- the facts that a line of a certificate names by their numbers
-abbrev pub facts_of : NumberedLine → List ℕ
-facts_of (Both n) = n ∷ []
-facts_of (Either n) = n ∷ []
-facts_of (Cases t u) = []
-facts_of (Order n) = n ∷ []
-facts_of (Refl t) = []
-facts_of (Sym n) = n ∷ []
-facts_of (Trans m n) = m ∷ n ∷ []
-facts_of (Subst m n) = m ∷ n ∷ []
-facts_of (Cong t u ns) = ns
-facts_of (Same t u) = []
-facts_of (Apart t u) = []
-facts_of (Hit t n) = n ∷ []
-facts_of (Miss t u n) = n ∷ []
-facts_of (Lin n) = n ∷ []
-facts_of (Elim m n t) = m ∷ n ∷ []
-facts_of (Tight n) = n ∷ []
-facts_of (Exact n) = []
-facts_of (Close n) = n ∷ []
-facts_of (Clash m n) = m ∷ n ∷ []
-
 -- whether a line `t` names fact n
 abbrev pub term_names_fact : ℕ → TermLine → Bool
 term_names_fact n (term.Of m side) = nat_eq n m
@@ -65,18 +40,7 @@ line_names_fact n (Header version) = false
 line_names_fact n (Term t) = term_names_fact n t
 line_names_fact n (Form f) = false
 line_names_fact n (Node m) = false
-line_names_fact n (Cert l) = is_exact_step l || list_any (nat_eq n) (facts_of l)
-
--- whether a line closes its branch
-abbrev pub closes_branch : NumberedLine → Bool
-closes_branch (Close n) = true
-closes_branch (Clash m n) = true
-closes_branch l = false
-
--- how many facts a line adds in each way
-abbrev pub facts_made : NumberedLine → ℕ
-facts_made (Both n) = 2
-facts_made l = 1
+line_names_fact n (Cert l) = reads_all l || list_any (nat_eq n) (facts_named l)
 
 -- how many branches wait to be closed after a line on the first of them, where so many others wait
 abbrev pub branches_after : ℕ → ProofLine → ℕ
@@ -85,7 +49,7 @@ branches_after others (Term t) = suc others
 branches_after others (Form f) = suc others
 branches_after others (Node n) = suc others
 branches_after others (Cert l) =
-    if closes_branch l then others else (if is_split l then suc (suc others) else suc others)
+    if is_closing l then others else (if is_split l then suc (suc others) else suc others)
 
 -- the lines by which so many branches are closed, the parts of each with it
 abbrev pub closing_lines : ℕ → List ProofLine → List ProofLine
@@ -119,7 +83,7 @@ IsUsedBy false false k facts lines = IsTrue (is_one_named lines k facts)
 
 -- a line of a certificate is used, where so many facts stand before it and these lines behind it
 abbrev pub IsCertUsed : ℕ → NumberedLine → List ProofLine → Type 0
-IsCertUsed facts l lines = IsUsedBy (closes_branch l) (is_split l) (facts_made l) facts lines
+IsCertUsed facts l lines = IsUsedBy (is_closing l) (is_split l) (facts_added l) facts lines
 
 -- how many facts the branch has that is due
 abbrev pub facts_due : List Pending → ℕ

@@ -1,8 +1,9 @@
 // Marks of the terms and formulas that a line names.
 ghost use Rattle.std.specs.Prelude.{nat_eq};
 ghost use Rattle.std.specs.List.{list_any};
+ghost use Rattle.sm_theory.specs.Named.{terms_named};
 ghost use Rattle.sm_proof.specs.Lines.{line_of, numbered_line};
-ghost use Rattle.sm_prune.specs.LineNumbers.{forms_of_form, forms_of_node, terms_of_cert};
+ghost use Rattle.sm_prune.specs.LineNumbers.{forms_of_form, forms_of_node};
 ghost use Rattle.sm_prune.specs.LineNumbers.{names_form, names_term, terms_of_form, terms_of_term};
 ghost use Rattle.sm_prune.specs.Marks.{MarksMore};
 
@@ -54,7 +55,7 @@ fn mark_node(forms: &mut Vec<bool>, line: &NodeLine)
 
 // Marks the terms that a line of a certificate names.
 fn mark_cert(terms: &mut Vec<bool>, line: &CertLine)
-    ensures { MarksMore (λ n. list_any (nat_eq n) (terms_of_cert (numbered_line line.now)))
+    ensures { MarksMore (λ n. list_any (nat_eq n) (terms_named (numbered_line line.now)))
         terms.old.items terms.new.items }
 {
     match line {

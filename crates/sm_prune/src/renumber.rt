@@ -1,8 +1,9 @@
 // Lines with other numbers of terms and formulas.
 ghost use Rattle.std.specs.Prelude.{◌≡◌, IfOk};
+ghost use Rattle.sm_theory.specs.Named.{with_terms};
 ghost use Rattle.sm_proof.specs.Lines.{Cong, line_of, numbered_line};
 ghost use Rattle.sm_prune.specs.LeftLines.{new_number};
-ghost use Rattle.sm_prune.specs.LineNumbers.{renumbered, renumbered_cert, renumbered_form};
+ghost use Rattle.sm_prune.specs.LineNumbers.{renumbered, renumbered_form};
 ghost use Rattle.sm_prune.specs.LineNumbers.{renumbered_node, renumbered_term};
 
 use crate::numbers::new_number;
@@ -120,7 +121,7 @@ fn congruence(
 // A line of a certificate by new numbers.
 fn renumbered_cert(alloc: Global, line: &CertLine, terms: &[u64]) -> Result<CertLine, AllocError>
     ensures { IfOk result (λ l.
-        numbered_line l ≡ renumbered_cert (new_number terms.now) (numbered_line line.now)) }
+        numbered_line l ≡ with_terms (new_number terms.now) (numbered_line line.now)) }
 {
     match line {
         CertLine::Both(n) => Ok(CertLine::Both(*n)),

@@ -1,10 +1,10 @@
 -- Lines with other terms.
 use Rattle.std.proofs.Common.{◌≡◌, List, [], ◌∷◌, map, refl, sym, ap, ap₂, subst}
 use Rattle.sm_theory.specs.Lines.{LineOver, Both, Either, Cases, Order, Refl, Sym, Trans, Subst, Cong, Same, Apart, Hit, Miss, Lin, Elim, Tight, Exact, Close, Clash}
-use Rattle.sm_theory.specs.Named.{facts_named, terms_named, with_terms, EachOf, EachNamed}
+use Rattle.sm_theory.specs.Named.{facts_named, terms_named, with_terms, reads_all, is_split, EachOf, EachNamed}
 
 -- such a line names the other terms
-terms_with : {S T : Type 0} (new : S → T) (l : LineOver S) → terms_named (with_terms new l) ≡ map new (terms_named l)
+pub terms_with : {S T : Type 0} (new : S → T) (l : LineOver S) → terms_named (with_terms new l) ≡ map new (terms_named l)
 terms_with new (Both n) = refl
 terms_with new (Either n) = refl
 terms_with new (Cases t u) = refl
@@ -46,6 +46,50 @@ facts_with new (Tight n) = refl
 facts_with new (Exact n) = refl
 facts_with new (Close n) = refl
 facts_with new (Clash m n) = refl
+
+-- and reads all facts where that does
+pub reads_with : {S T : Type 0} (new : S → T) (l : LineOver S) → reads_all (with_terms new l) ≡ reads_all l
+reads_with new (Both n) = refl
+reads_with new (Either n) = refl
+reads_with new (Cases t u) = refl
+reads_with new (Order n) = refl
+reads_with new (Refl t) = refl
+reads_with new (Sym n) = refl
+reads_with new (Trans m n) = refl
+reads_with new (Subst m n) = refl
+reads_with new (Cong t u ns) = refl
+reads_with new (Same t u) = refl
+reads_with new (Apart t u) = refl
+reads_with new (Hit t n) = refl
+reads_with new (Miss t u n) = refl
+reads_with new (Lin n) = refl
+reads_with new (Elim m n t) = refl
+reads_with new (Tight n) = refl
+reads_with new (Exact n) = refl
+reads_with new (Close n) = refl
+reads_with new (Clash m n) = refl
+
+-- and splits its branch where that does
+pub splits_with : {S T : Type 0} (new : S → T) (l : LineOver S) → is_split (with_terms new l) ≡ is_split l
+splits_with new (Both n) = refl
+splits_with new (Either n) = refl
+splits_with new (Cases t u) = refl
+splits_with new (Order n) = refl
+splits_with new (Refl t) = refl
+splits_with new (Sym n) = refl
+splits_with new (Trans m n) = refl
+splits_with new (Subst m n) = refl
+splits_with new (Cong t u ns) = refl
+splits_with new (Same t u) = refl
+splits_with new (Apart t u) = refl
+splits_with new (Hit t n) = refl
+splits_with new (Miss t u n) = refl
+splits_with new (Lin n) = refl
+splits_with new (Elim m n t) = refl
+splits_with new (Tight n) = refl
+splits_with new (Exact n) = refl
+splits_with new (Close n) = refl
+splits_with new (Clash m n) = refl
 
 -- other terms twice
 pub with_twice : {S T U : Type 0} (new : T → U) (old : S → T) (l : LineOver S) →
@@ -98,6 +142,11 @@ each_map P new [] all = tt
 each_map P new (s ∷ []) all = all
 each_map P new (s ∷ (r ∷ rs)) all = (all.0, each_map P new (r ∷ rs) all.1)
 
+each_unmap : {S T : Type 0} (P : T → Type 0) (new : S → T) (ss : List S) → EachOf P (map new ss) → EachOf (λ (s : S). P (new s)) ss
+each_unmap P new [] all = tt
+each_unmap P new (s ∷ []) all = all
+each_unmap P new (s ∷ (r ∷ rs)) all = (all.0, each_unmap P new (r ∷ rs) all.1)
+
 each_weaker : {T : Type 0} (P Q : T → Type 0) (ts : List T) → ((t : T) → P t → Q t) → EachOf P ts → EachOf Q ts
 each_weaker P Q [] more all = tt
 each_weaker P Q (t ∷ []) more all = more t all
@@ -107,6 +156,11 @@ each_weaker P Q (t ∷ (u ∷ us)) more all = (more t all.0, each_weaker P Q (u 
 pub each_with : {S T : Type 0} (P : T → Type 0) (new : S → T) (l : LineOver S) → EachNamed (λ (s : S). P (new s)) l →
     EachNamed P (with_terms new l)
 each_with P new l all = subst (EachOf P) (sym (terms_with new l)) (each_map P new (terms_named l) all)
+
+-- and the other way round
+pub each_back : {S T : Type 0} (P : T → Type 0) (new : S → T) (l : LineOver S) → EachNamed P (with_terms new l) →
+    EachNamed (λ (s : S). P (new s)) l
+each_back P new l all = each_unmap P new (terms_named l) (subst (EachOf P) (terms_with new l) all)
 
 -- what follows from it is so, too
 pub each_more : {T : Type 0} (P Q : T → Type 0) (l : LineOver T) → ((t : T) → P t → Q t) → EachNamed P l → EachNamed Q l

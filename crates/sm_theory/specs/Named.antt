@@ -86,6 +86,19 @@ abbrev pub reads_all : {T : Type 0} → LineOver T → Bool
 reads_all (Exact n) = true
 reads_all line = false
 
+-- whether a line splits its branch
+abbrev pub is_split : {T : Type 0} → LineOver T → Bool
+is_split (Either n) = true
+is_split (Cases t u) = true
+is_split (Order n) = true
+is_split line = false
+
+-- whether a line closes its branch
+abbrev pub is_closing : {T : Type 0} → LineOver T → Bool
+is_closing (Close n) = true
+is_closing (Clash m n) = true
+is_closing line = false
+
 -- how many facts a line adds in each way
 abbrev pub facts_added : {T : Type 0} → LineOver T → ℕ
 facts_added (Both n) = 2

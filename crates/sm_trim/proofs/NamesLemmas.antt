@@ -6,10 +6,9 @@ use Rattle.std.proofs.lemmas.Bool.{and_parts, eq-eqb, eqb-true, lt-ltb}
 use Rattle.sm_theory.specs.Lines.{CertificateLine, Both, Either, Cases, Order, Refl, Sym, Trans, Subst, Cong, Same, Apart, Hit, Miss, Lin}
 use Rattle.sm_theory.specs.Lines.{Elim}
 use Rattle.sm_theory.specs.Lines.{Tight, Exact, Close, Clash}
-use Rattle.sm_theory.specs.Named.{facts_named, reads_all, facts_added}
+use Rattle.sm_theory.specs.Named.{facts_named, reads_all, facts_added, terms_named}
 use Rattle.sm_theory.specs.Moved.{moved_line}
 use Rattle.sm_trim.specs.Used.{names_fact, some_pass}
-use Rattle.sm_trim.specs.Named.{terms_named}
 
 -- one of two tests is passed
 pub by_first : (a b : Bool) → a ≡ true → (a || b) ≡ true

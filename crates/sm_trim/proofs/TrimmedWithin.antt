@@ -5,14 +5,11 @@ use Rattle.std.proofs.lemmas.List.{get_or-replicate, get_or_past, length-replica
 use Rattle.sm_term.specs.Terms.{Tree, Cell, Lit}
 use Rattle.sm_term.specs.Tables.{tree_at}
 use Rattle.sm_theory.specs.declared.line.CertLine.{CertLine}
-use Rattle.sm_theory.specs.declared.line.CertLine.TheVariants as cert
-use Rattle.sm_theory.specs.Lines.{CertificateLine, Both, Either, Cases, Order, Refl, Sym, Trans, Subst, Cong, Same, Apart, Hit, Miss, Lin}
-use Rattle.sm_theory.specs.Lines.{Elim}
-use Rattle.sm_theory.specs.Lines.{Tight, Exact, Close, Clash}
-use Rattle.sm_theory.specs.Named.{facts_added}
+use Rattle.sm_theory.specs.Lines.{CertificateLine}
+use Rattle.sm_theory.specs.Named.{facts_added, EachOf, EachNamed}
 use Rattle.sm_theory.specs.Moved.{moved_line}
-use Rattle.sm_theory.specs.Named.{EachNamed}
-use Rattle.sm_theory.specs.Views.{line_in, IsLineWithin}
+use Rattle.sm_theory.specs.Views.{line_in, IsLineWithin, numbered_line}
+use Rattle.sm_theory.proofs.LinesOver.{each_with, each_back, each_more}
 use Rattle.sm_cert.specs.declared.tree.CertEnd.{CertEnd, CertEnd-F, roll-CertEnd, map-CertEnd, fold-roll-CertEnd}
 use Rattle.sm_cert.specs.declared.tree.CertEnd.TheOpen as layer
 use Rattle.sm_cert.specs.declared.tree.CertTree.{CertTree, CertTree-F, roll-CertTree, map-CertTree, fold-roll-CertTree, ind-CertTree}
@@ -22,29 +19,12 @@ use Rattle.sm_cert.specs.Views.{lines_before, tree_layer, end_layer, certificate
 use Rattle.sm_cert.proofs.CheckLemmas.{end_in, lines_of_end, within_parts}
 use Rattle.sm_trim.specs.Used.{some_pass}
 use Rattle.sm_trim.specs.Pruned.{Pruned, LeftNext, LeftSplit, needs, with_line, with_split, pruned, new_number, numbered_on, closed_up}
+use Rattle.sm_trim.proofs.NamesLemmas.{moved_alike}
 use Rattle.sm_trim.proofs.NumbersLemmas.{less_or_not}
 
 -- a line with other numbers of facts names the terms that it named
 moved_each : (P : Tree → Type 0) (move : ℕ → ℕ) (line : CertificateLine) → EachNamed P line → EachNamed P (moved_line move line)
-moved_each P move (Both n) h = h
-moved_each P move (Either n) h = h
-moved_each P move (Cases t u) h = h
-moved_each P move (Order n) h = h
-moved_each P move (Refl t) h = h
-moved_each P move (Sym n) h = h
-moved_each P move (Trans m n) h = h
-moved_each P move (Subst m n) h = h
-moved_each P move (Cong t u ns) h = h
-moved_each P move (Same t u) h = h
-moved_each P move (Apart t u) h = h
-moved_each P move (Hit t n) h = h
-moved_each P move (Miss t u n) h = h
-moved_each P move (Lin n) h = h
-moved_each P move (Elim m n t) h = h
-moved_each P move (Tight n) h = h
-moved_each P move (Exact n) h = h
-moved_each P move (Close n) h = h
-moved_each P move (Clash m n) h = h
+moved_each P move line h = subst (EachOf P) (sym (moved_alike move line).terms) h
 
 -- a line before what is left
 next_each : (P : Tree → Type 0) (at to : ℕ) (moved : List ℕ) (line : CertificateLine) (p : Pruned) → EachNamed P line →
@@ -102,46 +82,14 @@ module _ (count : ℕ) where
           let wrong : Lit (pos 0) ≡ Cell = sym past ∙ e in cc)
 
   line_named : (l : CertLine) → IsLineWithin count l → EachNamed IsCell (line_in cells l)
-  line_named (cert.Both n) h = tt
-  line_named (cert.Either n) h = tt
-  line_named (cert.Cases t u) h = (cell_at t.0 h.0, cell_at u.0 h.1)
-  line_named (cert.Order n) h = tt
-  line_named (cert.Refl t) h = cell_at t.0 h
-  line_named (cert.Sym n) h = tt
-  line_named (cert.Trans m n) h = tt
-  line_named (cert.Subst m n) h = tt
-  line_named (cert.Cong t u ns) h = (cell_at t.0 h.0, cell_at u.0 h.1)
-  line_named (cert.Same t u) h = (cell_at t.0 h.0, cell_at u.0 h.1)
-  line_named (cert.Apart t u) h = (cell_at t.0 h.0, cell_at u.0 h.1)
-  line_named (cert.Hit t n) h = cell_at t.0 h
-  line_named (cert.Miss t u n) h = (cell_at t.0 h.0, cell_at u.0 h.1)
-  line_named (cert.Lin n) h = tt
-  line_named (cert.Elim m n t) h = cell_at t.0 h
-  line_named (cert.Tight n) h = tt
-  line_named (cert.Exact n) h = tt
-  line_named (cert.Close n) h = tt
-  line_named (cert.Clash m n) h = tt
+  line_named l h =
+      each_with IsCell (tree_at cells) (numbered_line l)
+      (each_more (λ (n : ℕ). n < count) (λ (n : ℕ). IsCell (tree_at cells n)) (numbered_line l) cell_at h)
 
   line_within : (l : CertLine) → EachNamed IsCell (line_in cells l) → IsLineWithin count l
-  line_within (cert.Both n) h = tt
-  line_within (cert.Either n) h = tt
-  line_within (cert.Cases t u) h = (at_cell t.0 h.0, at_cell u.0 h.1)
-  line_within (cert.Order n) h = tt
-  line_within (cert.Refl t) h = at_cell t.0 h
-  line_within (cert.Sym n) h = tt
-  line_within (cert.Trans m n) h = tt
-  line_within (cert.Subst m n) h = tt
-  line_within (cert.Cong t u ns) h = (at_cell t.0 h.0, at_cell u.0 h.1)
-  line_within (cert.Same t u) h = (at_cell t.0 h.0, at_cell u.0 h.1)
-  line_within (cert.Apart t u) h = (at_cell t.0 h.0, at_cell u.0 h.1)
-  line_within (cert.Hit t n) h = at_cell t.0 h
-  line_within (cert.Miss t u n) h = (at_cell t.0 h.0, at_cell u.0 h.1)
-  line_within (cert.Lin n) h = tt
-  line_within (cert.Elim m n t) h = at_cell t.0 h
-  line_within (cert.Tight n) h = tt
-  line_within (cert.Exact n) h = tt
-  line_within (cert.Close n) h = tt
-  line_within (cert.Clash m n) h = tt
+  line_within l h =
+      each_more (λ (n : ℕ). IsCell (tree_at cells n)) (λ (n : ℕ). n < count) (numbered_line l) at_cell
+      (each_back IsCell (tree_at cells) (numbered_line l) h)
 
   -- lines before a certificate
   lines_within : (ls : List CertLine) (c : Certificate) → EachTerm IsCell (lines_before cells ls c) →

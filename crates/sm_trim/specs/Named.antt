@@ -2,33 +2,9 @@
 use Rattle.std.specs.Prelude.{ℕ, ◌≤◌, ◌<◌, List, [], ◌∷◌, ◌++◌, length}
 use Rattle.std.specs.List.{AllByRecursion}
 use Rattle.sm_term.specs.Terms.{Tree}
-use Rattle.sm_theory.specs.Lines.{CertificateLine, Both, Either, Cases, Order, Refl, Sym, Trans}
-use Rattle.sm_theory.specs.Lines.{Subst, Cong, Same, Apart, Hit, Miss, Lin, Elim, Tight, Exact}
-use Rattle.sm_theory.specs.Lines.{Close, Clash}
-use Rattle.sm_theory.specs.Named.{facts_named}
+use Rattle.sm_theory.specs.Lines.{CertificateLine}
+use Rattle.sm_theory.specs.Named.{facts_named, terms_named}
 use Rattle.sm_cert.specs.Certificates.{Certificate, Next, Closed, Split}
-
--- the terms that a line names
-abbrev pub terms_named : CertificateLine → List Tree
-terms_named (Both n) = []
-terms_named (Either n) = []
-terms_named (Cases t u) = t ∷ u ∷ []
-terms_named (Order n) = []
-terms_named (Refl t) = t ∷ []
-terms_named (Sym n) = []
-terms_named (Trans m n) = []
-terms_named (Subst m n) = []
-terms_named (Cong t u ns) = t ∷ u ∷ []
-terms_named (Same t u) = t ∷ u ∷ []
-terms_named (Apart t u) = t ∷ u ∷ []
-terms_named (Hit t n) = t ∷ []
-terms_named (Miss t u n) = t ∷ u ∷ []
-terms_named (Lin n) = []
-terms_named (Elim m n t) = t ∷ []
-terms_named (Tight n) = []
-terms_named (Exact n) = []
-terms_named (Close n) = []
-terms_named (Clash m n) = []
 
 -- the terms that the lines of a certificate name
 abbrev pub terms_in : Certificate → List Tree

@@ -3,11 +3,11 @@ use Rattle.std.proofs.Common.{◌≡◌, ◌∙◌, ◌++◌, ◌||◌, ℕ, zer
 use Rattle.std.specs.List.{list_any}
 use Rattle.std.proofs.lemmas.List.{reverse-append}
 use Rattle.std.proofs.lemmas.List.Folds.{list_any-append}
+use Rattle.sm_theory.specs.Named.{is_closing, is_split}
 use Rattle.sm_proof.specs.Lines.{NumberedLine, Both, Either, Cases, Order, Refl, Sym, Trans, Subst}
 use Rattle.sm_proof.specs.Lines.{Cong, Same, Apart, Hit, Miss, Lin, Elim, Tight, Exact, Close, Clash}
 use Rattle.sm_proof.specs.Lines.{ProofLine, Header, Term, Form, Node, Cert}
-use Rattle.sm_proof.specs.Passing.{is_split}
-use Rattle.sm_prune.specs.UsedLines.{branches_after, closes_branch, closing_lines, is_fact_named, line_names_fact, lines_behind}
+use Rattle.sm_prune.specs.UsedLines.{branches_after, closing_lines, is_fact_named, line_names_fact, lines_behind}
 use Rattle.sm_used.specs.Names.{is_in, GoesOnce, Know, known}
 use Rattle.sm_used.specs.declared.names.Names.{Names}
 
@@ -26,7 +26,7 @@ branches_more a b (Header version) = refl
 branches_more a b (Term t) = refl
 branches_more a b (Form f) = refl
 branches_more a b (Node n) = refl
-branches_more a b (Cert l) = of (closes_branch l) (is_split l)
+branches_more a b (Cert l) = of (is_closing l) (is_split l)
   where
     of : (x y : Bool) → (if x then plus a b else (if y then suc (suc (plus a b)) else suc (plus a b)))
         ≡ plus (if x then a else (if y then suc (suc a) else suc a)) b
@@ -52,7 +52,7 @@ named_twice lines n =
 
 -- ---- how many branches are left to be closed
 
-pub split_open : (l : NumberedLine) → is_split l ≡ true → closes_branch l ≡ false
+pub split_open : (l : NumberedLine) → is_split l ≡ true → is_closing l ≡ false
 split_open (Both n) e = refl
 split_open (Either n) e = refl
 split_open (Cases t u) e = refl
@@ -73,7 +73,7 @@ split_open (Exact n) e = refl
 split_open (Close n) e = absurd cc
 split_open (Clash m n) e = absurd cc
 
-none_after : (others : ℕ) (l : NumberedLine) → closes_branch l ≡ true → branches_after others (Cert l) ≡ others
+none_after : (others : ℕ) (l : NumberedLine) → is_closing l ≡ true → branches_after others (Cert l) ≡ others
 none_after others l closes = ap (λ (b : Bool). if b then others else (if is_split l then suc (suc others) else suc others)) closes
 
 one_after : (others : ℕ) (line : ProofLine) → GoesOnce line → branches_after others line ≡ suc others
@@ -99,7 +99,7 @@ or_false : (b : Bool) → (b || false) ≡ b
 or_false true = refl
 or_false false = refl
 
-closed_at : (stack : List Names) (names : Names) (l : NumberedLine) (lines : List ProofLine) → closes_branch l ≡ true → KnowAt stack lines →
+closed_at : (stack : List Names) (names : Names) (l : NumberedLine) (lines : List ProofLine) → is_closing l ≡ true → KnowAt stack lines →
     ((n : ℕ) → is_in names n ≡ line_names_fact n (Cert l)) → KnowAt (names ∷ stack) (Cert l ∷ lines)
 closed_at stack names l lines closes know is = at
   where
@@ -152,7 +152,7 @@ none_known = at
     at (suc j) n = refl
 
 pub closed_known : (old new : List Names) (names : Names) (l : NumberedLine) (lines : List ProofLine) → new ≡ old ++ names ∷ [] →
-    closes_branch l ≡ true → Know old lines → ((n : ℕ) → is_in names n ≡ line_names_fact n (Cert l)) → Know new (Cert l ∷ lines)
+    is_closing l ≡ true → Know old lines → ((n : ℕ) → is_in names n ≡ line_names_fact n (Cert l)) → Know new (Cert l ∷ lines)
 closed_known old new names l lines e closes know is =
     subst (λ (stack : List Names). KnowAt stack (Cert l ∷ lines)) (sym (ap reverse e ∙ last_first old names))
     (closed_at (reverse old) names l lines closes know is)

@@ -4,31 +4,31 @@ use Rattle.std.proofs.lemmas.List.{append-nil}
 use Rattle.std.proofs.Common.{Result, Ok, Err, IfOk}
 use Rattle.std.specs.Prelude.{IsTrue, OnOk}
 use Rattle.sm_theory.specs.declared.line.CertLine.{CertLine}
+use Rattle.sm_theory.specs.Named.{is_closing, facts_added, is_split}
 use Rattle.sm_proof.specs.declared.line.Line.{Line}
 use Rattle.sm_proof.specs.declared.line.Line.TheVariants as lines
 use Rattle.sm_proof.specs.Lines.{NumberedLine, ProofLine, Cert, line_of}
-use Rattle.sm_proof.specs.Passing.{is_split}
-use Rattle.sm_prune.specs.UsedLines.{IsCertUsed, IsUsedBy, closes_branch, facts_made, is_fact_named, is_one_named, lines_behind}
+use Rattle.sm_prune.specs.UsedLines.{IsCertUsed, IsUsedBy, is_fact_named, is_one_named, lines_behind}
 use Rattle.sm_used.proofs.BranchLemmas.{none_known, split_open}
 use Rattle.sm_used.specs.Counted.{AreUsed, IsLineUsed, line_in}
 use Rattle.sm_used.specs.Names.{GoesOnce, Know}
 use Rattle.sm_used.specs.declared.counting.Counted.{Counted}
 use Rattle.sm_used.specs.declared.names.Names.{Names}
 
-pub closing_used : (facts : ℕ) (l : NumberedLine) (lines : List ProofLine) → closes_branch l ≡ true → IsCertUsed facts l lines
-closing_used facts l lines closes = subst (λ (b : Bool). IsUsedBy b (is_split l) (facts_made l) facts lines) (sym closes) tt
+pub closing_used : (facts : ℕ) (l : NumberedLine) (lines : List ProofLine) → is_closing l ≡ true → IsCertUsed facts l lines
+closing_used facts l lines closes = subst (λ (b : Bool). IsUsedBy b (is_split l) (facts_added l) facts lines) (sym closes) tt
 
 pub split_used : (facts : ℕ) (l : NumberedLine) (lines : List ProofLine) → is_split l ≡ true →
     IsTrue (is_fact_named lines facts) × IsTrue (is_fact_named (lines_behind 1 lines) facts) → IsCertUsed facts l lines
 split_used facts l lines splits named =
-    subst (λ (b : Bool). IsUsedBy b (is_split l) (facts_made l) facts lines) (sym (split_open l splits))
-    (subst (λ (b : Bool). IsUsedBy false b (facts_made l) facts lines) (sym splits) named)
+    subst (λ (b : Bool). IsUsedBy b (is_split l) (facts_added l) facts lines) (sym (split_open l splits))
+    (subst (λ (b : Bool). IsUsedBy false b (facts_added l) facts lines) (sym splits) named)
 
-pub plain_used : (facts k : ℕ) (l : NumberedLine) (lines : List ProofLine) → closes_branch l ≡ false → is_split l ≡ false →
-    facts_made l ≡ k → IsTrue (is_one_named lines k facts) → IsCertUsed facts l lines
+pub plain_used : (facts k : ℕ) (l : NumberedLine) (lines : List ProofLine) → is_closing l ≡ false → is_split l ≡ false →
+    facts_added l ≡ k → IsTrue (is_one_named lines k facts) → IsCertUsed facts l lines
 plain_used facts k l lines opens one made named =
-    subst (λ (b : Bool). IsUsedBy b (is_split l) (facts_made l) facts lines) (sym opens)
-    (subst (λ (b : Bool). IsUsedBy false b (facts_made l) facts lines) (sym one)
+    subst (λ (b : Bool). IsUsedBy b (is_split l) (facts_added l) facts lines) (sym opens)
+    (subst (λ (b : Bool). IsUsedBy false b (facts_added l) facts lines) (sym one)
     (subst (λ (m : ℕ). IsTrue (is_one_named lines m facts)) (sym made) named))
 
 -- ---- from the last line to the first
@@ -71,7 +71,7 @@ both_told A (Err e) a p f = tt
 
 -- behind a line that goes on once
 pub known_behind : {T E : Type 0} (r : Result T E) (branches : List Names) (l : NumberedLine) (lines : List ProofLine) {line : ProofLine} →
-    line ≡ Cert l → closes_branch l ≡ false → is_split l ≡ false → (GoesOnce line → OnOk r (Know branches (line ∷ lines))) →
+    line ≡ Cert l → is_closing l ≡ false → is_split l ≡ false → (GoesOnce line → OnOk r (Know branches (line ∷ lines))) →
     OnOk r (Know branches (Cert l ∷ lines))
 known_behind r branches l lines is opens one know =
     subst (λ (k : ProofLine). OnOk r (Know branches (k ∷ lines))) is (know (subst GoesOnce (sym is) (opens, one)))

@@ -1,9 +1,9 @@
 -- Private: the facts that lines name, branch by branch.
 use Rattle.std.specs.Prelude.{◌≡◌, ℕ, zero, suc, Bool, false, ◌||◌, nat_eq, List, [], ◌∷◌, reverse}
 use Rattle.std.specs.List.{list_any}
+use Rattle.sm_theory.specs.Named.{is_closing, is_split}
 use Rattle.sm_proof.specs.Lines.{ProofLine, Header, Term, Form, Node, Cert}
-use Rattle.sm_proof.specs.Passing.{is_split}
-use Rattle.sm_prune.specs.UsedLines.{closes_branch, is_fact_named, lines_behind}
+use Rattle.sm_prune.specs.UsedLines.{is_fact_named, lines_behind}
 use Rattle.sm_used.specs.declared.names.Names.{Names}
 
 -- whether a number is among names
@@ -31,4 +31,4 @@ GoesOnce (Header version) = Unit {0}
 GoesOnce (Term t) = Unit {0}
 GoesOnce (Form f) = Unit {0}
 GoesOnce (Node n) = Unit {0}
-GoesOnce (Cert l) = (closes_branch l ≡ false) × (is_split l ≡ false)
+GoesOnce (Cert l) = (is_closing l ≡ false) × (is_split l ≡ false)

@@ -1,9 +1,9 @@
 // The facts that lines name.
 ghost use Rattle.std.specs.Prelude.{◌≡◌, ℕ, ◌||◌, Bool, false, true, nat_eq, List, IfOk, OnOk};
 ghost use Rattle.std.specs.List.{list_any};
+ghost use Rattle.sm_theory.specs.Named.{facts_named, reads_all};
 ghost use Rattle.sm_proof.specs.Lines.{line_of, numbered_line};
-ghost use Rattle.sm_prune.specs.UsedLines.{facts_of, line_names_fact, term_names_fact};
-ghost use Rattle.sm_proof.specs.Versions.{is_exact_step};
+ghost use Rattle.sm_prune.specs.UsedLines.{line_names_fact, term_names_fact};
 ghost use Rattle.sm_used.specs.Names.{is_in, NamesMore};
 
 use indexmap::IndexSet;
@@ -70,8 +70,8 @@ fn add_all(names: &mut Names)
 // Puts the facts that a line of a certificate names to names.
 fn add_cert(names: &mut Names, line: &CertLine) -> Result<(), AllocError>
     ensures { OnOk result (NamesMore
-        (λ n. is_exact_step (numbered_line line.now)
-        || list_any (nat_eq n) (facts_of (numbered_line line.now))) names.old names.new) }
+        (λ n. reads_all (numbered_line line.now)
+        || list_any (nat_eq n) (facts_named (numbered_line line.now))) names.old names.new) }
 {
     match line {
         CertLine::Both(n)

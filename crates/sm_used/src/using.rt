@@ -1,9 +1,9 @@
 // Which lines are used, from the last to the first.
 ghost use Rattle.std.specs.Prelude.{◌≡◌, ℕ, suc, true, if◌then◌else◌, ◌∷◌, List, IfOk, IsTrue};
 ghost use Rattle.std.specs.Prelude.{OnOk, reverse};
+ghost use Rattle.sm_theory.specs.Named.{is_closing, facts_added, is_split};
 ghost use Rattle.sm_proof.specs.Lines.{NumberedLine, ProofLine, Cert, line_of, numbered_line};
-ghost use Rattle.sm_proof.specs.Passing.{is_split};
-ghost use Rattle.sm_prune.specs.UsedLines.{IsCertUsed, closes_branch, facts_made, is_fact_named};
+ghost use Rattle.sm_prune.specs.UsedLines.{IsCertUsed, is_fact_named};
 ghost use Rattle.sm_prune.specs.UsedLines.{is_one_named, lines_behind};
 ghost use Rattle.sm_used.specs.Counted.{AreUsed, IsLineUsed, line_in};
 ghost use Rattle.sm_used.specs.Names.{is_in, GoesOnce, Know, known};
@@ -16,7 +16,7 @@ use std::alloc::{AllocError, Global};
 
 // Whether a line closes its branch.
 fn closes_branch(line: &CertLine) -> bool
-    ensures { result ≡ closes_branch (numbered_line line.now) }
+    ensures { result ≡ is_closing (numbered_line line.now) }
 {
     match line {
         CertLine::Close(_) | CertLine::Clash(_, _) => true,
@@ -36,7 +36,7 @@ fn splits_branch(line: &CertLine) -> bool
 
 // Whether it adds two facts.
 fn adds_two(line: &CertLine) -> bool
-    ensures { facts_made (numbered_line line.now) ≡ (if result then 2 else 1) }
+    ensures { facts_added (numbered_line line.now) ≡ (if result then 2 else 1) }
 {
     match line {
         CertLine::Both(_) => true,

@@ -12,11 +12,12 @@ use Rattle.sm_theory.specs.Facts.{BranchFact}
 use Rattle.sm_theory.specs.Lines.{CertificateLine}
 use Rattle.sm_theory.specs.Views.{line_in}
 use Rattle.sm_theory.specs.Ways.{Ways, adds, ways}
+use Rattle.sm_theory.specs.Named.{is_split}
 use Rattle.sm_cert.specs.Certificates.{Certificate, Next, Closed, Split, lines_in, splits_above, in_one_way, in_no_way, in_two_ways, first_bad}
 use Rattle.sm_cert.specs.Certificates.{bad_line, TooManySplits, Closes}
 use Rattle.sm_plan.specs.Limits.{is_shallow}
 use Rattle.sm_proof.specs.Lines.{Cert}
-use Rattle.sm_proof.specs.Passing.{Pending, Branch, Progress, is_split, taken}
+use Rattle.sm_proof.specs.Passing.{Pending, Branch, Progress, taken}
 use Rattle.sm_write.specs.Stepped.{IsGood}
 use Rattle.sm_write.specs.Written.{Names, AreNames, written, IsLineNamed}
 use Rattle.sm_write.proofs.FactsThere.{facts_there, one_no_split, none_no_split}

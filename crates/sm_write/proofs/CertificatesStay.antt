@@ -1,12 +1,10 @@
 -- What certificates stand for stays while a table widens.
-use Rattle.std.proofs.Common.{◌≡◌, List, [], ◌∷◌, ◌++◌, length, refl, ap, sym, subst, ◌∙◌, arith}
+use Rattle.std.proofs.Common.{◌≡◌, ◌<◌, ℕ, List, [], ◌∷◌, ◌++◌, length, refl, ap, sym, subst, ◌∙◌, arith}
 use Rattle.sm_term.specs.TableLaws.{ExtendsTable}
-use Rattle.sm_term.specs.Tables.{TableValue, trees_in}
+use Rattle.sm_term.specs.Tables.{TableValue, trees_in, tree_at}
 use Rattle.sm_theory.specs.declared.line.CertLine.{CertLine}
-use Rattle.sm_theory.specs.declared.line.CertLine.TheVariants as cert
-use Rattle.sm_theory.specs.Lines.{Cases, Refl}
-use Rattle.sm_theory.specs.Lines.{Cong, Same, Apart, Hit, Miss, Elim}
-use Rattle.sm_theory.specs.Views.{line_in, IsLineWithin}
+use Rattle.sm_theory.specs.Views.{line_in, IsLineWithin, numbered_line}
+use Rattle.sm_theory.proofs.LinesOver.{with_same, each_more}
 use Rattle.sm_cert.specs.declared.tree.CertEnd.{CertEnd, CertEnd-F, roll-CertEnd, map-CertEnd, fold-roll-CertEnd}
 use Rattle.sm_cert.specs.declared.tree.CertEnd.TheOpen as layer
 use Rattle.sm_cert.specs.declared.tree.CertTree.{CertTree, CertTree-F, roll-CertTree, map-CertTree, fold-roll-CertTree, ind-CertTree}
@@ -18,25 +16,10 @@ use Rattle.sm_plan.proofs.TablesWiden.{longer, tree_stays}
 module _ (v w : TableValue) (wider : ExtendsTable v w) where
   -- a line
   pub line_stays : (l : CertLine) → IsLineWithin (length (trees_in v)) l → line_in (trees_in w) l ≡ line_in (trees_in v) l
-  line_stays (cert.Both n) h = refl
-  line_stays (cert.Either n) h = refl
-  line_stays (cert.Cases t u) h = λ i. Cases (tree_stays v w wider t.0 h.0 i) (tree_stays v w wider u.0 h.1 i)
-  line_stays (cert.Order n) h = refl
-  line_stays (cert.Refl t) h = λ i. Refl (tree_stays v w wider t.0 h i)
-  line_stays (cert.Sym n) h = refl
-  line_stays (cert.Trans m n) h = refl
-  line_stays (cert.Subst m n) h = refl
-  line_stays (cert.Cong t u ns) h = λ i. Cong (tree_stays v w wider t.0 h.0 i) (tree_stays v w wider u.0 h.1 i) ns.list.items
-  line_stays (cert.Same t u) h = λ i. Same (tree_stays v w wider t.0 h.0 i) (tree_stays v w wider u.0 h.1 i)
-  line_stays (cert.Apart t u) h = λ i. Apart (tree_stays v w wider t.0 h.0 i) (tree_stays v w wider u.0 h.1 i)
-  line_stays (cert.Hit t n) h = λ i. Hit (tree_stays v w wider t.0 h i) n
-  line_stays (cert.Miss t u n) h = λ i. Miss (tree_stays v w wider t.0 h.0 i) (tree_stays v w wider u.0 h.1 i) n
-  line_stays (cert.Lin n) h = refl
-  line_stays (cert.Elim m n t) h = λ i. Elim m n (tree_stays v w wider t.0 h i)
-  line_stays (cert.Tight n) h = refl
-  line_stays (cert.Exact n) h = refl
-  line_stays (cert.Close n) h = refl
-  line_stays (cert.Clash m n) h = refl
+  line_stays l h =
+      with_same (tree_at (trees_in w)) (tree_at (trees_in v)) (numbered_line l)
+      (each_more (λ (n : ℕ). n < length (trees_in v)) (λ (n : ℕ). tree_at (trees_in w) n ≡ tree_at (trees_in v) n) (numbered_line l)
+      (tree_stays v w wider) h)
 
   -- lines before a certificate
   pub lines_stay : (ls : List CertLine) (c : Certificate) → AreLinesWithin (length (trees_in v)) ls →

@@ -19,7 +19,7 @@ use Rattle.sm_theory.specs.Facts.{BranchFact}
 use Rattle.sm_theory.specs.Lines.{CertificateLine, Both, Either, Cases, Order, Refl, Sym, Trans, Subst, Cong, Same, Apart, Hit, Miss, Lin}
 use Rattle.sm_theory.specs.Lines.{Elim, Tight, Exact, Close, Clash, followed, formula_in, form_in, formula_at, form_at, Sides, equal_sides}
 use Rattle.sm_theory.specs.Lines.{unequal_sides, equation_at, contrary_at}
-use Rattle.sm_theory.specs.Named.{facts_named}
+use Rattle.sm_theory.specs.Named.{facts_named, is_split}
 use Rattle.sm_theory.specs.Ways.{Ways, adding, splitting, closing_if, both_parts, either_part, ordered, adds, ways}
 use Rattle.sm_proof.specs.Named.{are_there}
 
@@ -212,28 +212,6 @@ steps_short sorts facts (Exact n) to e =
     omega (arith, leb-true n 1000000 few.0)
 steps_short sorts facts line to e = tt
 
--- whether a line splits a branch, by its kind alone
-abbrev pub line_splits : CertificateLine → Bool
-line_splits (Both n) = false
-line_splits (Either n) = true
-line_splits (Cases t u) = true
-line_splits (Order n) = true
-line_splits (Refl t) = false
-line_splits (Sym n) = false
-line_splits (Trans m n) = false
-line_splits (Subst m n) = false
-line_splits (Cong t u ns) = false
-line_splits (Same t u) = false
-line_splits (Apart t u) = false
-line_splits (Hit t n) = false
-line_splits (Miss t u n) = false
-line_splits (Lin n) = false
-line_splits (Elim m n t) = false
-line_splits (Tight n) = false
-line_splits (Exact n) = false
-line_splits (Close n) = false
-line_splits (Clash m n) = false
-
 -- two ways
 abbrev AreTwo : List (List BranchFact) → Type 0
 AreTwo [] = ⊥
@@ -259,7 +237,7 @@ tested_two : (test : Bool) (p q : Assertion) (to : List (List BranchFact)) → (
 tested_two true p q to e = splitting_two p q to e
 tested_two false p q to e = absurd cc
 
-split_two : (sorts : Sorts) (facts : List BranchFact) (line : CertificateLine) (to : List (List BranchFact)) → line_splits line ≡ true →
+split_two : (sorts : Sorts) (facts : List BranchFact) (line : CertificateLine) (to : List (List BranchFact)) → is_split line ≡ true →
     ways sorts facts line ≡ Some to → AreTwo to
 split_two sorts facts (Either n) to s e =
     let a = followed_from (formula_at facts n) either_part to e in
@@ -288,17 +266,17 @@ split_two sorts facts (Clash m n) to s e = absurd cc
 
 -- a line that leaves one way, or none, is none that splits
 pub one_no_split : (sorts : Sorts) (facts : List BranchFact) (line : CertificateLine) (way : List BranchFact) →
-    ways sorts facts line ≡ Some (way ∷ []) → line_splits line ≡ false
-one_no_split sorts facts line way e = of (line_splits line) refl
+    ways sorts facts line ≡ Some (way ∷ []) → is_split line ≡ false
+one_no_split sorts facts line way e = of (is_split line) refl
   where
-    of : (b : Bool) → line_splits line ≡ b → b ≡ false
+    of : (b : Bool) → is_split line ≡ b → b ≡ false
     of true s = absurd (split_two sorts facts line (way ∷ []) s e)
     of false s = refl
 
 pub none_no_split : (sorts : Sorts) (facts : List BranchFact) (line : CertificateLine) → ways sorts facts line ≡ Some [] →
-    line_splits line ≡ false
-none_no_split sorts facts line e = of (line_splits line) refl
+    is_split line ≡ false
+none_no_split sorts facts line e = of (is_split line) refl
   where
-    of : (b : Bool) → line_splits line ≡ b → b ≡ false
+    of : (b : Bool) → is_split line ≡ b → b ≡ false
     of true s = absurd (split_two sorts facts line [] s e)
     of false s = refl

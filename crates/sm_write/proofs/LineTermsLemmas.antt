@@ -1,102 +1,67 @@
 -- The terms of a line, one by one.
-use Rattle.std.proofs.Common.{◌≡◌, ℕ, ◌<◌, Option, Some, None, List, IfSome}
+use Rattle.std.proofs.Common.{◌≡◌, ℕ, Option, Some, None, List, IfSome}
 use Rattle.sm_term.specs.declared.term.TermId.{TermId}
 use Rattle.sm_term.specs.Tables.{tree_at}
 use Rattle.sm_term.specs.Terms.{Tree}
 use Rattle.sm_theory.specs.declared.line.CertLine.{CertLine}
 use Rattle.sm_theory.specs.declared.line.CertLine.TheVariants as cert
 use Rattle.sm_theory.specs.Named.{EachNamed}
-use Rattle.sm_theory.specs.Views.{line_in, IsLineWithin}
+use Rattle.sm_theory.specs.Views.{line_in, numbered_line}
+use Rattle.sm_theory.proofs.LinesOver.{each_back}
 use Rattle.sm_write.specs.LineTerms.{first_term, second_term}
 use Rattle.sm_write.specs.Written.{Names, IsNamed, IsLineNamed}
 
--- the terms of a line are in the table
-pub first_within : (count : ℕ) (l : CertLine) → IsLineWithin count l → IfSome (first_term l) (λ (t : TermId). t.0 < count)
-first_within count (cert.Both n) h = tt
-first_within count (cert.Either n) h = tt
-first_within count (cert.Cases t u) h = h.0
-first_within count (cert.Order n) h = tt
-first_within count (cert.Refl t) h = h
-first_within count (cert.Sym n) h = tt
-first_within count (cert.Trans m n) h = tt
-first_within count (cert.Subst m n) h = tt
-first_within count (cert.Cong t u ns) h = h.0
-first_within count (cert.Same t u) h = h.0
-first_within count (cert.Apart t u) h = h.0
-first_within count (cert.Hit t n) h = h
-first_within count (cert.Miss t u n) h = h.0
-first_within count (cert.Lin n) h = tt
-first_within count (cert.Elim m n t) h = h
-first_within count (cert.Tight n) h = tt
-first_within count (cert.Exact n) h = tt
-first_within count (cert.Close n) h = tt
-first_within count (cert.Clash m n) h = tt
+-- what is so of each number that a line names
+pub first_named : (P : ℕ → Type 0) (l : CertLine) → EachNamed P (numbered_line l) → IfSome (first_term l) (λ (t : TermId). P t.0)
+first_named P (cert.Both n) h = tt
+first_named P (cert.Either n) h = tt
+first_named P (cert.Cases t u) h = h.0
+first_named P (cert.Order n) h = tt
+first_named P (cert.Refl t) h = h
+first_named P (cert.Sym n) h = tt
+first_named P (cert.Trans m n) h = tt
+first_named P (cert.Subst m n) h = tt
+first_named P (cert.Cong t u ns) h = h.0
+first_named P (cert.Same t u) h = h.0
+first_named P (cert.Apart t u) h = h.0
+first_named P (cert.Hit t n) h = h
+first_named P (cert.Miss t u n) h = h.0
+first_named P (cert.Lin n) h = tt
+first_named P (cert.Elim m n t) h = h
+first_named P (cert.Tight n) h = tt
+first_named P (cert.Exact n) h = tt
+first_named P (cert.Close n) h = tt
+first_named P (cert.Clash m n) h = tt
 
-pub second_within : (count : ℕ) (l : CertLine) → IsLineWithin count l → IfSome (second_term l) (λ (t : TermId). t.0 < count)
-second_within count (cert.Both n) h = tt
-second_within count (cert.Either n) h = tt
-second_within count (cert.Cases t u) h = h.1
-second_within count (cert.Order n) h = tt
-second_within count (cert.Refl t) h = tt
-second_within count (cert.Sym n) h = tt
-second_within count (cert.Trans m n) h = tt
-second_within count (cert.Subst m n) h = tt
-second_within count (cert.Cong t u ns) h = h.1
-second_within count (cert.Same t u) h = h.1
-second_within count (cert.Apart t u) h = h.1
-second_within count (cert.Hit t n) h = tt
-second_within count (cert.Miss t u n) h = h.1
-second_within count (cert.Lin n) h = tt
-second_within count (cert.Elim m n t) h = tt
-second_within count (cert.Tight n) h = tt
-second_within count (cert.Exact n) h = tt
-second_within count (cert.Close n) h = tt
-second_within count (cert.Clash m n) h = tt
+pub second_named : (P : ℕ → Type 0) (l : CertLine) → EachNamed P (numbered_line l) → IfSome (second_term l) (λ (t : TermId). P t.0)
+second_named P (cert.Both n) h = tt
+second_named P (cert.Either n) h = tt
+second_named P (cert.Cases t u) h = h.1
+second_named P (cert.Order n) h = tt
+second_named P (cert.Refl t) h = tt
+second_named P (cert.Sym n) h = tt
+second_named P (cert.Trans m n) h = tt
+second_named P (cert.Subst m n) h = tt
+second_named P (cert.Cong t u ns) h = h.1
+second_named P (cert.Same t u) h = h.1
+second_named P (cert.Apart t u) h = h.1
+second_named P (cert.Hit t n) h = tt
+second_named P (cert.Miss t u n) h = h.1
+second_named P (cert.Lin n) h = tt
+second_named P (cert.Elim m n t) h = tt
+second_named P (cert.Tight n) h = tt
+second_named P (cert.Exact n) h = tt
+second_named P (cert.Close n) h = tt
+second_named P (cert.Clash m n) h = tt
 
--- what is so of each
+-- what is so of each term
 pub first_each : (P : Tree → Type 0) (trees : List Tree) (l : CertLine) → EachNamed P (line_in trees l) →
     IfSome (first_term l) (λ (t : TermId). P (tree_at trees t.0))
-first_each P trees (cert.Both n) h = tt
-first_each P trees (cert.Either n) h = tt
-first_each P trees (cert.Cases t u) h = h.0
-first_each P trees (cert.Order n) h = tt
-first_each P trees (cert.Refl t) h = h
-first_each P trees (cert.Sym n) h = tt
-first_each P trees (cert.Trans m n) h = tt
-first_each P trees (cert.Subst m n) h = tt
-first_each P trees (cert.Cong t u ns) h = h.0
-first_each P trees (cert.Same t u) h = h.0
-first_each P trees (cert.Apart t u) h = h.0
-first_each P trees (cert.Hit t n) h = h
-first_each P trees (cert.Miss t u n) h = h.0
-first_each P trees (cert.Lin n) h = tt
-first_each P trees (cert.Elim m n t) h = h
-first_each P trees (cert.Tight n) h = tt
-first_each P trees (cert.Exact n) h = tt
-first_each P trees (cert.Close n) h = tt
-first_each P trees (cert.Clash m n) h = tt
+first_each P trees l h = first_named (λ (n : ℕ). P (tree_at trees n)) l (each_back P (tree_at trees) (numbered_line l) h)
 
 pub second_each : (P : Tree → Type 0) (trees : List Tree) (l : CertLine) → EachNamed P (line_in trees l) →
     IfSome (second_term l) (λ (t : TermId). P (tree_at trees t.0))
-second_each P trees (cert.Both n) h = tt
-second_each P trees (cert.Either n) h = tt
-second_each P trees (cert.Cases t u) h = h.1
-second_each P trees (cert.Order n) h = tt
-second_each P trees (cert.Refl t) h = tt
-second_each P trees (cert.Sym n) h = tt
-second_each P trees (cert.Trans m n) h = tt
-second_each P trees (cert.Subst m n) h = tt
-second_each P trees (cert.Cong t u ns) h = h.1
-second_each P trees (cert.Same t u) h = h.1
-second_each P trees (cert.Apart t u) h = h.1
-second_each P trees (cert.Hit t n) h = tt
-second_each P trees (cert.Miss t u n) h = h.1
-second_each P trees (cert.Lin n) h = tt
-second_each P trees (cert.Elim m n t) h = tt
-second_each P trees (cert.Tight n) h = tt
-second_each P trees (cert.Exact n) h = tt
-second_each P trees (cert.Close n) h = tt
-second_each P trees (cert.Clash m n) h = tt
+second_each P trees l h = second_named (λ (n : ℕ). P (tree_at trees n)) l (each_back P (tree_at trees) (numbered_line l) h)
 
 -- where both are named, the line is
 pub line_named : (names : Names) (l : CertLine) → IfSome (first_term l) (IsNamed names) → IfSome (second_term l) (IsNamed names) →

@@ -11,7 +11,7 @@ use Rattle.sm_term.specs.Terms.{Tree}
 use Rattle.sm_theory.specs.Facts.{BranchFact}
 use Rattle.sm_theory.specs.Lines as cert
 use Rattle.sm_theory.specs.Lines.{CertificateLine}
-use Rattle.sm_theory.specs.Named.{EachNamed}
+use Rattle.sm_theory.proofs.LinesOver.{each_more}
 use Rattle.sm_cert.specs.Certificates.{Certificate, Next, Closed, Split}
 use Rattle.sm_cert.specs.NamedTerms.{EachTerm}
 use Rattle.sm_plan.specs.Limits.{is_shallow}
@@ -67,31 +67,10 @@ second_few : (above a b : ℕ) → above + max a b ≤ 1000 → above + b ≤ 10
 second_few above a b few = omega (arith, few)
 
 -- other terms that something is so of
-named_more : (P Q : Tree → Type 0) → ((t : Tree) → P t → Q t) → (l : CertificateLine) → EachNamed P l → EachNamed Q l
-named_more P Q more (cert.Both n) b = tt
-named_more P Q more (cert.Either n) b = tt
-named_more P Q more (cert.Cases t u) b = (more t b.0, more u b.1)
-named_more P Q more (cert.Order n) b = tt
-named_more P Q more (cert.Refl t) b = more t b
-named_more P Q more (cert.Sym n) b = tt
-named_more P Q more (cert.Trans m n) b = tt
-named_more P Q more (cert.Subst m n) b = tt
-named_more P Q more (cert.Cong t u ns) b = (more t b.0, more u b.1)
-named_more P Q more (cert.Same t u) b = (more t b.0, more u b.1)
-named_more P Q more (cert.Apart t u) b = (more t b.0, more u b.1)
-named_more P Q more (cert.Hit t n) b = more t b
-named_more P Q more (cert.Miss t u n) b = (more t b.0, more u b.1)
-named_more P Q more (cert.Lin n) b = tt
-named_more P Q more (cert.Elim m n t) b = more t b
-named_more P Q more (cert.Tight n) b = tt
-named_more P Q more (cert.Exact n) b = tt
-named_more P Q more (cert.Close n) b = tt
-named_more P Q more (cert.Clash m n) b = tt
-
 pub term_more : (P Q : Tree → Type 0) → ((t : Tree) → P t → Q t) → (c : Certificate) → EachTerm P c → EachTerm Q c
-term_more P Q more (Next l c) b = (named_more P Q more l b.0, term_more P Q more c b.1)
-term_more P Q more (Closed l) b = named_more P Q more l b
-term_more P Q more (Split l c d) b = (named_more P Q more l b.0, term_more P Q more c b.1, term_more P Q more d b.2)
+term_more P Q more (Next l c) b = (each_more P Q l more b.0, term_more P Q more c b.1)
+term_more P Q more (Closed l) b = each_more P Q l more b
+term_more P Q more (Split l c d) b = (each_more P Q l more b.0, term_more P Q more c b.1, term_more P Q more d b.2)
 
 pub kept_more : (P Q : Tree → Type 0) → ((t : Tree) → P t → Q t) → (node : Node) → EachKept P node → EachKept Q node
 kept_more P Q more (Step c) b = tt

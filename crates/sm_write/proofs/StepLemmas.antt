@@ -8,6 +8,7 @@ use Rattle.sm_term.specs.Terms.{Tree}
 use Rattle.sm_theory.specs.Facts.{BranchFact}
 use Rattle.sm_theory.specs.Lines.{CertificateLine}
 use Rattle.sm_theory.specs.Ways.{ways}
+use Rattle.sm_theory.specs.Named.{is_split}
 use Rattle.sm_plan.specs.Limits.{is_shallow}
 use Rattle.sm_plan.specs.NodeLists.{above_opened}
 use Rattle.sm_plan.specs.Nodes as plan
@@ -20,7 +21,7 @@ use Rattle.sm_proof.specs.declared.word.Word.{Word}
 use Rattle.sm_proof.specs.declared.word.Word.TheVariants.{BadNumber, Deep, First}
 use Rattle.sm_proof.specs.Lines.{NumberedLine, Term, Form, Node, Cert}
 use Rattle.sm_proof.specs.Named.{found_or, tested_or, and_then, named_line, named_node, node_head, line_head}
-use Rattle.sm_proof.specs.Passing.{Pending, Due, Branch, Progress, opened_before, branches_before, is_split, term_made, form_made, taken_at}
+use Rattle.sm_proof.specs.Passing.{Pending, Due, Branch, Progress, opened_before, branches_before, term_made, form_made, taken_at}
 use Rattle.sm_proof.specs.Passing.{after_node, after_line, taken}
 
 -- a line that makes a term

@@ -1,24 +1,25 @@
 -- A line of a certificate as it is written stands for the line, and is read back.
-use Rattle.std.proofs.Common.{◌≡◌, ℕ, ◌<◌, ◌^◌, Bool, true, if◌then◌else◌, Option, Some, None, slice_get}
-use Rattle.std.proofs.Common.{List, [], ◌∷◌, refl, ap, ◌∙◌, arith}
+use Rattle.std.proofs.Common.{◌≡◌, ℕ, ◌<◌, ◌^◌, true, Option, Some, slice_get}
+use Rattle.std.proofs.Common.{List, [], ◌∷◌, length, sym, ap, ◌∙◌, arith}
+use Rattle.std.proofs.lemmas.Option.{get_or_from_slice_get}
 use Rattle.sm_term.specs.declared.term.TermId.{TermId}
 use Rattle.sm_term.specs.Tables.{tree_at}
 use Rattle.sm_term.specs.Terms.{Tree}
 use Rattle.sm_theory.specs.declared.line.CertLine.{CertLine}
 use Rattle.sm_theory.specs.declared.line.CertLine.TheVariants as line
 use Rattle.sm_theory.specs.Lines as cert
-use Rattle.sm_theory.specs.Lines.{CertificateLine, followed}
-use Rattle.sm_theory.specs.Named.{facts_named}
+use Rattle.sm_theory.specs.Lines.{CertificateLine}
+use Rattle.sm_theory.specs.Named.{facts_named, reads_all, is_split}
 use Rattle.sm_theory.specs.Views.{line_in}
+use Rattle.sm_theory.proofs.LinesOver.{facts_with, reads_with, splits_with, with_twice, with_same, each_with, each_more}
 use Rattle.sm_proof.specs.FieldRanges.{AreNumbers, numbers_of}
 use Rattle.sm_proof.specs.Lines.{Cert, numbered_line}
-use Rattle.sm_proof.specs.Named.{are_there, naming_facts, naming_term, named_line}
-use Rattle.sm_proof.specs.Passing.{is_split}
-use Rattle.sm_proof.specs.Versions.{is_exact_step}
+use Rattle.sm_proof.specs.Named.{are_there, named_line}
+use Rattle.sm_proof.proofs.NamedKept.{named_from}
 use Rattle.sm_prune.specs.Texts.{IsReadable}
 use Rattle.sm_write.specs.Writable.{AreShortNumbers, IsShortLine}
-use Rattle.sm_write.specs.Written.{Names, AreNames, number_or, file_number, IsNamed, written, IsLineNamed}
-use Rattle.sm_write.proofs.FactsThere.{get_below, line_splits, AreStepsShort}
+use Rattle.sm_write.specs.Written.{Names, AreNames, number_or, number_at, file_number, IsNumbered, IsNamed, written, IsLineNamed}
+use Rattle.sm_write.proofs.FactsThere.{get_below, AreStepsShort}
 use Rattle.sm_write.proofs.SpellingLemmas.{cert_readable, short_cong}
 
 -- the number of a term leads to it
@@ -35,99 +36,32 @@ number_short trees names terms are t h =
     let few = are.few in
     omega (arith, below, few)
 
--- a term that is there
-term_there : (terms : List Tree) (k : ℕ) (t : Tree) (next : Tree → Option CertificateLine) → slice_get terms k ≡ Some t →
-    naming_term terms k next ≡ next t
-term_there terms k t next e = ap (λ (o : Option Tree). followed o next) e
-
--- facts that are there
-facts_are : (count : ℕ) (ns : List ℕ) (l : CertificateLine) → are_there count ns ≡ true → naming_facts count ns l ≡ Some l
-facts_are count ns l e = ap (λ (b : Bool). if b then Some l else None) e
-
 -- the written line stands for the line
 pub written_names : (trees : List Tree) (names : Names) (terms : List Tree) → AreNames trees names terms → (count : ℕ) (l : CertLine) →
     IsLineNamed names l → are_there count (facts_named (line_in trees l)) ≡ true →
     named_line terms count (written names l) ≡ Some (line_in trees l)
-written_names trees names terms are count (line.Both n) h e = facts_are count (n ∷ []) (cert.Both n) e
-written_names trees names terms are count (line.Either n) h e = facts_are count (n ∷ []) (cert.Either n) e
-written_names trees names terms are count (line.Cases t u) h e =
-    term_there terms (file_number names t) (tree_at trees t.0) _ (number_leads trees names terms are t h.0)
-    ∙ term_there terms (file_number names u) (tree_at trees u.0) _ (number_leads trees names terms are u h.1)
-written_names trees names terms are count (line.Order n) h e = facts_are count (n ∷ []) (cert.Order n) e
-written_names trees names terms are count (line.Refl t) h e =
-    term_there terms (file_number names t) (tree_at trees t.0) _ (number_leads trees names terms are t h)
-written_names trees names terms are count (line.Sym n) h e = facts_are count (n ∷ []) (cert.Sym n) e
-written_names trees names terms are count (line.Trans m n) h e = facts_are count (m ∷ n ∷ []) (cert.Trans m n) e
-written_names trees names terms are count (line.Subst m n) h e = facts_are count (m ∷ n ∷ []) (cert.Subst m n) e
-written_names trees names terms are count (line.Cong t u ns) h e =
-    term_there terms (file_number names t) (tree_at trees t.0) _ (number_leads trees names terms are t h.0)
-    ∙ (term_there terms (file_number names u) (tree_at trees u.0) _ (number_leads trees names terms are u h.1)
-    ∙ facts_are count ns.list.items (cert.Cong (tree_at trees t.0) (tree_at trees u.0) ns.list.items) e)
-written_names trees names terms are count (line.Same t u) h e =
-    term_there terms (file_number names t) (tree_at trees t.0) _ (number_leads trees names terms are t h.0)
-    ∙ term_there terms (file_number names u) (tree_at trees u.0) _ (number_leads trees names terms are u h.1)
-written_names trees names terms are count (line.Apart t u) h e =
-    term_there terms (file_number names t) (tree_at trees t.0) _ (number_leads trees names terms are t h.0)
-    ∙ term_there terms (file_number names u) (tree_at trees u.0) _ (number_leads trees names terms are u h.1)
-written_names trees names terms are count (line.Hit t n) h e =
-    term_there terms (file_number names t) (tree_at trees t.0) _ (number_leads trees names terms are t h)
-    ∙ facts_are count (n ∷ []) (cert.Hit (tree_at trees t.0) n) e
-written_names trees names terms are count (line.Miss t u n) h e =
-    term_there terms (file_number names t) (tree_at trees t.0) _ (number_leads trees names terms are t h.0)
-    ∙ (term_there terms (file_number names u) (tree_at trees u.0) _ (number_leads trees names terms are u h.1)
-    ∙ facts_are count (n ∷ []) (cert.Miss (tree_at trees t.0) (tree_at trees u.0) n) e)
-written_names trees names terms are count (line.Lin n) h e = facts_are count (n ∷ []) (cert.Lin n) e
-written_names trees names terms are count (line.Elim m n t) h e =
-    term_there terms (file_number names t) (tree_at trees t.0) _ (number_leads trees names terms are t h)
-    ∙ facts_are count (m ∷ n ∷ []) (cert.Elim m n (tree_at trees t.0)) e
-written_names trees names terms are count (line.Tight n) h e = facts_are count (n ∷ []) (cert.Tight n) e
-written_names trees names terms are count (line.Exact n) h e = refl
-written_names trees names terms are count (line.Close n) h e = facts_are count (n ∷ []) (cert.Close n) e
-written_names trees names terms are count (line.Clash m n) h e = facts_are count (m ∷ n ∷ []) (cert.Clash m n) e
+written_names trees names terms are count l h e =
+    let line = numbered_line l in
+    let leads : (t : ℕ) → IsNumbered names t → slice_get terms (number_at names t) ≡ Some (tree_at trees t) =
+    λ t is. number_leads trees names terms are (record { 0 = t }) is in
+    named_from terms count (written names l)
+    (each_with (λ (n : ℕ). n < length terms) (number_at names) line
+    (each_more (IsNumbered names) (λ (t : ℕ). number_at names t < length terms) line
+    (λ (t : ℕ) (is : IsNumbered names t). get_below terms (number_at names t) (tree_at trees t) (leads t is)) h))
+    (ap (are_there count) (facts_with (number_at names) line ∙ sym (facts_with (tree_at trees) line)) ∙ e)
+    ∙ ap (λ (x : CertificateLine). Some x)
+    (with_twice (tree_at terms) (number_at names) line
+    ∙ with_same (λ (t : ℕ). tree_at terms (number_at names t)) (tree_at trees) line
+    (each_more (IsNumbered names) (λ (t : ℕ). tree_at terms (number_at names t) ≡ tree_at trees t) line
+    (λ (t : ℕ) (is : IsNumbered names t). get_or_from_slice_get terms (number_at names t) (tree_at trees t) _ (leads t is)) h))
 
 -- it splits where the line does
-pub written_splits : (trees : List Tree) (names : Names) (l : CertLine) → is_split (written names l) ≡ line_splits (line_in trees l)
-written_splits trees names (line.Both n) = refl
-written_splits trees names (line.Either n) = refl
-written_splits trees names (line.Cases t u) = refl
-written_splits trees names (line.Order n) = refl
-written_splits trees names (line.Refl t) = refl
-written_splits trees names (line.Sym n) = refl
-written_splits trees names (line.Trans m n) = refl
-written_splits trees names (line.Subst m n) = refl
-written_splits trees names (line.Cong t u ns) = refl
-written_splits trees names (line.Same t u) = refl
-written_splits trees names (line.Apart t u) = refl
-written_splits trees names (line.Hit t n) = refl
-written_splits trees names (line.Miss t u n) = refl
-written_splits trees names (line.Lin n) = refl
-written_splits trees names (line.Elim m n t) = refl
-written_splits trees names (line.Tight n) = refl
-written_splits trees names (line.Exact n) = refl
-written_splits trees names (line.Close n) = refl
-written_splits trees names (line.Clash m n) = refl
+pub written_splits : (trees : List Tree) (names : Names) (l : CertLine) → is_split (written names l) ≡ is_split (line_in trees l)
+written_splits trees names l = splits_with (number_at names) (numbered_line l) ∙ sym (splits_with (tree_at trees) (numbered_line l))
 
 -- it is a line `exact` where the line is one
-pub written_exact : (names : Names) (l : CertLine) → is_exact_step (written names l) ≡ is_exact_step (numbered_line l)
-written_exact names (line.Both n) = refl
-written_exact names (line.Either n) = refl
-written_exact names (line.Cases t u) = refl
-written_exact names (line.Order n) = refl
-written_exact names (line.Refl t) = refl
-written_exact names (line.Sym n) = refl
-written_exact names (line.Trans m n) = refl
-written_exact names (line.Subst m n) = refl
-written_exact names (line.Cong t u ns) = refl
-written_exact names (line.Same t u) = refl
-written_exact names (line.Apart t u) = refl
-written_exact names (line.Hit t n) = refl
-written_exact names (line.Miss t u n) = refl
-written_exact names (line.Lin n) = refl
-written_exact names (line.Elim m n t) = refl
-written_exact names (line.Tight n) = refl
-written_exact names (line.Exact n) = refl
-written_exact names (line.Close n) = refl
-written_exact names (line.Clash m n) = refl
+pub written_exact : (names : Names) (l : CertLine) → reads_all (written names l) ≡ reads_all (numbered_line l)
+written_exact names l = reads_with (number_at names) (numbered_line l)
 
 -- short numbers are numbers
 short_numbers : (ns : List ℕ) → AreShortNumbers ns → AreNumbers ns

@@ -8,6 +8,7 @@ use Rattle.sm_term.specs.Terms.{Tree}
 use Rattle.sm_theory.specs.declared.line.CertLine.{CertLine}
 use Rattle.sm_theory.specs.Facts.{BranchFact}
 use Rattle.sm_theory.specs.Ways.{adds}
+use Rattle.sm_theory.specs.Named.{reads_all}
 use Rattle.sm_cert.specs.Certificates.{Certificate, first_bad, splits_above}
 use Rattle.sm_cert.specs.NamedTerms.{EachTerm}
 use Rattle.sm_cert.specs.Views.{lines_before}
@@ -15,7 +16,6 @@ use Rattle.sm_plan.specs.States.{State}
 use Rattle.sm_proof.specs.Lines.{Cert}
 use Rattle.sm_proof.specs.Passing.{Pending, Branch, Progress}
 use Rattle.sm_proof.specs.Verdicts.{Subject}
-use Rattle.sm_proof.specs.Versions.{is_exact_step}
 use Rattle.sm_write.specs.Bytes.{line_text}
 use Rattle.sm_write.specs.Seen.{IsBuilt, Seen}
 use Rattle.sm_write.specs.Walked.{KeepsNames, Extends, IsSet}
@@ -31,7 +31,7 @@ pub record Wrote (s : Subject) (v : TableValue) (old new : WriterValue) (p : Pro
     pub extends : Extends s (trees_in v) old mid p
     pub named : IsLineNamed mid.names l
     pub text : new.text ≡ mid.text ++ line_text (Cert (written mid.names l))
-    pub exact : new.exact ≡ (is_exact_step (written mid.names l) || mid.exact)
+    pub exact : new.exact ≡ (reads_all (written mid.names l) || mid.exact)
     pub names : new.names ≡ mid.names
     pub terms : new.terms ≡ mid.terms
     pub forms : new.forms ≡ mid.forms

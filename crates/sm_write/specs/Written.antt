@@ -5,6 +5,8 @@ use Rattle.sm_term.specs.Tables.{tree_at}
 use Rattle.sm_term.specs.Terms.{Tree}
 use Rattle.sm_theory.specs.declared.line.CertLine.{CertLine}
 use Rattle.sm_theory.specs.declared.line.CertLine.TheVariants as cert
+use Rattle.sm_theory.specs.Named.{with_terms, EachNamed}
+use Rattle.sm_theory.specs.Views.{numbered_line}
 use Rattle.sm_proof.specs.Lines.{NumberedLine, Both, Either, Cases, Order, Refl, Sym, Trans, Subst}
 use Rattle.sm_proof.specs.Lines.{Cong, Same, Apart, Hit, Miss, Lin, Elim, Tight, Exact}
 use Rattle.sm_proof.specs.Lines.{Close, Clash}
@@ -25,8 +27,11 @@ abbrev pub number_or : Option TermId → ℕ
 number_or None = 0
 number_or (Some n) = n.0
 
+abbrev pub number_at : Names → ℕ → ℕ
+number_at names t = number_or (names t)
+
 abbrev pub file_number : Names → TermId → ℕ
-file_number names t = number_or (names t.0)
+file_number names t = number_at names t.0
 
 -- the number of a term in the file, if there is a term, 0 where it has none
 abbrev pub number_in : Names → Option TermId → ℕ
@@ -34,30 +39,15 @@ number_in names None = 0
 number_in names (Some t) = file_number names t
 
 -- a term has a number
+abbrev pub IsNumbered : Names → ℕ → Type 0
+IsNumbered names t = (n : TermId) × (names t ≡ Some n)
+
 abbrev pub IsNamed : Names → TermId → Type 0
-IsNamed names t = (n : TermId) × (names t.0 ≡ Some n)
+IsNamed names t = IsNumbered names t.0
 
 -- a line as it is written
 abbrev pub written : Names → CertLine → NumberedLine
-written names (cert.Both n) = Both n
-written names (cert.Either n) = Either n
-written names (cert.Cases t u) = Cases (file_number names t) (file_number names u)
-written names (cert.Order n) = Order n
-written names (cert.Refl t) = Refl (file_number names t)
-written names (cert.Sym n) = Sym n
-written names (cert.Trans m n) = Trans m n
-written names (cert.Subst m n) = Subst m n
-written names (cert.Cong t u ns) = Cong (file_number names t) (file_number names u) ns.list.items
-written names (cert.Same t u) = Same (file_number names t) (file_number names u)
-written names (cert.Apart t u) = Apart (file_number names t) (file_number names u)
-written names (cert.Hit t n) = Hit (file_number names t) n
-written names (cert.Miss t u n) = Miss (file_number names t) (file_number names u) n
-written names (cert.Lin n) = Lin n
-written names (cert.Elim m n t) = Elim m n (file_number names t)
-written names (cert.Tight n) = Tight n
-written names (cert.Exact n) = Exact n
-written names (cert.Close n) = Close n
-written names (cert.Clash m n) = Clash m n
+written names l = with_terms (number_at names) (numbered_line l)
 
 -- a line with these numbers for the first term that it names and for the second
 abbrev pub line_with : CertLine → ℕ → ℕ → NumberedLine
@@ -83,22 +73,4 @@ line_with (cert.Clash m n) t u = Clash m n
 
 -- each term that a line names has a number
 abbrev pub IsLineNamed : Names → CertLine → Type 0
-IsLineNamed names (cert.Both n) = Unit {0}
-IsLineNamed names (cert.Either n) = Unit {0}
-IsLineNamed names (cert.Cases t u) = IsNamed names t × IsNamed names u
-IsLineNamed names (cert.Order n) = Unit {0}
-IsLineNamed names (cert.Refl t) = IsNamed names t
-IsLineNamed names (cert.Sym n) = Unit {0}
-IsLineNamed names (cert.Trans m n) = Unit {0}
-IsLineNamed names (cert.Subst m n) = Unit {0}
-IsLineNamed names (cert.Cong t u ns) = IsNamed names t × IsNamed names u
-IsLineNamed names (cert.Same t u) = IsNamed names t × IsNamed names u
-IsLineNamed names (cert.Apart t u) = IsNamed names t × IsNamed names u
-IsLineNamed names (cert.Hit t n) = IsNamed names t
-IsLineNamed names (cert.Miss t u n) = IsNamed names t × IsNamed names u
-IsLineNamed names (cert.Lin n) = Unit {0}
-IsLineNamed names (cert.Elim m n t) = IsNamed names t
-IsLineNamed names (cert.Tight n) = Unit {0}
-IsLineNamed names (cert.Exact n) = Unit {0}
-IsLineNamed names (cert.Close n) = Unit {0}
-IsLineNamed names (cert.Clash m n) = Unit {0}
+IsLineNamed names l = EachNamed (IsNumbered names) (numbered_line l)

@@ -1,9 +1,9 @@
 // Lines of certificates.
 ghost use Rattle.std.specs.Prelude.{◌≡◌, ◌∷◌, ◌++◌, nat_eq, OnOk};
 ghost use Rattle.std.specs.HashMap.{get};
+ghost use Rattle.sm_theory.specs.Named.{reads_all};
 ghost use Rattle.sm_proof.specs.HeadWords.{head_word};
 ghost use Rattle.sm_proof.specs.Lines.{Cert, numbered_line};
-ghost use Rattle.sm_proof.specs.Versions.{is_exact_step};
 ghost use Rattle.sm_write.specs.Bytes.{line_text, one_word};
 ghost use Rattle.sm_write.specs.LineTerms.{first_term, second_term};
 ghost use Rattle.sm_write.specs.Written.{file_number, line_with, number_in, written};
@@ -40,7 +40,7 @@ pub(crate) fn second_term(line: &CertLine) -> Option<TermId>
 
 // Whether a line is a line `exact`.
 pub(crate) fn is_exact(line: &CertLine) -> bool
-    ensures { result ≡ is_exact_step (numbered_line line.now) }
+    ensures { result ≡ reads_all (numbered_line line.now) }
 {
     match line {
         CertLine::Exact(_) => true,

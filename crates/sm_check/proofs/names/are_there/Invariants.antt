@@ -1,7 +1,7 @@
--- The facts so far are there.
+-- The numbers so far are there.
 use Rattle.std.proofs.Common.{◌≡◌, drop}
 use Rattle.sm_proof.specs.Named.{are_there}
 use Rattle.sm_check.proofs.names.are_there.Given as goal
 
 abbrev pub invariant-loop-n : goal.invariant-loop-n
-invariant-loop-n l = are_there l.count l.facts ≡ are_there l.count (drop l.n-index l.facts)
+invariant-loop-n l = are_there l.count l.numbers ≡ are_there l.count (drop l.n-index l.numbers)

@@ -1,12 +1,12 @@
 -- The first term keeps its number while the second gets one.
-use Rattle.std.proofs.Common.{◌<◌, Option, length, sym, subst, IfSome}
+use Rattle.std.proofs.Common.{ℕ, ◌<◌, Option, length, sym, subst, IfSome}
 use Rattle.sm_term.specs.declared.term.TermId.{TermId}
 use Rattle.sm_term.specs.Tables.{trees_in, tree_at}
 use Rattle.sm_write.specs.LineTerms.{first_term}
 use Rattle.sm_write.specs.Seen.{IsBuilt, Seen}
 use Rattle.sm_write.specs.Values.{value_of}
 use Rattle.sm_write.specs.Written.{IsNamed}
-use Rattle.sm_write.proofs.LineTermsLemmas.{first_within, second_within, first_each, second_each, line_named, some_kept}
+use Rattle.sm_write.proofs.LineTermsLemmas.{first_named, second_named, first_each, second_each, line_named, some_kept}
 use Rattle.sm_write.proofs.WalkedLemmas.{extends_twice, set_later}
 use Rattle.sm_write.proofs.lines.name_line.Goals as goal
 
@@ -14,13 +14,13 @@ pub name_some-requires : goal.name_some-requires
 name_some-requires c =
     let count = length (trees_in c.args.table.now) in
     subst (λ (o : Option TermId). IfSome o (λ (t : TermId). t.0 < count)) (sym c.first_term.ensures)
-    (first_within count c.args.line.now c.requires)
+    (first_named (λ (n : ℕ). n < count) c.args.line.now c.requires)
 
 pub name_some-requires-2 : goal.name_some-requires-2
 name_some-requires-2 c =
     let count = length (trees_in c.args.table.now) in
     subst (λ (o : Option TermId). IfSome o (λ (t : TermId). t.0 < count)) (sym c.second_term.ensures)
-    (second_within count c.args.line.now c.requires)
+    (second_named (λ (n : ℕ). n < count) c.args.line.now c.requires)
 
 pub returns : goal.returns
 returns c s seen p set each =
