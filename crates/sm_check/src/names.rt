@@ -1,17 +1,17 @@
 // Lines of certificates with the terms that they name.
 ghost use Rattle.std.specs.Prelude.{◌≡◌, length, Some, IfOk, IfErr};
 ghost use Rattle.sm_term.specs.Tables.{trees_in, AreBefore};
-ghost use Rattle.sm_theory.specs.Named.{facts_named, terms_named, with_terms};
+ghost use Rattle.sm_theory.specs.Named.{facts_named, terms_named};
 ghost use Rattle.sm_theory.specs.Views.{line_in, IsLineWithin};
 ghost use Rattle.sm_proof.specs.Lines.{numbered_line};
 ghost use Rattle.sm_proof.specs.Named.{are_there, named_line, line_head};
-ghost use Rattle.sm_check.specs.LineKinds.{Misses, number_of};
+ghost use Rattle.sm_check.specs.LineKinds.{Misses};
 ghost use Rattle.sm_check.specs.Walks.{terms_in};
 
 use crate::fault::LineFault;
 use sm_proof::{Head, Word};
 use sm_term::{TermId, TermTable};
-use sm_theory::{CertLine, FactNumbers};
+use sm_theory::{CertLine, line_under};
 use std::alloc::{AllocError, Global};
 
 // A line over the terms of the table, at a branch of `count` facts, where its terms and facts are
@@ -32,7 +32,7 @@ pub(crate) fn named_line(
         Misses e (named_line (terms_in trees terms.now) count (numbered_line line.now))) }
 {
     if has_terms(terms.len() as u64, line) && has_facts(count, line) {
-        Ok(with_terms(alloc, terms, line)?)
+        Ok(line_under(alloc, line, terms)?)
     } else {
         Err(LineFault::Wrong {
             word: Word::BadNumber,
@@ -90,61 +90,6 @@ fn are_there(count: u64, numbers: &[u64]) -> bool
         }
     }
     true
-}
-
-// The line with the terms that lines made in place of the numbers of these lines.
-fn with_terms(alloc: Global, terms: &[TermId], line: &CertLine) -> Result<CertLine, AllocError>
-    ensures { IfOk result (λ l.
-        numbered_line l ≡ with_terms (number_of terms.now) (numbered_line line.now)) }
-{
-    match line {
-        CertLine::Both(n) => Ok(CertLine::Both(*n)),
-        CertLine::Either(n) => Ok(CertLine::Either(*n)),
-        CertLine::Cases(t, u) => {
-            let t = term_of(terms, *t);
-            Ok(CertLine::Cases(t, term_of(terms, *u)))
-        }
-        CertLine::Order(n) => Ok(CertLine::Order(*n)),
-        CertLine::Refl(t) => Ok(CertLine::Refl(term_of(terms, *t))),
-        CertLine::Sym(n) => Ok(CertLine::Sym(*n)),
-        CertLine::Trans(m, n) => Ok(CertLine::Trans(*m, *n)),
-        CertLine::Subst(m, n) => Ok(CertLine::Subst(*m, *n)),
-        CertLine::Cong(t, u, facts) => {
-            let list = Vec::from_slice(alloc, &facts.list)?;
-            let t = term_of(terms, *t);
-            let u = term_of(terms, *u);
-            Ok(CertLine::Cong(t, u, FactNumbers { list }))
-        }
-        CertLine::Same(t, u) => {
-            let t = term_of(terms, *t);
-            Ok(CertLine::Same(t, term_of(terms, *u)))
-        }
-        CertLine::Apart(t, u) => {
-            let t = term_of(terms, *t);
-            Ok(CertLine::Apart(t, term_of(terms, *u)))
-        }
-        CertLine::Hit(t, n) => Ok(CertLine::Hit(term_of(terms, *t), *n)),
-        CertLine::Miss(t, u, n) => {
-            let t = term_of(terms, *t);
-            Ok(CertLine::Miss(t, term_of(terms, *u), *n))
-        }
-        CertLine::Lin(n) => Ok(CertLine::Lin(*n)),
-        CertLine::Elim(m, n, t) => Ok(CertLine::Elim(*m, *n, term_of(terms, *t))),
-        CertLine::Tight(n) => Ok(CertLine::Tight(*n)),
-        CertLine::Exact(n) => Ok(CertLine::Exact(*n)),
-        CertLine::Close(n) => Ok(CertLine::Close(*n)),
-        CertLine::Clash(m, n) => Ok(CertLine::Clash(*m, *n)),
-    }
-}
-
-// The term that the line with a number made, the number itself where there is none.
-fn term_of(terms: &[TermId], n: TermId) -> TermId
-    ensures { result.0 ≡ number_of terms.now n.0 }
-{
-    match terms.get(n.0 as usize) {
-        Some(t) => *t,
-        None => n,
-    }
 }
 
 // The first word of a line.

@@ -23,10 +23,10 @@ use Rattle.sm_term.proofs.TablesLemmas.{grown-with_tree}
 use Rattle.sm_euf.specs.Arguments.{argument_numbers, trees_of}
 use Rattle.sm_euf.proofs.ArgumentsLemmas.{arguments_are, parts_before}
 use Rattle.sm_theory.specs.TermsOfFormulas.{is_among}
+use Rattle.sm_theory.specs.Views.{number_under}
 use Rattle.sm_terms.specs.Listing.{trees_at, numbers_of, AreBelow, AllAmong}
 use Rattle.sm_list.specs.Own.{AreBuilt, ArePlaced}
 use Rattle.sm_list.specs.Parts.{assertions_in, AreFormulasWithin}
-use Rattle.sm_list.specs.Renumber.{number_under}
 use Rattle.sm_terms.proofs.WithTermLemmas.{among_put_cases, put_new}
 use Rattle.sm_terms.proofs.ListingLemmas.{below_at, tree_of_place}
 use Rattle.sm_list.proofs.RenumberLemmas.{Stands, FormulaStands, FormulasStand}
@@ -82,16 +82,11 @@ row_stands sorts others codes there trees own numbers first second placed n h t 
 
 -- a number that is noted
 number_set : (numbers : List TermId) (k : ℕ) (id : TermId) → k < length numbers → number_under (slice_set numbers k id) k ≡ id.0
-number_set numbers k id h =
-    let many = length-map numbers (λ (t : TermId). t.0) in
-    ap (λ (ns : List ℕ). get_or ns k k) (map-set (λ (t : TermId). t.0) numbers k id)
-    ∙ get_or-set_same (numbers_of numbers) k id.0 k (omega arith)
+number_set numbers k id h = ap (λ (t : TermId). t.0) (get_or-set_same numbers k id (record { 0 = k }) h)
 
 number_other : (numbers : List TermId) (k n : ℕ) (id : TermId) → (n ≡ k → ⊥) →
     number_under (slice_set numbers k id) n ≡ number_under numbers n
-number_other numbers k n id other =
-    ap (λ (ns : List ℕ). get_or ns n n) (map-set (λ (t : TermId). t.0) numbers k id)
-    ∙ get_or-set_other (numbers_of numbers) k n id.0 n other
+number_other numbers k n id other = ap (λ (t : TermId). t.0) (get_or-set_other numbers k n id (record { 0 = n }) other)
 
 -- a term is put, and its number noted
 pub placed_put : (trees own : List Tree) → AreApart trees → (numbers more : List TermId) (k : ℕ) (id : TermId) (later : List Tree) →

@@ -12,21 +12,22 @@ use Rattle.sm_term.specs.Formulas.{NumberedFormula, Yes, No, Eq, Ne, Le, Lt, And
 use Rattle.sm_theory.specs.declared.line.CertLine.{CertLine}
 use Rattle.sm_theory.specs.Lines as told
 use Rattle.sm_theory.specs.Named.{with_terms, EachNamed}
-use Rattle.sm_theory.specs.Views.{line_in, numbered_line, IsLineWithin}
+use Rattle.sm_theory.specs.Views.{line_in, numbered_line, IsLineWithin, number_under}
 use Rattle.sm_theory.proofs.LinesOver.{with_twice, with_same, each_with, each_more}
 use Rattle.sm_cert.specs.Views.{AreLinesWithin}
 use Rattle.sm_cert.proofs.CheckLemmas.{within_parts}
 use Rattle.sm_terms.specs.Listing.{trees_at, numbers_of, AreBelow}
 use Rattle.sm_list.specs.Parts.{assertions_in, AreFormulasWithin}
-use Rattle.sm_list.specs.Renumber.{number_under, formula_under, IsLineUnder, AreLinesUnder}
+use Rattle.sm_list.specs.Renumber.{formula_under, IsLineUnder, AreLinesUnder}
 use Rattle.sm_list.specs.Renumbered.{AreTermsOf}
 use Rattle.sm_terms.proofs.ListingLemmas.{below_at, tree_of_place}
 
--- what stands at a place doesn't turn on what is said past the end
-other_default : (ns : List ℕ) (k d e : ℕ) → k < length ns → get_or ns k d ≡ get_or ns k e
-other_default [] k d e h = absurd (omega arith)
-other_default (n ∷ ns) zero d e h = refl
-other_default (n ∷ ns) (suc k) d e h = other_default ns k d e (omega arith)
+-- the number of the term at a place, whatever is said past the end
+pub at_number : (numbers : List TermId) (n : ℕ) (d : TermId) (e : ℕ) → n < length numbers →
+    (get_or numbers n d).0 ≡ get_or (numbers_of numbers) n e
+at_number [] n d e h = absurd (omega arith)
+at_number (t ∷ ts) zero d e h = refl
+at_number (t ∷ ts) (suc n) d e h = at_number ts n d e (omega arith)
 
 -- terms of a table are those of another under their numbers there
 pub record Stands (trees others : List Tree) (new : ℕ → ℕ) (n : ℕ) : Type 0 where
@@ -39,8 +40,9 @@ terms_stand trees others numbers are n h =
     let ns = numbers_of numbers in
     let long : length (trees_at others ns) ≡ length trees = ap length are.trees_are in
     let many : length (trees_at others ns) ≡ length ns = length-map ns (tree_at others) in
+    let each : length ns ≡ length numbers = length-map numbers (λ (t : TermId). t.0) in
     let inside : n < length ns = omega arith in
-    let default : get_or ns n n ≡ get_or ns n 0 = other_default ns n n 0 inside in
+    let default : number_under numbers n ≡ get_or ns n 0 = at_number numbers n (record { 0 = n }) 0 (omega arith) in
     record {
       there = subst (λ (k : ℕ). k < length others) (sym default) (below_at (length others) ns are.below n inside);
       same = ap (tree_at others) default ∙ tree_of_place others ns n (Lit (pos 0)) inside

@@ -20,13 +20,14 @@ use Rattle.sm_term.proofs.FormsLemmas.{assertion-more, form_kept}
 use Rattle.sm_term.proofs.SameTermsLemmas.{same_tree_is}
 use Rattle.sm_term.proofs.TreesLemmas.{tree_at-more}
 use Rattle.sm_theory.specs.TermsOfFormulas.{put, with_term, with_formula, with_formulas, is_among}
+use Rattle.sm_theory.specs.Views.{number_under}
 use Rattle.sm_list.specs.declared.shared.SharedTerms.{SharedTerms}
 use Rattle.sm_list.specs.Branches.{greatest_of, writes_on, put_if, read_before}
 use Rattle.sm_list.specs.Branches.{with_reads, with_all_reads, terms_of}
 use Rattle.sm_terms.specs.Listing.{trees_at, AreBelow, AllAmong, IsClosed}
 use Rattle.sm_list.specs.Own.{AreBuilt, ArePlaced}
 use Rattle.sm_list.specs.Parts.{assertions_in, AreFormulasWithin}
-use Rattle.sm_list.specs.Renumber.{number_under, formula_under}
+use Rattle.sm_list.specs.Renumber.{formula_under}
 use Rattle.sm_list.specs.Shared.{AreShared, with_those_before}
 use Rattle.sm_terms.proofs.WithTermLemmas.{AllOf, by_arguments, with_terms, with_term_is, put_there, put_new, all_kept, closed_put}
 use Rattle.sm_terms.proofs.WithTermLemmas.{among_with_terms, among-left, kept_with_term, among_with_term, closed_none}

@@ -5,8 +5,8 @@ use Rattle.sm_term.specs.Terms.{Tree}
 use Rattle.sm_term.specs.Tables.{tree_at}
 use Rattle.sm_term.specs.Heads.{arguments_of}
 use Rattle.sm_theory.specs.TermsOfFormulas.{is_among}
+use Rattle.sm_theory.specs.Views.{number_under}
 use Rattle.sm_terms.specs.Listing.{AllAmong}
-use Rattle.sm_list.specs.Renumber.{number_under}
 
 -- behind other terms, each term stands once and after its arguments
 abbrev pub AreBuilt : List Tree → List Tree → Type 0

@@ -1,19 +1,14 @@
 -- Private: terms, formulas and lines under other numbers: the new number of a term stands in a list
 -- at the place that the old one tells.
-use Rattle.std.specs.Prelude.{◌≡◌, ℕ, List, map, get_or, length}
+use Rattle.std.specs.Prelude.{◌≡◌, ℕ, List, map, length}
 use Rattle.sm_term.specs.declared.term.TermId.{TermId}
 use Rattle.sm_term.specs.Terms.{Tree}
 use Rattle.sm_term.specs.Formulas.{NumberedFormula, Yes, No, Eq, Ne, Le, Lt, And, Or}
 use Rattle.sm_theory.specs.declared.line.CertLine.{CertLine}
 use Rattle.sm_theory.specs.Named.{with_terms}
-use Rattle.sm_theory.specs.Views.{line_in, numbered_line}
+use Rattle.sm_theory.specs.Views.{line_in, numbered_line, number_under}
 use Rattle.sm_cert.specs.Views.{AreLinesWithin}
-use Rattle.sm_terms.specs.Listing.{numbers_of}
 use Rattle.sm_list.specs.Renumbered.{AreTermsOf}
-
--- the number at a number's place, the same number where there is none
-abbrev pub number_under : List TermId → ℕ → ℕ
-number_under numbers n = get_or (numbers_of numbers) n n
 
 -- a formula under other numbers
 abbrev pub formula_under : (ℕ → ℕ) → NumberedFormula → NumberedFormula

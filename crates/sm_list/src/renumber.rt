@@ -6,23 +6,15 @@ ghost use Rattle.sm_term.specs.RowLaws.{contents_of};
 ghost use Rattle.sm_term.specs.Moves.{moved_contents};
 ghost use Rattle.sm_term.specs.Terms.{Tree};
 ghost use Rattle.sm_term.specs.Formulas.{numbered, assertion_in, IsFormulaWithin};
+ghost use Rattle.sm_theory.specs.Views.{number_under};
 ghost use Rattle.sm_list.specs.Parts.{all_numbered};
-ghost use Rattle.sm_list.specs.Renumber.{number_under, formula_under};
+ghost use Rattle.sm_list.specs.Renumber.{formula_under};
 ghost use Rattle.sm_list.specs.Renumbered.{AreTermsOf};
 
 use sm_syntax::copy_outputs;
 use sm_term::{Formula, Term, TermId, Terms};
+use sm_theory::number_under;
 use std::alloc::{AllocError, Global};
-
-// The number that a term has in the list, its own where it has none.
-pub(crate) fn new_number(t: TermId, numbers: &[TermId]) -> TermId
-    ensures { result.0 ≡ number_under numbers.now t.0 }
-{
-    match numbers.get(t.0 as usize) {
-        Some(number) => *number,
-        None => t,
-    }
-}
 
 // A term under other numbers of its arguments.
 pub(crate) fn renumbered_term(
@@ -47,26 +39,26 @@ pub(crate) fn renumbered_term(
         }),
         Term::Cell => Ok(Term::Cell),
         Term::Read(a, i) => {
-            let a = new_number(*a, numbers);
-            Ok(Term::Read(a, new_number(*i, numbers)))
+            let a = number_under(*a, numbers);
+            Ok(Term::Read(a, number_under(*i, numbers)))
         }
         Term::Write(a, i, e) => {
-            let a = new_number(*a, numbers);
-            let i = new_number(*i, numbers);
-            Ok(Term::Write(a, i, new_number(*e, numbers)))
+            let a = number_under(*a, numbers);
+            let i = number_under(*i, numbers);
+            Ok(Term::Write(a, i, number_under(*e, numbers)))
         }
-        Term::Neg(t) => Ok(Term::Neg(new_number(*t, numbers))),
+        Term::Neg(t) => Ok(Term::Neg(number_under(*t, numbers))),
         Term::Add(t, u) => {
-            let t = new_number(*t, numbers);
-            Ok(Term::Add(t, new_number(*u, numbers)))
+            let t = number_under(*t, numbers);
+            Ok(Term::Add(t, number_under(*u, numbers)))
         }
         Term::Sub(t, u) => {
-            let t = new_number(*t, numbers);
-            Ok(Term::Sub(t, new_number(*u, numbers)))
+            let t = number_under(*t, numbers);
+            Ok(Term::Sub(t, number_under(*u, numbers)))
         }
         Term::Mul(t, u) => {
-            let t = new_number(*t, numbers);
-            Ok(Term::Mul(t, new_number(*u, numbers)))
+            let t = number_under(*t, numbers);
+            Ok(Term::Mul(t, number_under(*u, numbers)))
         }
         Term::Fun {
             body,
@@ -97,7 +89,7 @@ fn new_numbers(
 {
     let mut list = Vec::new(alloc);
     for t in terms {
-        list.push(new_number(*t, numbers))?;
+        list.push(number_under(*t, numbers))?;
     }
     Ok(list)
 }
@@ -130,20 +122,20 @@ pub(crate) fn renumbered_formula(
         Formula::Yes => Ok(Formula::Yes),
         Formula::No => Ok(Formula::No),
         Formula::Eq(t, u) => {
-            let t = new_number(*t, numbers);
-            Ok(Formula::Eq(t, new_number(*u, numbers)))
+            let t = number_under(*t, numbers);
+            Ok(Formula::Eq(t, number_under(*u, numbers)))
         }
         Formula::Ne(t, u) => {
-            let t = new_number(*t, numbers);
-            Ok(Formula::Ne(t, new_number(*u, numbers)))
+            let t = number_under(*t, numbers);
+            Ok(Formula::Ne(t, number_under(*u, numbers)))
         }
         Formula::Le(t, u) => {
-            let t = new_number(*t, numbers);
-            Ok(Formula::Le(t, new_number(*u, numbers)))
+            let t = number_under(*t, numbers);
+            Ok(Formula::Le(t, number_under(*u, numbers)))
         }
         Formula::Lt(t, u) => {
-            let t = new_number(*t, numbers);
-            Ok(Formula::Lt(t, new_number(*u, numbers)))
+            let t = number_under(*t, numbers);
+            Ok(Formula::Lt(t, number_under(*u, numbers)))
         }
         Formula::And(p, q) => {
             let p = boxed_formula(alloc, p, numbers)?;

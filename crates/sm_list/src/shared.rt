@@ -5,11 +5,11 @@ ghost use Rattle.sm_term.specs.Tables.{TableValue, trees_in, sorts_in, codes_in}
 ghost use Rattle.sm_term.specs.TableLaws.{AddsTerms};
 ghost use Rattle.sm_term.specs.Terms.{Tree};
 ghost use Rattle.sm_theory.specs.TermsOfFormulas.{with_formula};
+ghost use Rattle.sm_theory.specs.Views.{number_under};
 ghost use Rattle.sm_list.specs.Branches.{terms_of};
 ghost use Rattle.sm_terms.specs.Listing.{trees_at, AreBelow, IsClosed};
 ghost use Rattle.sm_list.specs.Own.{AreBuilt, ArePlaced};
 ghost use Rattle.sm_list.specs.Parts.{all_numbered, assertions_in, AreFormulasWithin};
-ghost use Rattle.sm_list.specs.Renumber.{number_under};
 ghost use Rattle.sm_list.specs.Shared.{AreShared, with_those_before};
 
 use crate::own::put_term;

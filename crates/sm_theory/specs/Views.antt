@@ -1,7 +1,8 @@
 -- Cited by public clauses: the lines and facts that the program's own stand for, by the trees of a
 -- table's numbers.
-use Rattle.std.specs.Prelude.{◌≡◌, ℕ, ◌<◌, List, [], ◌∷◌, length, Option, Some, None}
+use Rattle.std.specs.Prelude.{◌≡◌, ℕ, ◌<◌, List, [], ◌∷◌, length, get_or, Option, Some, None}
 use Rattle.sm_syntax.specs.text.Sorts.{Sorts}
+use Rattle.sm_term.specs.declared.term.TermId.{TermId}
 use Rattle.sm_term.specs.Terms.{Tree}
 use Rattle.sm_term.specs.Tables.{tree_at}
 use Rattle.sm_term.specs.Formulas.{numbered, assertion_in, IsFormulaWithin}
@@ -37,6 +38,10 @@ numbered_line (line.Tight n) = Tight n
 numbered_line (line.Exact n) = Exact n
 numbered_line (line.Close n) = Close n
 numbered_line (line.Clash m n) = Clash m n
+
+-- the number at a number's place in a list, the same number where there is none
+abbrev pub number_under : List TermId → ℕ → ℕ
+number_under numbers n = (get_or numbers n (record { 0 = n })).0
 
 -- the line that a line of the program stands for
 abbrev pub line_in : List Tree → CertLine → CertificateLine

@@ -12,6 +12,7 @@
 //!   `next_lin`, where the forms of all terms before it are there. A form over numbers of terms stands
 //!   for one over the terms, and so does what is computed of it.
 //! - A fact is found on a branch by its number, with the terms that it compares.
+//! - `line_under` is a line under other numbers of its terms.
 //!
 //! Read `specs/Facts.antt` first, then `specs/Lines.antt`, `specs/Ways.antt` and `specs/Laws.antt`.
 //! `specs/Equality.antt`, `specs/Elements.antt`, `specs/Arithmetic.antt` and `specs/ExactLine.antt`
@@ -22,6 +23,7 @@ mod fact;
 mod laws;
 mod line;
 mod linear;
+mod renumber;
 mod sides;
 mod theory;
 
@@ -37,6 +39,7 @@ pub use laws::{
 };
 pub use line::{CertLine, FactNumbers};
 pub use linear::{lin_of, next_lin};
+pub use renumber::{line_under, number_under};
 pub use sides::{
     contrary_at, equation_at, fact_at, form_at, formula_at, same_term, says_equal, says_unequal,
 };

@@ -6,15 +6,15 @@ use Rattle.sm_check.proofs.NamesLemmas.{line_made, line_within, line_without_ter
 use Rattle.sm_check.proofs.names.named_line.Goals as goal
 use Rattle.sm_check.proofs.names.named_line.Goals.{else-has_terms-via-then-has_terms+else-has_facts, else-has_terms-via-else-has_terms}
 
-pub returns-in_ok-with_terms-clause-there : goal.returns-in_ok-with_terms-clause-there
-returns-in_ok-with_terms-clause-there c =
-    line_made (trees_in c.args.table.now) c.args.terms.now c.args.count (numbered_line c.args.line.now) c.in_ok-with_terms.field-0
-    (sym c.has_terms.ensures ∙ c.if-has_terms.true) (sym c.has_facts.ensures ∙ c.if-has_facts.true) c.in_ok-with_terms.ensures
+pub returns-in_ok-line_under-clause-there : goal.returns-in_ok-line_under-clause-there
+returns-in_ok-line_under-clause-there c =
+    line_made (trees_in c.args.table.now) c.args.terms.now c.args.count (numbered_line c.args.line.now) c.in_ok-line_under.field-0
+    (sym c.has_terms.ensures ∙ c.if-has_terms.true) (sym c.has_facts.ensures ∙ c.if-has_facts.true) c.in_ok-line_under.ensures
 
-pub returns-in_ok-with_terms-clause-within : goal.returns-in_ok-with_terms-clause-within
-returns-in_ok-with_terms-clause-within c =
-    line_within (length (trees_in c.args.table.now)) c.args.terms.now c.requires (numbered_line c.args.line.now) c.in_ok-with_terms.field-0
-    (sym c.has_terms.ensures ∙ c.if-has_terms.true) c.in_ok-with_terms.ensures
+pub returns-in_ok-line_under-clause-within : goal.returns-in_ok-line_under-clause-within
+returns-in_ok-line_under-clause-within c =
+    line_within (length (trees_in c.args.table.now)) c.args.terms.now c.requires (numbered_line c.args.line.now) c.in_ok-line_under.field-0
+    (sym c.has_terms.ensures ∙ c.if-has_terms.true) c.in_ok-line_under.ensures
 
 pub returns-else-has_terms-clause-missing : goal.returns-else-has_terms-clause-missing
 returns-else-has_terms-clause-missing c =

@@ -4,11 +4,11 @@ use Rattle.sm_syntax.specs.text.Sorts.{Sorts}
 use Rattle.sm_term.specs.declared.term.TermId.{TermId}
 use Rattle.sm_term.specs.Terms.{Tree}
 use Rattle.sm_term.specs.Tables.{trees_in, sorts_in}
+use Rattle.sm_theory.specs.Views.{number_under}
 use Rattle.sm_list.specs.Branches.{terms_of}
 use Rattle.sm_terms.specs.Listing.{trees_at, numbers_of}
 use Rattle.sm_list.specs.Own.{AreBuilt, ArePlaced}
 use Rattle.sm_list.specs.Parts.{all_numbered, assertions_in, AreFormulasWithin}
-use Rattle.sm_list.specs.Renumber.{number_under}
 use Rattle.sm_list.proofs.BuiltLemmas.{terms_built, terms_among, FormulasAmong}
 use Rattle.sm_list.proofs.RenumberLemmas.{formulas_same, formulas_there}
 use Rattle.sm_list.proofs.OwnLemmas.{formulas_placed}
