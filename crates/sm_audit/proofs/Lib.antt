@@ -10,4 +10,3 @@ pub mod NodesMet
 pub mod BranchLemmas
 pub mod WholeLemmas
 pub mod TaskParts
-pub mod ShortNumbers

@@ -2,4 +2,3 @@ pub mod Since
 pub mod Known
 pub mod Fit
 pub mod Walks
-pub mod ShortFacts

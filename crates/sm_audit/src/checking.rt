@@ -20,7 +20,6 @@ ghost use Rattle.sm_audit.specs.Since.{AreSince};
 
 use crate::entries::{are_known, is_known};
 use crate::refusal::Refusal;
-use crate::short::is_short_line;
 use sm_cert::{CertEnd, CertTree, check_tree};
 use sm_euf::Euf;
 use sm_exact::With;
@@ -30,6 +29,7 @@ use sm_plan::Formulas;
 use sm_rows::Rows;
 use sm_term::{Formula, TermTable, copy_formula, negate};
 use sm_theory::{Branch, CertLine, Fact};
+use sm_write::is_short_line;
 use std::alloc::{AllocError, Global};
 
 // Whether each term that a line names can be named at a node.

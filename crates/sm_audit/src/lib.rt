@@ -20,7 +20,6 @@ mod kept;
 mod noting;
 mod ready;
 mod refusal;
-mod short;
 mod spreading;
 mod walking;
 

@@ -11,7 +11,6 @@ pub mod Known
 pub mod NodeJobs
 pub mod GoalJobs
 pub mod SitesBelow
-pub mod ShortFacts
 pub mod Collected
 pub mod Dealing
 pub mod EndJobs

@@ -1,81 +1,13 @@
 // Certificates whose lines are short enough for a proof file.
-ghost use Rattle.std.specs.Prelude.{◌≡◌, ◌<◌, ◌^◌, [], ◌∷◌, true, map, List};
+ghost use Rattle.std.specs.Prelude.{◌≡◌, true, List};
 ghost use Rattle.sm_term.specs.Terms.{Tree};
-ghost use Rattle.sm_theory.specs.Views.{line_in};
 ghost use Rattle.sm_cert.specs.Certificates.{Certificate};
 ghost use Rattle.sm_cert.specs.Views.{certificate_in, lines_before};
-ghost use Rattle.sm_write.specs.Writable.{AreShortNumbers, IsShortLine, IsShort, AreShort};
-ghost use Rattle.sm_houdini.specs.ShortFacts.{AreShortFacts};
+ghost use Rattle.sm_write.specs.Writable.{IsShort};
 
 use sm_cert::{CertEnd, CertTree};
 use sm_theory::CertLine;
-
-// Whether a number has at most 19 digits.
-fn is_low(n: u64) -> bool
-    ensures { result ≡ true → n < 2 ^ 63 }
-{
-    n < 9_223_372_036_854_775_808
-}
-
-// Whether a fact's number is short.
-fn is_one(n: u64) -> bool
-    ensures { result ≡ true → AreShortFacts (n ∷ []) }
-{
-    is_low(n)
-}
-
-// Whether the numbers of two facts are short.
-fn are_two(m: u64, n: u64) -> bool
-    ensures { result ≡ true → AreShortFacts (m ∷ n ∷ []) }
-{
-    is_low(m) && is_low(n)
-}
-
-// Whether numbers are short.
-fn are_low(numbers: &[u64]) -> bool
-    ensures { result ≡ true → AreShortNumbers numbers.now }
-{
-    for n in numbers {
-        if !is_low(*n) {
-            return false;
-        }
-    }
-    true
-}
-
-// Whether there are few facts, with short numbers.
-fn are_few(numbers: &[u64]) -> bool
-    ensures { result ≡ true → AreShortFacts numbers.now }
-{
-    numbers.len() <= 200 && are_low(numbers)
-}
-
-// Whether a line is short.
-fn is_short_line(line: &CertLine) -> bool
-    ensures { (trees : List Tree) → result ≡ true → IsShortLine (line_in trees line.now) }
-{
-    match line {
-        CertLine::Both(n) => is_one(*n),
-        CertLine::Either(n) => is_one(*n),
-        CertLine::Cases(_, _) => true,
-        CertLine::Order(n) => is_one(*n),
-        CertLine::Refl(_) => true,
-        CertLine::Sym(n) => is_one(*n),
-        CertLine::Trans(m, n) => are_two(*m, *n),
-        CertLine::Subst(m, n) => are_two(*m, *n),
-        CertLine::Cong(_, _, facts) => are_few(&facts.list),
-        CertLine::Same(_, _) => true,
-        CertLine::Apart(_, _) => true,
-        CertLine::Hit(_, n) => is_one(*n),
-        CertLine::Miss(_, _, n) => is_one(*n),
-        CertLine::Lin(n) => is_one(*n),
-        CertLine::Elim(m, n, _) => are_two(*m, *n),
-        CertLine::Tight(n) => is_one(*n),
-        CertLine::Exact(_) => true,
-        CertLine::Close(n) => is_one(*n),
-        CertLine::Clash(m, n) => are_two(*m, *n),
-    }
-}
+use sm_write::is_short_line;
 
 // Whether lines are short.
 fn are_short_lines(lines: &[CertLine]) -> bool
@@ -103,16 +35,4 @@ pub(crate) fn is_short(tree: &CertTree) -> bool
             is_short_line(line) && is_short(first) && is_short(second)
         }
     }
-}
-
-// Whether each line of certificates is short.
-pub(crate) fn are_short(trees: &[CertTree]) -> bool
-    ensures { (ts : List Tree) → result ≡ true → AreShort (map (certificate_in ts) trees.now) }
-{
-    for tree in trees {
-        if !is_short(tree) {
-            return false;
-        }
-    }
-    true
 }

@@ -36,3 +36,4 @@ pub mod StartsUnderway
 pub mod HandWritten
 pub mod TaskStarts
 pub mod SimpleNameable
+pub mod ShortLemmas

@@ -23,3 +23,4 @@ pub mod PlainPlans
 pub mod Versions
 pub mod Waiting
 pub mod Underway
+pub mod ShortFacts

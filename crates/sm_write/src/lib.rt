@@ -3,6 +3,7 @@
 //! - `write_proof` gives a text that passes, wherever the plan with its certificates is writable. It
 //!   begins with the line of version 3 where a line is a line `exact`, of version 2 where none is and
 //!   the task assumes something, and else of version 1.
+//! - `is_short_line` tells whether a line of a certificate is short enough for a file.
 //! - Where a plan is writable, each of its nodes can be written, one after the other: what its kept
 //!   formula and its certificates name is built of what stood in the stores of states up to it.
 //! - `naming` gives terms numbers in the file, parts first. `forms` writes formulas, and `trees` a
@@ -26,6 +27,7 @@ mod naming;
 mod nodes;
 mod plans;
 mod rereading;
+mod short;
 mod spelling;
 mod states;
 mod text;
@@ -36,4 +38,5 @@ mod writing;
 pub use laws::{
     branches_are_nameable, example_is_writable, plain_plans_are_writable, states_are_nameable,
 };
+pub use short::is_short_line;
 pub use writing::write_proof;

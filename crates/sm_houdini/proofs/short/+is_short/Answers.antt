@@ -13,7 +13,7 @@ returns-then-is_short t c = λ trees e.
       | then-is_short_line w ↦
           split_short trees c.args.tree.now c.in-Split.line c.in-Split.first c.in-Split.second c.deref.result.now c.in-Split.is
           c.deref.ensures.value (λ k s. c.are_short_lines.ensures trees k c.if-not-are_short_lines.false s)
-          (c.is_short_line-in-Split.ensures trees w.if-is_short_line.true)
+          ((c.is_short_line-in-Split.ensures trees).0 w.if-is_short_line.true)
           (subst (λ (u : CertTree). IsShort (certificate_in trees u)) w.deref-then-is_short_line.ensures
           (w.is_short.ensures trees (sym w.value-is ∙ c.if-is_short.true)))
           (subst (λ (u : CertTree). IsShort (certificate_in trees u)) c.deref-then-is_short.ensures

@@ -1,7 +1,0 @@
--- The numbers so far are low.
-use Rattle.std.proofs.Common.{take}
-use Rattle.sm_write.specs.Writable.{AreShortNumbers}
-use Rattle.sm_houdini.proofs.short.are_low.Given as goal
-
-abbrev pub invariant-loop-n : goal.invariant-loop-n
-invariant-loop-n l = AreShortNumbers (take l.n-index l.numbers)
