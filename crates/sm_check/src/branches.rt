@@ -20,7 +20,7 @@ ghost use Rattle.sm_check.specs.Walks.{Walks, terms_in};
 use crate::certs::{after_line, splits_branch};
 use crate::due::facts_on;
 use crate::fault::LineFault;
-use crate::names::{head_of, named_line};
+use crate::names::named_line;
 use crate::pending::{Due, OpenBranch, Waiting};
 use crate::walk::Walk;
 use sm_proof::Word;
@@ -75,7 +75,7 @@ pub(crate) fn line_at<'a>(
         Some(over) => over,
         None => return Err(LineFault::Wrong { word: Word::Deep }),
     };
-    let head = head_of(line);
+    let head = line_head(line);
     let next = OpenBranch {
         stores: branch.stores,
         splits: over,

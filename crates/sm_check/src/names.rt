@@ -4,12 +4,12 @@ ghost use Rattle.sm_term.specs.Tables.{trees_in, AreBefore};
 ghost use Rattle.sm_theory.specs.Named.{facts_named, terms_named};
 ghost use Rattle.sm_theory.specs.Views.{line_in, IsLineWithin};
 ghost use Rattle.sm_proof.specs.Lines.{numbered_line};
-ghost use Rattle.sm_proof.specs.Named.{are_there, named_line, line_head};
+ghost use Rattle.sm_proof.specs.Named.{are_there, named_line};
 ghost use Rattle.sm_check.specs.LineKinds.{Misses};
 ghost use Rattle.sm_check.specs.Walks.{terms_in};
 
 use crate::fault::LineFault;
-use sm_proof::{Head, Word};
+use sm_proof::Word;
 use sm_term::{TermId, TermTable};
 use sm_theory::{CertLine, line_under};
 use std::alloc::{AllocError, Global};
@@ -90,31 +90,4 @@ fn are_there(count: u64, numbers: &[u64]) -> bool
         }
     }
     true
-}
-
-// The first word of a line.
-pub(crate) fn head_of(line: &CertLine) -> Head
-    ensures { result ≡ line_head (numbered_line line.now) }
-{
-    match line {
-        CertLine::Both(_) => Head::Both,
-        CertLine::Either(_) => Head::Either,
-        CertLine::Cases(_, _) => Head::Cases,
-        CertLine::Order(_) => Head::Order,
-        CertLine::Refl(_) => Head::Refl,
-        CertLine::Sym(_) => Head::Sym,
-        CertLine::Trans(_, _) => Head::Trans,
-        CertLine::Subst(_, _) => Head::Subst,
-        CertLine::Cong(_, _, _) => Head::Cong,
-        CertLine::Same(_, _) => Head::Same,
-        CertLine::Apart(_, _) => Head::Apart,
-        CertLine::Hit(_, _) => Head::Hit,
-        CertLine::Miss(_, _, _) => Head::Miss,
-        CertLine::Lin(_) => Head::Lin,
-        CertLine::Elim(_, _, _) => Head::Elim,
-        CertLine::Tight(_) => Head::Tight,
-        CertLine::Exact(_) => Head::Exact,
-        CertLine::Close(_) => Head::Close,
-        CertLine::Clash(_, _) => Head::Clash,
-    }
 }

@@ -19,6 +19,7 @@
 mod error;
 mod fields;
 mod find;
+mod heads;
 mod kind;
 mod laws;
 mod line;
@@ -31,6 +32,7 @@ mod versions;
 mod word;
 
 pub use error::LineError;
+pub use heads::line_head;
 pub use kind::{FormKind, TermKind};
 pub use laws::{cases_come_out, pass_is_free, prefixes_fail};
 pub use line::{FormLine, Line, NodeLine, TermLine};

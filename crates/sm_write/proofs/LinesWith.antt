@@ -1,8 +1,9 @@
 -- A line is that with the numbers of the terms that it names.
-use Rattle.std.proofs.Common.{◌≡◌, refl}
+use Rattle.std.proofs.Common.{◌≡◌, ℕ, refl}
 use Rattle.sm_theory.specs.declared.line.CertLine.{CertLine}
 use Rattle.sm_theory.specs.declared.line.CertLine.TheVariants as cert
 use Rattle.sm_proof.specs.Lines.{numbered_line}
+use Rattle.sm_proof.specs.Named.{line_head}
 use Rattle.sm_write.specs.LineTerms.{first_term, second_term}
 use Rattle.sm_write.specs.Written.{Names, number_in, number_or, line_with, written}
 
@@ -47,3 +48,25 @@ numbered_with (cert.Tight n) = refl
 numbered_with (cert.Exact n) = refl
 numbered_with (cert.Close n) = refl
 numbered_with (cert.Clash m n) = refl
+
+-- its first word is that of the line
+pub head_with : (l : CertLine) (k m : ℕ) → line_head (line_with l k m) ≡ line_head (numbered_line l)
+head_with (cert.Both n) k m = refl
+head_with (cert.Either n) k m = refl
+head_with (cert.Cases t u) k m = refl
+head_with (cert.Order n) k m = refl
+head_with (cert.Refl t) k m = refl
+head_with (cert.Syi n) k m = refl
+head_with (cert.Trans i n) k m = refl
+head_with (cert.Subst i n) k m = refl
+head_with (cert.Cong t u ns) k m = refl
+head_with (cert.Same t u) k m = refl
+head_with (cert.Apart t u) k m = refl
+head_with (cert.Hit t n) k m = refl
+head_with (cert.Miss t u n) k m = refl
+head_with (cert.Lin n) k m = refl
+head_with (cert.Elii i n t) k m = refl
+head_with (cert.Tight n) k m = refl
+head_with (cert.Exact n) k m = refl
+head_with (cert.Close n) k m = refl
+head_with (cert.Clash i n) k m = refl

@@ -1,7 +1,8 @@
 // Lines of certificates.
-ghost use Rattle.std.specs.Prelude.{◌≡◌, ◌∷◌, ◌++◌, nat_eq, OnOk};
+ghost use Rattle.std.specs.Prelude.{◌≡◌, ◌++◌, nat_eq, OnOk};
 ghost use Rattle.std.specs.HashMap.{get};
 ghost use Rattle.sm_theory.specs.Named.{reads_all};
+ghost use Rattle.sm_proof.specs.FieldRanges.{numbers_of};
 ghost use Rattle.sm_proof.specs.HeadWords.{head_word};
 ghost use Rattle.sm_proof.specs.Lines.{Cert, numbered_line};
 ghost use Rattle.sm_write.specs.Bytes.{line_text, one_word};
@@ -9,7 +10,7 @@ ghost use Rattle.sm_write.specs.LineTerms.{first_term, second_term};
 ghost use Rattle.sm_write.specs.Written.{file_number, line_with, number_in, written};
 
 use crate::text::{put_head, put_two_lists};
-use sm_proof::Head;
+use sm_proof::{Head, line_head};
 use sm_term::TermId;
 use sm_theory::CertLine;
 use std::alloc::AllocError;
@@ -58,14 +59,6 @@ pub(crate) fn file_number(names: &HashMap<u64, TermId>, t: TermId) -> u64
     }
 }
 
-// A line `cong`.
-fn put_cong(text: &mut Vec<u8>, t: u64, u: u64, facts: &[u64]) -> Result<(), AllocError>
-    ensures { OnOk result (text.new.items
-        ≡ text.old.items ++ one_word (head_word Head.Cong) (t ∷ u ∷ facts.now)) }
-{
-    put_two_lists(text, Head::Cong.word(), &[t, u], facts)
-}
-
 /// Writes a line of a certificate by the numbers that its terms have in the file.
 pub(crate) fn put_cert(
     text: &mut Vec<u8>,
@@ -90,6 +83,40 @@ fn number_in(names: &HashMap<u64, TermId>, t: Option<TermId>) -> u64
     }
 }
 
+// The numbers of a line behind a first word, with these for its first term and its second.
+fn put_behind(
+    text: &mut Vec<u8>,
+    head: Head,
+    line: &CertLine,
+    t: u64,
+    u: u64,
+) -> Result<(), AllocError>
+    ensures { OnOk result (text.new.items
+        ≡ text.old.items ++ one_word (head_word head) (numbers_of (line_with line.now t u))) }
+{
+    match line {
+        CertLine::Both(n)
+        | CertLine::Either(n)
+        | CertLine::Order(n)
+        | CertLine::Sym(n)
+        | CertLine::Lin(n)
+        | CertLine::Tight(n)
+        | CertLine::Exact(n)
+        | CertLine::Close(n) => put_head(text, head, &[*n]),
+        CertLine::Trans(m, n) | CertLine::Subst(m, n) | CertLine::Clash(m, n) => {
+            put_head(text, head, &[*m, *n])
+        }
+        CertLine::Cases(_, _) | CertLine::Same(_, _) | CertLine::Apart(_, _) => {
+            put_head(text, head, &[t, u])
+        }
+        CertLine::Refl(_) => put_head(text, head, &[t]),
+        CertLine::Cong(_, _, facts) => put_two_lists(text, head.word(), &[t, u], &facts.list),
+        CertLine::Hit(_, n) => put_head(text, head, &[t, *n]),
+        CertLine::Miss(_, _, n) => put_head(text, head, &[t, u, *n]),
+        CertLine::Elim(m, n, _) => put_head(text, head, &[*m, *n, t]),
+    }
+}
+
 /// Writes a line of a certificate with these numbers for its first term and its second.
 pub(crate) fn put_line_with(
     text: &mut Vec<u8>,
@@ -100,25 +127,5 @@ pub(crate) fn put_line_with(
     ensures { OnOk result
         (text.new.items ≡ text.old.items ++ line_text (Cert (line_with line.now t u))) }
 {
-    match line {
-        CertLine::Both(n) => put_head(text, Head::Both, &[*n]),
-        CertLine::Either(n) => put_head(text, Head::Either, &[*n]),
-        CertLine::Cases(_, _) => put_head(text, Head::Cases, &[t, u]),
-        CertLine::Order(n) => put_head(text, Head::Order, &[*n]),
-        CertLine::Refl(_) => put_head(text, Head::Refl, &[t]),
-        CertLine::Sym(n) => put_head(text, Head::Sym, &[*n]),
-        CertLine::Trans(m, n) => put_head(text, Head::Trans, &[*m, *n]),
-        CertLine::Subst(m, n) => put_head(text, Head::Subst, &[*m, *n]),
-        CertLine::Cong(_, _, facts) => put_cong(text, t, u, facts.list.as_slice()),
-        CertLine::Same(_, _) => put_head(text, Head::Same, &[t, u]),
-        CertLine::Apart(_, _) => put_head(text, Head::Apart, &[t, u]),
-        CertLine::Hit(_, n) => put_head(text, Head::Hit, &[t, *n]),
-        CertLine::Miss(_, _, n) => put_head(text, Head::Miss, &[t, u, *n]),
-        CertLine::Lin(n) => put_head(text, Head::Lin, &[*n]),
-        CertLine::Elim(m, n, _) => put_head(text, Head::Elim, &[*m, *n, t]),
-        CertLine::Tight(n) => put_head(text, Head::Tight, &[*n]),
-        CertLine::Exact(n) => put_head(text, Head::Exact, &[*n]),
-        CertLine::Close(n) => put_head(text, Head::Close, &[*n]),
-        CertLine::Clash(m, n) => put_head(text, Head::Clash, &[*m, *n]),
-    }
+    put_behind(text, line_head(line), line, t, u)
 }

@@ -67,7 +67,7 @@ returns-clause-tells c = λ own rest all sorted waits.
     λ head. found_or (ways sorts own line) (First head) (λ (to : List (List BranchFact)). Ok (branches_before held own over to rest)) in
     tells_along {S = Option Due} {T = List Pending}
     (λ d ps. PendingStands sorts trees c.after_line.new.path.list.items d c.after_line.new.waiting.items ps) c.after_line.result
-    (next c.head_of-head.result) (pending_after sorts terms held own c.args.branch.splits rest l)
+    (next c.line_head-head.result) (pending_after sorts terms held own c.args.branch.splits rest l)
     (cert_tried sorts terms held own c.args.branch.splits rest l line there over c.in-Some.ensures.0 c.in-Some.ensures.1
-    ∙ ap next (sym c.head_of-head.ensures))
+    ∙ ap next (sym c.line_head-head.ensures))
     (c.after_line.ensures.tells own rest all sorted waits)
