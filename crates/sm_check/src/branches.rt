@@ -23,7 +23,7 @@ use crate::fault::LineFault;
 use crate::names::named_line;
 use crate::pending::{Due, OpenBranch, Waiting};
 use crate::walk::Walk;
-use sm_proof::Word;
+use sm_proof::{Word, line_head};
 use sm_term::{TermId, TermTable};
 use sm_theory::{Branch, CertLine};
 use std::alloc::Global;
