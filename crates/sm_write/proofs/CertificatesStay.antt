@@ -29,25 +29,10 @@ module _ (v w : TableValue) (wider : ExtendsTable v w) where
 
   -- lines within the narrower table are within the wider one
   pub line_wider : (l : CertLine) → IsLineWithin (length (trees_in v)) l → IsLineWithin (length (trees_in w)) l
-  line_wider (cert.Both n) h = tt
-  line_wider (cert.Either n) h = tt
-  line_wider (cert.Cases t u) h = let m = longer v w wider in (omega (arith, h.0, m), omega (arith, h.1, m))
-  line_wider (cert.Order n) h = tt
-  line_wider (cert.Refl t) h = let m = longer v w wider in omega (arith, h, m)
-  line_wider (cert.Sym n) h = tt
-  line_wider (cert.Trans k n) h = tt
-  line_wider (cert.Subst k n) h = tt
-  line_wider (cert.Cong t u ns) h = let m = longer v w wider in (omega (arith, h.0, m), omega (arith, h.1, m))
-  line_wider (cert.Same t u) h = let m = longer v w wider in (omega (arith, h.0, m), omega (arith, h.1, m))
-  line_wider (cert.Apart t u) h = let m = longer v w wider in (omega (arith, h.0, m), omega (arith, h.1, m))
-  line_wider (cert.Hit t n) h = let m = longer v w wider in omega (arith, h, m)
-  line_wider (cert.Miss t u n) h = let m = longer v w wider in (omega (arith, h.0, m), omega (arith, h.1, m))
-  line_wider (cert.Lin n) h = tt
-  line_wider (cert.Elim k n t) h = let m = longer v w wider in omega (arith, h, m)
-  line_wider (cert.Tight n) h = tt
-  line_wider (cert.Exact n) h = tt
-  line_wider (cert.Close n) h = tt
-  line_wider (cert.Clash k n) h = tt
+  line_wider l h =
+      let m = longer v w wider in
+      each_more (λ (n : ℕ). n < length (trees_in v)) (λ (n : ℕ). n < length (trees_in w)) (numbered_line l)
+      (λ (n : ℕ) (less : n < length (trees_in v)). omega (arith, less, m)) h
 
   pub lines_wider : (ls : List CertLine) → AreLinesWithin (length (trees_in v)) ls → AreLinesWithin (length (trees_in w)) ls
   lines_wider [] h = tt

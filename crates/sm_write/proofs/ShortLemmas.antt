@@ -1,5 +1,5 @@
 -- Numbers that are short, one after the other.
-use Rattle.std.proofs.Common.{ℕ, zero, suc, ◌+◌, ◌<◌, ◌^◌, ⊥, List, [], ◌∷◌, ◌++◌, length, take, get_or, sym, subst}
+use Rattle.std.proofs.Common.{ℕ, zero, suc, ◌+◌, ◌<◌, ◌^◌, List, [], ◌∷◌, ◌++◌, length, take, get_or, sym, subst, arith}
 use Rattle.std.proofs.lemmas.List.{take_more}
 use Rattle.sm_write.specs.Writable.{AreShortNumbers}
 
@@ -14,6 +14,6 @@ numbers_low ns i d all h low = subst AreShortNumbers (sym (take_more ns i d h)) 
 
 -- each of several short numbers is
 pub number_low : (ns : List ℕ) (i d : ℕ) → AreShortNumbers ns → i < length ns → get_or ns i d < 2 ^ 63
-number_low [] i d all h = absurd cc
+number_low [] i d all h = absurd (omega arith)
 number_low (n ∷ ns) zero d all h = all.0
-number_low (n ∷ ns) (suc i) d all h = number_low ns i d all.1 (omega h)
+number_low (n ∷ ns) (suc i) d all h = number_low ns i d all.1 (omega arith)

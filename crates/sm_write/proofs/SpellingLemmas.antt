@@ -7,6 +7,7 @@ use Rattle.std.proofs.lemmas.Bool.{ne_eqb}
 use Rattle.std.proofs.lemmas.Bool.Decides.{Decides-ltb}
 use Rattle.std.proofs.lemmas.Fmt.{decimal_is_IsNumeral_wide, length-decimal-le, length-decimal-le_wide}
 use Rattle.std.proofs.lemmas.Str.Parse.{digit_from_value}
+use Rattle.sm_theory.specs.Named.{facts_named}
 use Rattle.sm_num.specs.Range.{fits}
 use Rattle.sm_proof.specs.declared.kind.FormKind.TheVariants as kind
 use Rattle.sm_proof.specs.declared.kind.TermKind.TheVariants as kinds
@@ -281,17 +282,39 @@ short_by_count l h known few =
       few,
     )
 
--- a line `cong` of few facts of short numbers
-pub short_cong : (t u : ℕ) (ns : List ℕ) → AreShortNumbers (t ∷ u ∷ ns) → length ns ≤ 200 →
-    length (spelled (Cert (line.Cong t u ns))) ≤ 4096
+-- a line of a certificate of few numbers, all short
+pub short_cert : (l : NumberedLine) → AreShortNumbers (numbers_of l) → length (numbers_of l) ≤ 202 → length (spelled (Cert l)) ≤ 4096
 unfolding spelled
-short_cong t u ns are few =
+short_cert l are few =
     omega (
       arith,
-      spaced_length (head_word head.Cong ∷ map decimal (t ∷ u ∷ ns)),
-      short_weight (t ∷ u ∷ ns) are,
+      spaced_length (head_word (line_head l) ∷ map decimal (numbers_of l)),
+      short_weight (numbers_of l) are,
+      (head_fine (line_head l)).1,
       few,
     )
+
+-- a line that names few facts has few numbers
+pub numbers_few : (l : NumberedLine) → length (facts_named l) ≤ 200 → length (numbers_of l) ≤ 202
+numbers_few (line.Both n) few = omega arith
+numbers_few (line.Either n) few = omega arith
+numbers_few (line.Cases t u) few = omega arith
+numbers_few (line.Order n) few = omega arith
+numbers_few (line.Refl t) few = omega arith
+numbers_few (line.Sym n) few = omega arith
+numbers_few (line.Trans m n) few = omega arith
+numbers_few (line.Subst m n) few = omega arith
+numbers_few (line.Cong t u ns) few = omega arith
+numbers_few (line.Same t u) few = omega arith
+numbers_few (line.Apart t u) few = omega arith
+numbers_few (line.Hit t n) few = omega arith
+numbers_few (line.Miss t u n) few = omega arith
+numbers_few (line.Lin n) few = omega arith
+numbers_few (line.Elim m n t) few = omega arith
+numbers_few (line.Tight n) few = omega arith
+numbers_few (line.Exact n) few = omega arith
+numbers_few (line.Close n) few = omega arith
+numbers_few (line.Clash m n) few = omega arith
 
 -- lines that are read back: those of terms
 term_few : (t : TermLine) → (h : IsWithinFields (Term t)) → length (shaped (Term t) h tt).numbers ≤ 5
@@ -341,11 +364,6 @@ node_few node.End h = omega arith
 
 pub node_readable : (n : NodeLine) → IsWithinFields (Node n) → IsReadable (Node n)
 node_readable n h = record { within = h; version = tt; short = short_by_count (Node n) h tt (node_few n h) }
-
--- of certificates, of few numbers
-pub cert_readable : (l : NumberedLine) → (are : AreNumbers (numbers_of l)) → length (numbers_of l) ≤ 5 → IsReadable (Cert l)
-unfolding shaped headed
-cert_readable l are few = record { within = are; version = tt; short = short_by_count (Cert l) are tt few }
 
 -- the line of a version from 1 to 3 is read back from its text
 known_readable : (n : ℕ) → 1 ≤ n → n ≤ 3 → IsReadable (Header n)

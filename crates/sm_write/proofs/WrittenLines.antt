@@ -1,13 +1,12 @@
 -- A line of a certificate as it is written stands for the line, and is read back.
-use Rattle.std.proofs.Common.{◌≡◌, ℕ, ◌<◌, ◌^◌, true, Option, Some, slice_get}
-use Rattle.std.proofs.Common.{List, [], ◌∷◌, length, sym, ap, ◌∙◌, arith}
+use Rattle.std.proofs.Common.{◌≡◌, ℕ, ◌<◌, ◌≤◌, ◌^◌, true, Option, Some, slice_get}
+use Rattle.std.proofs.Common.{List, [], ◌∷◌, length, sym, ap, subst, ◌∙◌, arith}
 use Rattle.std.proofs.lemmas.Option.{get_or_from_slice_get}
 use Rattle.sm_term.specs.declared.term.TermId.{TermId}
 use Rattle.sm_term.specs.Tables.{tree_at}
 use Rattle.sm_term.specs.Terms.{Tree}
 use Rattle.sm_theory.specs.declared.line.CertLine.{CertLine}
 use Rattle.sm_theory.specs.declared.line.CertLine.TheVariants as line
-use Rattle.sm_theory.specs.Lines as cert
 use Rattle.sm_theory.specs.Lines.{CertificateLine}
 use Rattle.sm_theory.specs.Named.{facts_named, reads_all, is_split}
 use Rattle.sm_theory.specs.Views.{line_in}
@@ -20,7 +19,7 @@ use Rattle.sm_prune.specs.Texts.{IsReadable}
 use Rattle.sm_write.specs.Writable.{AreShortNumbers, IsShortLine}
 use Rattle.sm_write.specs.Written.{Names, AreNames, number_or, number_at, file_number, IsNumbered, IsNamed, written, IsLineNamed}
 use Rattle.sm_write.proofs.FactsThere.{get_below, AreStepsShort}
-use Rattle.sm_write.proofs.SpellingLemmas.{cert_readable, short_cong}
+use Rattle.sm_write.proofs.SpellingLemmas.{short_cert, numbers_few}
 
 -- the number of a term leads to it
 pub number_leads : (trees : List Tree) (names : Names) (terms : List Tree) → AreNames trees names terms → (t : TermId) → IsNamed names t →
@@ -100,73 +99,13 @@ numbers_short trees names terms are (line.Clash m n) h s few = s
 -- a line that is written is read back
 pub written_readable : (trees : List Tree) (names : Names) (terms : List Tree) → AreNames trees names terms → (l : CertLine) →
     IsLineNamed names l → IsShortLine (line_in trees l) → AreStepsShort (line_in trees l) → IsReadable (Cert (written names l))
-written_readable trees names terms are (line.Cong t u ns) h s few =
-    let all = numbers_short trees names terms are (line.Cong t u ns) h s.1 few in
+written_readable trees names terms are l h s few =
+    let all = numbers_short trees names terms are l h s.1 few in
+    let line = numbered_line l in
+    let facts : facts_named (line_in trees l) ≡ facts_named (written names l) =
+    facts_with (tree_at trees) line ∙ sym (facts_with (number_at names) line) in
     record {
-      within = short_numbers (numbers_of (written names (line.Cong t u ns))) all;
+      within = short_numbers (numbers_of (written names l)) all;
       version = tt;
-      short = short_cong (file_number names t) (file_number names u) ns.list.items all s.0;
+      short = short_cert (written names l) all (numbers_few (written names l) (subst (λ (ns : List ℕ). length ns ≤ 200) facts s.0));
     }
-written_readable trees names terms are (line.Both n) h s few =
-    cert_readable (written names (line.Both n))
-    (short_numbers (numbers_of (written names (line.Both n))) (numbers_short trees names terms are (line.Both n) h s.1 few)) (omega arith)
-written_readable trees names terms are (line.Either n) h s few =
-    cert_readable (written names (line.Either n))
-    (short_numbers (numbers_of (written names (line.Either n))) (numbers_short trees names terms are (line.Either n) h s.1 few))
-    (omega arith)
-written_readable trees names terms are (line.Cases t u) h s few =
-    cert_readable (written names (line.Cases t u))
-    (short_numbers (numbers_of (written names (line.Cases t u))) (numbers_short trees names terms are (line.Cases t u) h s.1 few))
-    (omega arith)
-written_readable trees names terms are (line.Order n) h s few =
-    cert_readable (written names (line.Order n))
-    (short_numbers (numbers_of (written names (line.Order n))) (numbers_short trees names terms are (line.Order n) h s.1 few)) (omega arith)
-written_readable trees names terms are (line.Refl t) h s few =
-    cert_readable (written names (line.Refl t))
-    (short_numbers (numbers_of (written names (line.Refl t))) (numbers_short trees names terms are (line.Refl t) h s.1 few)) (omega arith)
-written_readable trees names terms are (line.Sym n) h s few =
-    cert_readable (written names (line.Sym n))
-    (short_numbers (numbers_of (written names (line.Sym n))) (numbers_short trees names terms are (line.Sym n) h s.1 few)) (omega arith)
-written_readable trees names terms are (line.Trans m n) h s few =
-    cert_readable (written names (line.Trans m n))
-    (short_numbers (numbers_of (written names (line.Trans m n))) (numbers_short trees names terms are (line.Trans m n) h s.1 few))
-    (omega arith)
-written_readable trees names terms are (line.Subst m n) h s few =
-    cert_readable (written names (line.Subst m n))
-    (short_numbers (numbers_of (written names (line.Subst m n))) (numbers_short trees names terms are (line.Subst m n) h s.1 few))
-    (omega arith)
-written_readable trees names terms are (line.Same t u) h s few =
-    cert_readable (written names (line.Same t u))
-    (short_numbers (numbers_of (written names (line.Same t u))) (numbers_short trees names terms are (line.Same t u) h s.1 few))
-    (omega arith)
-written_readable trees names terms are (line.Apart t u) h s few =
-    cert_readable (written names (line.Apart t u))
-    (short_numbers (numbers_of (written names (line.Apart t u))) (numbers_short trees names terms are (line.Apart t u) h s.1 few))
-    (omega arith)
-written_readable trees names terms are (line.Hit t n) h s few =
-    cert_readable (written names (line.Hit t n))
-    (short_numbers (numbers_of (written names (line.Hit t n))) (numbers_short trees names terms are (line.Hit t n) h s.1 few)) (omega arith)
-written_readable trees names terms are (line.Miss t u n) h s few =
-    cert_readable (written names (line.Miss t u n))
-    (short_numbers (numbers_of (written names (line.Miss t u n))) (numbers_short trees names terms are (line.Miss t u n) h s.1 few))
-    (omega arith)
-written_readable trees names terms are (line.Lin n) h s few =
-    cert_readable (written names (line.Lin n))
-    (short_numbers (numbers_of (written names (line.Lin n))) (numbers_short trees names terms are (line.Lin n) h s.1 few)) (omega arith)
-written_readable trees names terms are (line.Elim m n t) h s few =
-    cert_readable (written names (line.Elim m n t))
-    (short_numbers (numbers_of (written names (line.Elim m n t))) (numbers_short trees names terms are (line.Elim m n t) h s.1 few))
-    (omega arith)
-written_readable trees names terms are (line.Tight n) h s few =
-    cert_readable (written names (line.Tight n))
-    (short_numbers (numbers_of (written names (line.Tight n))) (numbers_short trees names terms are (line.Tight n) h s.1 few)) (omega arith)
-written_readable trees names terms are (line.Exact n) h s few =
-    cert_readable (written names (line.Exact n))
-    (short_numbers (numbers_of (written names (line.Exact n))) (numbers_short trees names terms are (line.Exact n) h s.1 few)) (omega arith)
-written_readable trees names terms are (line.Close n) h s few =
-    cert_readable (written names (line.Close n))
-    (short_numbers (numbers_of (written names (line.Close n))) (numbers_short trees names terms are (line.Close n) h s.1 few)) (omega arith)
-written_readable trees names terms are (line.Clash m n) h s few =
-    cert_readable (written names (line.Clash m n))
-    (short_numbers (numbers_of (written names (line.Clash m n))) (numbers_short trees names terms are (line.Clash m n) h s.1 few))
-    (omega arith)

@@ -23,7 +23,7 @@ returns-else-has_terms-clause-missing c =
       refl,
       elim c.else-has_terms.branch [
         | else-has_terms-via-then-has_terms+else-has_facts w ↦ line_without_fact trees c.args.terms.now c.args.count l
-            (sym c.has_terms.ensures ∙ w.if-has_terms.true) (sym w.has_facts.ensures ∙ w.if-has_facts.false)
+            (sym w.has_facts.ensures ∙ w.if-has_facts.false)
         | else-has_terms-via-else-has_terms w ↦ line_without_term trees c.args.terms.now c.args.count l
             (sym c.has_terms.ensures ∙ w.if-has_terms.false)
       ],
