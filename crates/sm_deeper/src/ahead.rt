@@ -15,7 +15,7 @@ use crate::told::{Found, is_refuted, nothing_told, tell_all};
 use sm_expand::Due;
 use sm_observed::Work;
 use sm_par::{Gate, Phase, run_calls};
-use sm_solve::{Node, Reach};
+use sm_solve::{FactBase, Reach};
 use sm_term::TermTable;
 use std::alloc::{AllocError, Global};
 use std::thread::Threads;
@@ -53,7 +53,7 @@ fn places_of(
 fn ends_at(
     alloc: Global,
     table: &mut TermTable,
-    node: &mut Option<Node>,
+    node: &mut Option<FactBase>,
     due: &Due,
     places: &[usize],
     reach: Reach,

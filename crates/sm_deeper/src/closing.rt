@@ -10,7 +10,7 @@ use sm_cert::CertTree;
 use sm_goals::node_of;
 use sm_observed::Work;
 use sm_plan::Formulas;
-use sm_solve::{Answer, Node, Reach, solve_at};
+use sm_solve::{Answer, FactBase, Reach, solve_at};
 use sm_term::{Formula, TermTable};
 use std::alloc::{AllocError, Global};
 
@@ -30,7 +30,7 @@ pub(crate) fn boxed_node(
     facts: &Formulas,
     is_shared: bool,
     steps: u64,
-) -> Result<Box<Option<Node>>, AllocError>
+) -> Result<Box<Option<FactBase>>, AllocError>
     requires { AreFormsReady (sorts_in table.old) (trees_in table.old) facts.now.list.items }
     ensures node { IfOk result (λ node. IsNodeOf table.new facts.now.list.items node.value) }
     ensures widens { ExtendsTable table.old table.new }
@@ -71,7 +71,7 @@ pub(crate) fn pay_walk(work: &mut Work, facts: &Formulas, end: WalkEnd, reach: R
 pub(crate) fn walked(
     alloc: Global,
     table: &mut TermTable,
-    node: &mut Option<Node>,
+    node: &mut Option<FactBase>,
     facts: &Formulas,
     goal: &Formula,
     reach: Reach,

@@ -12,7 +12,7 @@ use crate::marks::are_several;
 use crate::owners::{Owners, owner};
 use sm_expand::Due;
 use sm_goals::are_same;
-use sm_solve::{Node, Reach};
+use sm_solve::{FactBase, Reach};
 use sm_term::TermTable;
 use std::alloc::{AllocError, Global};
 
@@ -48,7 +48,7 @@ pub(crate) fn asking_site(round: &Round<'_>, place: usize) -> Option<usize> {
 pub(crate) fn walk_at(
     alloc: Global,
     table: &mut TermTable,
-    node: &mut Option<Node>,
+    node: &mut Option<FactBase>,
     due: &Due,
     at: usize,
     reach: Reach,
@@ -107,7 +107,7 @@ fn asks_walk(marks: &[bool], told: &[Option<WalkEnd>]) -> bool {
 fn stays(
     alloc: Global,
     table: &mut TermTable,
-    node: &mut Option<Node>,
+    node: &mut Option<FactBase>,
     due: &Due,
     at: usize,
     asked: Question,
@@ -162,7 +162,7 @@ fn judged(
 fn judged_at(
     alloc: Global,
     table: &mut TermTable,
-    node: &mut Option<Node>,
+    node: &mut Option<FactBase>,
     due: &Due,
     marks: &[bool],
     told: &[Option<WalkEnd>],

@@ -10,7 +10,7 @@ use crate::effort::Effort;
 use sm_cert::CertTree;
 use sm_expand::Due;
 use sm_plan::Formulas;
-use sm_solve::Node;
+use sm_solve::FactBase;
 use sm_term::{Formula, TermTable};
 use std::alloc::{AllocError, Global};
 
@@ -42,7 +42,7 @@ pub(crate) fn put_trees(
 fn put_trees_at(
     alloc: Global,
     table: &mut TermTable,
-    node: &mut Option<Node>,
+    node: &mut Option<FactBase>,
     facts: &Formulas,
     goals: &[Formula],
     trees: &mut Vec<CertTree>,

@@ -11,21 +11,21 @@ use Rattle.sm_plan.specs.ReadyStates.{AreFormsReady}
 use Rattle.sm_plan.proofs.TablesWiden as widened
 use Rattle.sm_expand.specs.declared.due.Due.{Due}
 use Rattle.sm_expand.specs.Views.{AreDuesReady}
-use Rattle.sm_solve.specs.declared.node.Node.{Node}
+use Rattle.sm_solve.specs.declared.fact_base.FactBase.{FactBase}
 use Rattle.sm_list.specs.Parts.{all_numbered, assertions_in}
-use Rattle.sm_solve.specs.Sharing.{IsNode}
+use Rattle.sm_solve.specs.Sharing.{IsFactBase}
 use Rattle.sm_goals.specs.Nodes.{IsNodeOf}
 use Rattle.sm_goals.proofs.FormsLemmas.{forms_same}
 
 -- a node of facts, over a table that has got more terms
 pub node_over : (v w : TableValue) → AddsTerms v w → (fs : List Formula) → AreFormsReady (sorts_in v) (trees_in v) fs →
-    (given : List Formula) → given ≡ fs → (node : Option Node) →
-    IfSome node (IsNode w (assertions_in (sorts_in v) (trees_in v) (all_numbered given))) → IsNodeOf w fs node
+    (given : List Formula) → given ≡ fs → (node : Option FactBase) →
+    IfSome node (IsFactBase w (assertions_in (sorts_in v) (trees_in v) (all_numbered given))) → IsNodeOf w fs node
 node_over v w grows fs ready given are node h =
     let same : assertions_in (sorts_in v) (trees_in v) (all_numbered given) ≡ assertions_in (sorts_in w) (trees_in w) (all_numbered fs) =
     ap (λ (gs : List Formula). assertions_in (sorts_in v) (trees_in v) (all_numbered gs)) are ∙ forms_same (sorts_in v) (trees_in v) fs
     ∙ sym (widened.forms_stay v w (widened.widens_grown v w grows) fs ready) ∙ sym (forms_same (sorts_in w) (trees_in w) fs) in
-    subst (λ (gs : List Assertion). IfSome node (IsNode w gs)) same h
+    subst (λ (gs : List Assertion). IfSome node (IsFactBase w gs)) same h
 
 -- the facts and the goals at a place
 pub facts_at : (sorts : Sorts) (trees : List Tree) (ds : List Due) (i : ℕ) (d : Due) → AreDuesReady sorts trees ds → i < length ds →

@@ -8,7 +8,7 @@ ghost use Rattle.sm_goals.specs.Nodes.{IsNodeOf};
 
 use sm_pairs::is_same_formula;
 use sm_plan::Formulas;
-use sm_solve::Node;
+use sm_solve::FactBase;
 use sm_term::{Formula, TermTable};
 use std::alloc::{AllocError, Global};
 
@@ -20,7 +20,7 @@ pub fn node_of(
     facts: &Formulas,
     is_shared: bool,
     steps: u64,
-) -> Result<Option<Node>, AllocError>
+) -> Result<Option<FactBase>, AllocError>
     requires { AreFormsReady (sorts_in table.old) (trees_in table.old) facts.now.list.items }
     ensures node { IfOk result (IsNodeOf table.new facts.now.list.items) }
     ensures widens { ExtendsTable table.old table.new }
@@ -28,7 +28,7 @@ pub fn node_of(
     if !is_shared {
         return Ok(None);
     }
-    let node = Node::of(alloc, table, &facts.list, steps)?;
+    let node = FactBase::of(alloc, table, &facts.list, steps)?;
     Ok(node)
 }
 

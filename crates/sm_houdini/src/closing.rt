@@ -19,7 +19,7 @@ use crate::marks::Marked;
 use sm_expand::Due;
 use sm_goals::node_of;
 use sm_plan::Formulas;
-use sm_solve::{Answer, Node, Reach, solve_at};
+use sm_solve::{Answer, FactBase, Reach, solve_at};
 use sm_term::{Formula, TermTable};
 use std::alloc::{AllocError, Global};
 
@@ -40,7 +40,7 @@ fn is_closed(answer: &Answer) -> bool
 fn closes(
     alloc: Global,
     table: &mut TermTable,
-    node: &mut Option<Node>,
+    node: &mut Option<FactBase>,
     facts: &Formulas,
     goal: &Formula,
     reach: Reach,
@@ -63,7 +63,7 @@ fn closes(
 fn stays(
     alloc: Global,
     table: &mut TermTable,
-    node: &mut Option<Node>,
+    node: &mut Option<FactBase>,
     due: &Due,
     at: u64,
     holds: bool,
@@ -128,7 +128,7 @@ pub(crate) fn judged(
 fn judged_at(
     alloc: Global,
     table: &mut TermTable,
-    node: &mut Option<Node>,
+    node: &mut Option<FactBase>,
     due: &Due,
     marks: &[Marked],
     reach: Reach,

@@ -33,7 +33,7 @@ use sm_expand::Due;
 use sm_goals::node_of;
 use sm_num::Op;
 use sm_par::Gate;
-use sm_solve::{Answer, Node, Reach, solve_at};
+use sm_solve::{Answer, FactBase, Reach, solve_at};
 use sm_term::{Formula, TermTable};
 use std::alloc::{AllocError, Global};
 use std::thread::Threads;
@@ -126,7 +126,7 @@ struct Asking<'a> {
 fn end_goal(
     alloc: Global,
     table: &mut TermTable,
-    shared: &mut Option<Node>,
+    shared: &mut Option<FactBase>,
     asking: &Asking<'_>,
     goal: &Formula,
     at: u64,
@@ -197,7 +197,7 @@ pub(crate) fn end_run(
 fn end_run_at(
     alloc: Global,
     table: &mut TermTable,
-    shared: &mut Option<Node>,
+    shared: &mut Option<FactBase>,
     asking: &Asking<'_>,
     first: u64,
     run: &[Formula],

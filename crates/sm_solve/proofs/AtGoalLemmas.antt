@@ -17,7 +17,7 @@ use Rattle.sm_term.specs.TableLaws.{AddsTerms}
 use Rattle.sm_cc.specs.BaseClasses.{IsLedBy, AreAllGiven}
 use Rattle.sm_pairs.specs.Longer.{IsLonger}
 use Rattle.sm_cc.specs.Views.{ClassesValue}
-use Rattle.sm_solve.specs.declared.node.Node.{Node}
+use Rattle.sm_solve.specs.declared.fact_base.FactBase.{FactBase}
 use Rattle.sm_list.specs.declared.shared.SharedTerms.{SharedTerms}
 use Rattle.sm_solve.specs.declared.inconsistent.Inconsistent.{Inconsistent}
 use Rattle.sm_judge.specs.AllForms.{AreAllForms}
@@ -31,7 +31,7 @@ use Rattle.sm_list.specs.Parts.{all_numbered, assertions_in, AreFormulasWithin}
 use Rattle.sm_list.specs.Renumbered.{AreTermsOf}
 use Rattle.sm_list.specs.Shared.{AreShared, with_those_before}
 use Rattle.sm_solve.specs.Naming.{AreNamed}
-use Rattle.sm_solve.specs.Sharing.{IsNode, room_for_goal}
+use Rattle.sm_solve.specs.Sharing.{IsFactBase, room_for_goal}
 use Rattle.sm_solve.specs.Inconsistent.{IsInconsistent}
 use Rattle.sm_solve.proofs.GroundingLemmas.{as_many}
 use Rattle.sm_judge.proofs.LinearsLemmas.{first_forms}
@@ -63,7 +63,7 @@ record AreStill (sorts : Sorts) (given : List Assertion) (own : List Tree) (fs :
   are : assertions_in sorts own (all_numbered fs) ≡ room_for_goal given
   within : AreFormulasWithin (length own) (all_numbered fs)
 
-module _ (old new : TableValue) (given : List Assertion) (n m : Node) (form : Assertion) (is : IsNode old given n) (grows : AddsTerms old new)
+module _ (old new : TableValue) (given : List Assertion) (n m : FactBase) (form : Assertion) (is : IsFactBase old given n) (grows : AddsTerms old new)
     (shared : AreShared new (with_those_before (with_formula form (with_formulas (room_for_goal given) []))) m.terms)
     (forms : AreAllForms (trees_in m.terms.own) m.forms.items) (later : (ls : List (Linear ℕ)) × (m.forms.items ≡ n.forms.items ++ ls)) where
   abbrev first : List Tree
@@ -241,7 +241,7 @@ pub count_of : (ids : List TermId) (n : ℕ) → numbers_of ids ≡ range_with_l
 count_of ids n e = sym (length-map ids (λ (t : TermId). t.0)) ∙ ap length e ∙ length_range 0 n
 
 -- the classes of a goal begin with those of the node's facts
-pub led_with : (table : TableValue) (given : List Assertion) (form : Assertion) (n : Node) → IsAtGoal table given form n →
+pub led_with : (table : TableValue) (given : List Assertion) (form : Assertion) (n : FactBase) → IsAtGoal table given form n →
     (v : ClassesValue) × IsFrom v n.base × (v.given ≡ given_from 0 (facts_without given n))
     × ((ids : List TermId) → numbers_of ids ≡ range_with_len 0 (length (trees_in n.terms.own)) →
     IsLedBy v (classes_by n.terms.own ids n.facts.items))
@@ -285,21 +285,21 @@ led_with table given form n at =
 
 -- at a goal, the node's base is made of classes with which those of all terms of the node's table,
 -- by the node's facts, begin
-pub led : (table : TableValue) (given : List Assertion) (form : Assertion) (n : Node) → IsAtGoal table given form n →
+pub led : (table : TableValue) (given : List Assertion) (form : Assertion) (n : FactBase) → IsAtGoal table given form n →
     (v : ClassesValue) × IsFrom v n.base
     × ((ids : List TermId) → numbers_of ids ≡ range_with_len 0 (length (trees_in n.terms.own)) →
     IsLedBy v (classes_by n.terms.own ids n.facts.items))
 led table given form n at = let l = led_with table given form n at in (l.0, l.1, l.3)
 
 -- as many facts of a node stand at a goal
-pub room_kept : (table : TableValue) (given : List Assertion) (form : Assertion) (n : Node) → IsAtGoal table given form n →
+pub room_kept : (table : TableValue) (given : List Assertion) (form : Assertion) (n : FactBase) → IsAtGoal table given form n →
     length (take (length (room_for_goal given)) n.facts.items) ≡ length (room_for_goal given)
 room_kept table given form n at =
     sym (length-set (take (length (room_for_goal given)) n.facts.items) n.place tree.Yes)
     ∙ as_many (sorts_in table) (with_formulas (room_for_goal given) []) (facts_without given n) ∙ ap length at.without.0
 
 -- nothing but what the base is numbered by is another
-pub renumbered_goal : (table : TableValue) (given : List Assertion) (form : Assertion) (n m : Node) → m.terms ≡ n.terms → m.forms ≡ n.forms →
+pub renumbered_goal : (table : TableValue) (given : List Assertion) (form : Assertion) (n m : FactBase) → m.terms ≡ n.terms → m.forms ≡ n.forms →
     m.facts.items ≡ n.facts.items → m.place ≡ n.place → m.inconsistent ≡ n.inconsistent → ((v : ClassesValue) → IsFrom v n.base → IsFrom v m.base) →
     IsAtGoal table given form n → IsAtGoal table given form m
 renumbered_goal table given form n m terms forms facts place same_inconsistent later at =
@@ -350,11 +350,11 @@ renumbered_goal table given form n m terms forms facts place same_inconsistent l
     }
 
 -- the contrary of a goal is taken out of its place
-pub closed : (table : TableValue) (given : List Assertion) (form : Assertion) (n m : Node) → IsAtGoal table given form n →
+pub closed : (table : TableValue) (given : List Assertion) (form : Assertion) (n m : FactBase) → IsAtGoal table given form n →
     AreShared table (with_formulas (room_for_goal given) []) m.terms →
     m.forms.items ≡ take (length (with_formulas (room_for_goal given) [])) n.forms.items → m.facts.items ≡ facts_without given n →
     m.place ≡ n.place →
-    m.base ≡ n.base → m.inconsistent ≡ n.inconsistent → IsNode table given m
+    m.base ≡ n.base → m.inconsistent ≡ n.inconsistent → IsFactBase table given m
 closed table given form n m at shared forms facts place same_base same_inconsistent =
     let first = with_formulas (room_for_goal given) [] in
     let g = at.grounded in
@@ -388,7 +388,7 @@ closed table given form n m at shared forms facts place same_base same_inconsist
     }
 
 -- all facts of a goal are sorted
-pub goal_sorted : (table : TableValue) (given : List Assertion) (form : Assertion) (n : Node) → IsAtGoal table given form n →
+pub goal_sorted : (table : TableValue) (given : List Assertion) (form : Assertion) (n : FactBase) → IsAtGoal table given form n →
     AreFormsSorted (sorts_in n.terms.own) (assertions_in (sorts_in n.terms.own) (trees_in n.terms.own) (all_numbered n.facts.items))
 goal_sorted table given form n at =
     let all = sorted_with (sorts_in table) (given ++ form ∷ []) (sorted_last (sorts_in table) given form at.sorted at.contrary_sorted) in
@@ -400,7 +400,7 @@ goal_sorted table given form n at =
     sorted_last sorts fs f h k = sorted-append sorts fs (f ∷ []) h (k, tt)
 
 -- its terms are those of its facts with the contrary
-pub goal_named : (table : TableValue) (given : List Assertion) (form : Assertion) (n : Node) → IsAtGoal table given form n →
+pub goal_named : (table : TableValue) (given : List Assertion) (form : Assertion) (n : FactBase) → IsAtGoal table given form n →
     AreNamed (trees_in n.terms.own) (assertions_in (sorts_in n.terms.own) (trees_in n.terms.own) (all_numbered n.facts.items))
 goal_named table given form n at =
     let all = ap (λ (s : Sorts). assertions_in s (trees_in n.terms.own) (all_numbered n.facts.items)) at.shared.sorts ∙ at.facts in
@@ -408,7 +408,7 @@ goal_named table given form n at =
     (at.shared.own ∙ at.terms ∙ ap terms_of (sym all))
 
 -- there is room for a goal among the facts
-pub room_below : (table : TableValue) (given : List Assertion) (n : Node) → IsNode table given n → n.place < length n.facts.items
+pub room_below : (table : TableValue) (given : List Assertion) (n : FactBase) → IsFactBase table given n → n.place < length n.facts.items
 room_below table given n is =
     let yes = always_there (sorts_in table) (trees_in n.terms.own) given n.facts.items is.facts in
     let long = place_there n.facts.items (length given) tree.Yes yes in
@@ -416,17 +416,17 @@ room_below table given n is =
     omega (arith, long, here)
 
 -- what has room has no parts where the place of a goal isn't the last
-pub flat_there : (n : Node) (form : Assertion) → HasRoom n form → (length n.facts.items ≡ n.place + 1 → ⊥) → depth_of form ≡ 0
+pub flat_there : (n : FactBase) (form : Assertion) → HasRoom n form → (length n.facts.items ≡ n.place + 1 → ⊥) → depth_of form ≡ 0
 flat_there n form (inl flat) other = flat
 flat_there n form (inr last) other = absurd (other last)
 
 -- as many facts as there is room for
-pub room_counted : (table : TableValue) (given : List Assertion) (n : Node) → IsNode table given n →
+pub room_counted : (table : TableValue) (given : List Assertion) (n : FactBase) → IsFactBase table given n →
     length (room_for_goal given) ≡ length n.facts.items
 room_counted table given n is = sym (as_many (sorts_in table) (trees_in n.terms.own) n.facts.items ∙ ap length is.facts)
 
 -- the place of a goal is among the facts that are left
-pub place_left : (given : List Assertion) (n : Node) (count : ℕ) (left : List Formula) → left ≡ take count n.facts.items →
+pub place_left : (given : List Assertion) (n : FactBase) (count : ℕ) (left : List Formula) → left ≡ take count n.facts.items →
     length (room_for_goal given) ≡ count → n.place < length (facts_without given n) → n.place < length left
 place_left given n count left cut many there =
     let same = length-set (take (length (room_for_goal given)) n.facts.items) n.place tree.Yes in
@@ -434,7 +434,7 @@ place_left given n count left cut many there =
     omega (arith, there, same, kept)
 
 -- the terms of the facts are the first
-pub first_fits : (table : TableValue) (given : List Assertion) (form : Assertion) (n : Node) → IsAtGoal table given form n →
+pub first_fits : (table : TableValue) (given : List Assertion) (form : Assertion) (n : FactBase) → IsAtGoal table given form n →
     length (with_formulas (room_for_goal given) []) ≤ length (trees_in n.terms.own)
 first_fits table given form n at =
     let first = with_formulas (room_for_goal given) [] in
@@ -446,7 +446,7 @@ pub first_closed : (given : List Assertion) → IsClosed (with_formulas (room_fo
 first_closed given = closed_with_formulas (room_for_goal given) [] closed_none
 
 -- the numbers that the terms have in the other table
-pub terms_of_goal : (table : TableValue) (given : List Assertion) (form : Assertion) (n : Node) → IsAtGoal table given form n →
+pub terms_of_goal : (table : TableValue) (given : List Assertion) (form : Assertion) (n : FactBase) → IsAtGoal table given form n →
     (ids : List TermId) → numbers_of ids ≡ n.terms.listed → AreTermsOf (trees_in table) ids (trees_in n.terms.own)
 terms_of_goal table given form n at ids same = record {
   trees_are = ap (trees_at (trees_in table)) same ∙ at.shared.listed ∙ sym at.shared.own;

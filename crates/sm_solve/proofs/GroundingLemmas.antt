@@ -12,7 +12,7 @@ use Rattle.sm_term.specs.Formulas as number
 use Rattle.sm_term.specs.Formulas.{NumberedFormula, numbered, assertion_in}
 use Rattle.sm_term.specs.Sorted.{AreFormsSorted}
 use Rattle.sm_term.specs.Tables.{TableValue, trees_in, sorts_in}
-use Rattle.sm_solve.specs.declared.node.Node.{Node}
+use Rattle.sm_solve.specs.declared.fact_base.FactBase.{FactBase}
 use Rattle.sm_solve.specs.declared.inconsistent.Inconsistent.{Inconsistent}
 use Rattle.sm_judge.specs.AllForms.{AreAllForms}
 use Rattle.sm_certify.specs.Bases.{IsFrom}
@@ -22,7 +22,7 @@ use Rattle.sm_certify.specs.Given.{IsWhole, classes_by}
 use Rattle.sm_terms.specs.Listing.{numbers_of}
 use Rattle.sm_list.specs.Parts.{all_numbered, assertions_in, AreFormulasWithin}
 use Rattle.sm_list.specs.Shared.{AreShared}
-use Rattle.sm_solve.specs.Sharing.{IsNode, room_for_goal}
+use Rattle.sm_solve.specs.Sharing.{IsFactBase, room_for_goal}
 use Rattle.sm_solve.specs.Inconsistent.{IsInconsistent}
 use Rattle.sm_solve.proofs.NodeLemmas.{unread}
 use Rattle.sm_list.proofs.PartsLemmas.{within-append}
@@ -57,14 +57,14 @@ pub as_many : (sorts : Sorts) (trees : List Tree) (facts : List Formula) →
 as_many sorts trees facts = sym (length-map (all_numbered facts) (assertion_in sorts trees) ∙ length-map facts numbered)
 
 -- facts over a table of their own, in which no more terms stand than they name, with their classes
-pub node_of : (table new : TableValue) (given first second : List Assertion) (n : Node) → sorts_in new ≡ sorts_in table →
+pub node_of : (table new : TableValue) (given first second : List Assertion) (n : FactBase) → sorts_in new ≡ sorts_in table →
     first ≡ room_for_goal given → second ≡ room_for_goal given → AreShared new (terms_of second) n.terms →
     AreAllForms (trees_in n.terms.own) n.forms.items → length (trees_in n.terms.own) ≡ length (with_formulas first []) →
     assertions_in (sorts_in table) (trees_in n.terms.own) (all_numbered n.facts.items) ≡ second →
     AreFormulasWithin (length (trees_in n.terms.own)) (all_numbered n.facts.items) → n.place ≡ length given →
     AreFormsSorted (sorts_in table) given → (ids : List TermId) → IsWhole (trees_in n.terms.own) ids →
     numbers_of ids ≡ range_with_len 0 (length (trees_in n.terms.own)) →
-    IsFrom (classes_by n.terms.own ids n.facts.items) n.base → n.inconsistent ≡ None → IsNode new given n
+    IsFrom (classes_by n.terms.own ids n.facts.items) n.base → n.inconsistent ≡ None → IsFactBase new given n
 node_of table new given first second n sorts one two shared forms count facts within place sorted ids whole counted ground none_inconsistent =
     let own = trees_in n.terms.own in
     let room = room_for_goal given in

@@ -23,7 +23,7 @@ use Rattle.sm_cert.specs.Views.{certificate_in, lines_of, AreLinesWithin}
 use Rattle.sm_cc.specs.BaseClasses.{IsLedBy}
 use Rattle.sm_cc.specs.Views.{ClassesValue}
 use Rattle.sm_pairs.specs.Longer.{IsLonger}
-use Rattle.sm_solve.specs.declared.node.Node.{Node}
+use Rattle.sm_solve.specs.declared.fact_base.FactBase.{FactBase}
 use Rattle.sm_judge.specs.AllForms.{AreAllForms}
 use Rattle.sm_solve.specs.AtGoal.{IsAtGoal}
 use Rattle.sm_certify.specs.Bases.{IsFrom}
@@ -38,7 +38,7 @@ use Rattle.sm_list.specs.Parts.{all_numbered, assertions_in, AreFormulasWithin}
 use Rattle.sm_list.specs.Renumbered.{AreTermsOf}
 use Rattle.sm_list.specs.Shared.{AreShared}
 use Rattle.sm_solve.specs.Naming.{AreNamed}
-use Rattle.sm_solve.specs.Sharing.{IsNode, room_for_goal}
+use Rattle.sm_solve.specs.Sharing.{IsFactBase, room_for_goal}
 use Rattle.sm_solve.specs.Inconsistent.{IsInconsistent, IsBelow}
 use Rattle.sm_solve.specs.Walking.{ClosesIn}
 use Rattle.sm_judge.specs.Forms.{Walked, Closes, by_forms, forms_of}
@@ -56,7 +56,7 @@ use Rattle.sm_solve.proofs.SortedLemmas.{sorted-append, sorted_with}
 use Rattle.sm_solve.proofs.WalkingLemmas.{closed_told, open_told}
 
 -- the classes of a node are those of its facts
-pub node_led : (table : TableValue) (given : List Assertion) (n : Node) → IsNode table given n →
+pub node_led : (table : TableValue) (given : List Assertion) (n : FactBase) → IsFactBase table given n →
     (v : ClassesValue) × IsFrom v n.base
     × ((ids : List TermId) → numbers_of ids ≡ range_with_len 0 (length (trees_in n.terms.own)) →
     IsLedBy v (classes_by n.terms.own ids n.facts.items))
@@ -80,7 +80,7 @@ node_led table given n is =
     )
 
 -- all facts of a node are sorted
-pub node_sorted : (table : TableValue) (given : List Assertion) (n : Node) → IsNode table given n →
+pub node_sorted : (table : TableValue) (given : List Assertion) (n : FactBase) → IsFactBase table given n →
     AreFormsSorted (sorts_in n.terms.own) (assertions_in (sorts_in n.terms.own) (trees_in n.terms.own) (all_numbered n.facts.items))
 node_sorted table given n is =
     let all = sorted_with (sorts_in table) (given ++ Yes ∷ []) (sorted-append (sorts_in table) given (Yes ∷ []) is.sorted (tt, tt)) in
@@ -88,7 +88,7 @@ node_sorted table given n is =
     (subst (AreFormsSorted (sorts_in table)) (sym is.facts) all)
 
 -- its terms are those of its facts
-pub node_named : (table : TableValue) (given : List Assertion) (n : Node) → IsNode table given n →
+pub node_named : (table : TableValue) (given : List Assertion) (n : FactBase) → IsFactBase table given n →
     AreNamed (trees_in n.terms.own) (assertions_in (sorts_in n.terms.own) (trees_in n.terms.own) (all_numbered n.facts.items))
 node_named table given n is =
     let all = ap (λ (s : Sorts). assertions_in s (trees_in n.terms.own) (all_numbered n.facts.items)) is.shared.sorts ∙ is.facts in
@@ -96,9 +96,9 @@ node_named table given n is =
     (is.shared.own ∙ sym is.unread ∙ ap terms_of (sym all))
 
 -- what is found of the facts of a node is noted
-pub node_inconsistent : (table : TableValue) (given : List Assertion) (n m : Node) → m.terms ≡ n.terms → m.forms ≡ n.forms → m.facts ≡ n.facts →
+pub node_inconsistent : (table : TableValue) (given : List Assertion) (n m : FactBase) → m.terms ≡ n.terms → m.forms ≡ n.forms → m.facts ≡ n.facts →
     m.place ≡ n.place → ((v : ClassesValue) → IsFrom v n.base → IsFrom v m.base) →
-    IfSome m.inconsistent (IsInconsistent (sorts_in n.terms.own) (trees_in n.terms.own) (given ++ Yes ∷ [])) → IsNode table given n → IsNode table given m
+    IfSome m.inconsistent (IsInconsistent (sorts_in n.terms.own) (trees_in n.terms.own) (given ++ Yes ∷ [])) → IsFactBase table given n → IsFactBase table given m
 node_inconsistent table given n m terms forms facts place later told is =
     let first = with_formulas (room_for_goal given) [] in
     let one = subst (λ (s : Sorts). IfSome m.inconsistent (IsInconsistent s (trees_in n.terms.own) (given ++ Yes ∷ []))) is.shared.sorts told in
@@ -107,7 +107,7 @@ node_inconsistent table given n m terms forms facts place later told is =
     inconsistent_with terms forms facts place two
   where
     inconsistent_with : m.terms ≡ n.terms → m.forms ≡ n.forms → m.facts ≡ n.facts → m.place ≡ n.place →
-        IfSome m.inconsistent (IsInconsistent (sorts_in table) (with_formulas (room_for_goal given) []) (given ++ Yes ∷ [])) → IsNode table given m
+        IfSome m.inconsistent (IsInconsistent (sorts_in table) (with_formulas (room_for_goal given) []) (given ++ Yes ∷ [])) → IsFactBase table given m
     inconsistent_with terms forms facts place two =
         let g = is.grounded in
         let own = ap (λ s. s.own) terms in
@@ -141,7 +141,7 @@ node_inconsistent table given n m terms forms facts place later told is =
         }
 
 -- the branch of a goal has the terms and the facts of its node
-pub goal_below : (table : TableValue) (given : List Assertion) (form : Assertion) (n : Node) → IsAtGoal table given form n →
+pub goal_below : (table : TableValue) (given : List Assertion) (form : Assertion) (n : FactBase) → IsAtGoal table given form n →
     (sorts : Sorts) → sorts ≡ sorts_in table →
     IsBelow (with_formulas (room_for_goal given) []) (trees_in n.terms.own) (with_parts (given ++ Yes ∷ []))
     (assertions_in sorts (trees_in n.terms.own) (all_numbered n.facts.items))

@@ -9,12 +9,12 @@ use Rattle.sm_term.specs.Tables.{TableValue, trees_in, sorts_in}
 use Rattle.sm_term.specs.TableLaws.{AreApart, AddsTerms}
 use Rattle.sm_term.specs.Terms.{Tree}
 use Rattle.sm_term.proofs.FormsLemmas.{assertion-more}
-use Rattle.sm_solve.specs.declared.node.Node.{Node}
+use Rattle.sm_solve.specs.declared.fact_base.FactBase.{FactBase}
 use Rattle.sm_list.specs.declared.shared.SharedTerms.{SharedTerms}
 use Rattle.sm_theory.specs.TermsOfFormulas.{with_formulas}
 use Rattle.sm_list.specs.Parts.{all_numbered, assertions_in, AreFormulasWithin}
 use Rattle.sm_list.specs.Shared.{AreShared}
-use Rattle.sm_solve.specs.Sharing.{IsNode, room_for_goal}
+use Rattle.sm_solve.specs.Sharing.{IsFactBase, room_for_goal}
 use Rattle.sm_solve.specs.Inconsistent.{IsInconsistent}
 use Rattle.sm_terms.proofs.ListingLemmas.{below_grown, same_grown}
 use Rattle.sm_list.proofs.OwnLemmas.{facts_grown}
@@ -40,8 +40,8 @@ shared_grown old new terms s grows apart is =
     }
 
 -- a node of a table is still one of a table that has got more
-pub node_grown : (old new : TableValue) (given : List Assertion) (n : Node) → AddsTerms old new → AreApart (trees_in new) →
-    IsNode old given n → IsNode new given n
+pub node_grown : (old new : TableValue) (given : List Assertion) (n : FactBase) → AddsTerms old new → AreApart (trees_in new) →
+    IsFactBase old given n → IsFactBase new given n
 node_grown old new given n grows apart is = record {
   shared = shared_grown old new (with_formulas (room_for_goal given) []) n.terms grows apart is.shared;
   forms = is.forms;

@@ -8,7 +8,7 @@ use Rattle.sm_term.specs.Assertions.{Assertion, Yes}
 use Rattle.sm_term.specs.Sorted.{AreFormsSorted, IsFormSorted}
 use Rattle.sm_term.specs.Terms.{Tree}
 use Rattle.sm_term.specs.Tables.{TableValue, trees_in, sorts_in, codes_in}
-use Rattle.sm_solve.specs.declared.node.Node.{Node}
+use Rattle.sm_solve.specs.declared.fact_base.FactBase.{FactBase}
 use Rattle.sm_judge.specs.AllForms.{AreAllForms}
 use Rattle.sm_certify.specs.Bases.{IsFrom}
 use Rattle.sm_theory.specs.TermsOfFormulas.{with_formulas}
@@ -22,16 +22,16 @@ use Rattle.sm_solve.specs.Inconsistent.{IsInconsistent}
 
 -- the contrary of a goal can stand in its place with no fact at another: it has no parts, or none of
 -- a fact stand behind that place
-abbrev pub HasRoom : Node → Assertion → Type 0
+abbrev pub HasRoom : FactBase → Assertion → Type 0
 HasRoom n contrary = (depth_of contrary ≡ 0) ⊎ (length n.facts.items ≡ n.place + 1)
 
 -- the facts of a node without the contrary of a goal and its parts
-abbrev pub facts_without : List Assertion → Node → List Formula
+abbrev pub facts_without : List Assertion → FactBase → List Formula
 facts_without given n =
     slice_set (take (length (room_for_goal given)) n.facts.items) n.place tree.Yes
 
 -- the classes of these facts, by the numbers of a table of their terms alone
-pub record AreGroundedBelow (own : TableValue) (given : List Assertion) (n : Node) : Type 0 where
+pub record AreGroundedBelow (own : TableValue) (given : List Assertion) (n : FactBase) : Type 0 where
   pub table : TableValue
   pub sorts : sorts_in own ≡ sorts_in table
   pub codes : codes_in own ≡ codes_in table
@@ -42,7 +42,7 @@ pub record AreGroundedBelow (own : TableValue) (given : List Assertion) (n : Nod
   pub ground : IsFrom (classes_by table ids (facts_without given n)) n.base
 
 -- a node has these facts and the contrary of a goal
-pub record IsAtGoal (table : TableValue) (given : List Assertion) (contrary : Assertion) (n : Node)
+pub record IsAtGoal (table : TableValue) (given : List Assertion) (contrary : Assertion) (n : FactBase)
     : Type 0 where
   pub more : List Tree
   pub shared : AreShared table (with_formulas (room_for_goal given) [] ++ more) n.terms

@@ -5,7 +5,7 @@ use Rattle.sm_term.specs.declared.term.TermId.{TermId}
 use Rattle.sm_term.specs.Assertions.{Assertion, Yes}
 use Rattle.sm_term.specs.Sorted.{AreFormsSorted}
 use Rattle.sm_term.specs.Tables.{TableValue, trees_in, sorts_in, codes_in}
-use Rattle.sm_solve.specs.declared.node.Node.{Node}
+use Rattle.sm_solve.specs.declared.fact_base.FactBase.{FactBase}
 use Rattle.sm_judge.specs.AllForms.{AreAllForms}
 use Rattle.sm_certify.specs.Bases.{IsFrom}
 use Rattle.sm_theory.specs.TermsOfFormulas.{with_formulas}
@@ -22,7 +22,7 @@ abbrev pub room_for_goal : List Assertion → List Assertion
 room_for_goal given = with_parts (given ++ Yes ∷ [])
 
 -- the classes of the facts of a node, by the numbers of a table of their terms
-pub record AreGrounded (own : TableValue) (n : Node) : Type 0 where
+pub record AreGrounded (own : TableValue) (n : FactBase) : Type 0 where
   pub table : TableValue
   pub sorts : sorts_in own ≡ sorts_in table
   pub codes : codes_in own ≡ codes_in table
@@ -33,7 +33,7 @@ pub record AreGrounded (own : TableValue) (n : Node) : Type 0 where
   pub ground : IsFrom (classes_by table ids n.facts.items) n.base
 
 -- a node has these facts; no element that they read was written before
-pub record IsNode (table : TableValue) (given : List Assertion) (n : Node) : Type 0 where
+pub record IsFactBase (table : TableValue) (given : List Assertion) (n : FactBase) : Type 0 where
   pub shared : AreShared table (with_formulas (room_for_goal given) []) n.terms
   pub forms : AreAllForms (trees_in n.terms.own) n.forms.items
   pub unread : terms_of (room_for_goal given) ≡ with_formulas (room_for_goal given) []

@@ -11,16 +11,16 @@ ghost use Rattle.sm_term.specs.TableLaws.{AddsTerms};
 ghost use Rattle.sm_solve.specs.AtGoal.{IsAtGoal, HasRoom};
 ghost use Rattle.sm_theory.specs.TermsOfFormulas.{with_formulas};
 ghost use Rattle.sm_list.specs.Branches.{with_parts, terms_of};
-ghost use Rattle.sm_solve.specs.Sharing.{IsNode, room_for_goal};
+ghost use Rattle.sm_solve.specs.Sharing.{IsFactBase, room_for_goal};
 ghost use Rattle.sm_solve.specs.GoalEnds.{TellsGoal, ShowsGoal};
 ghost use Rattle.sm_judge.specs.Forms.{Closes};
 ghost use Rattle.sm_solve.specs.Walk.{walk, walk_from};
 ghost use Rattle.sm_solve.specs.Walking.{ClosesIn, TellsEnd, ShowsEnd};
 
 use crate::ending::WalkEnd;
+use crate::fact_base::{FactBase, is_conjunction};
 use crate::first::walk_over;
 use crate::goal_end::GoalEnd;
-use crate::node::{Node, is_conjunction};
 use crate::reach::Reach;
 use crate::still_inconsistent::{GoalBranch, inconsistent_tree};
 use sm_cert::CertTree;
@@ -29,11 +29,11 @@ use sm_list::add_parts;
 use sm_term::{Formula, TermTable};
 use std::alloc::{AllocError, Global};
 
-impl Node {
+impl FactBase {
     /// Whether the contrary of a goal can stand in its place with no fact at another: it has no
     /// parts, or none of a fact stand behind that place.
     pub(crate) fn has_room(&self, contrary: &Formula) -> bool
-        requires { (table : TableValue) × (given : List Assertion) × IsNode table given self.now }
+        requires { (table : TableValue) × (given : List Assertion) × IsFactBase table given self.now }
         ensures { result ≡ true → (sorts : Sorts) (trees : List Tree) →
             HasRoom self.now (assertion_in sorts trees (numbered contrary.now)) }
     {
@@ -53,10 +53,10 @@ impl Node {
             (assertion_in (sorts_in table.old) (trees_in table.old) (numbered contrary.now)) }
         requires room { HasRoom self.old
             (assertion_in (sorts_in table.old) (trees_in table.old) (numbered contrary.now)) }
-        requires node { (given : List Assertion) × IsNode table.old given self.old }
+        requires node { (given : List Assertion) × IsFactBase table.old given self.old }
         ensures goal { let form = assertion_in (sorts_in table.old) (trees_in table.old)
             (numbered contrary.now) in
-            (given : List Assertion) → IsNode table.old given self.old →
+            (given : List Assertion) → IsFactBase table.old given self.old →
             OnOk result (IsAtGoal table.new given form self.new) }
         ensures grows { AddsTerms table.old table.new }
     {
@@ -166,7 +166,7 @@ impl Node {
             × (length (with_formulas (room_for_goal given) []) ≡ len) }
         ensures { (table : TableValue) (given : List Assertion) (contrary : Assertion) →
             IsAtGoal table given contrary self.old → length (room_for_goal given) ≡ count →
-            length (with_formulas (room_for_goal given) []) ≡ len → IsNode table given self.new }
+            length (with_formulas (room_for_goal given) []) ≡ len → IsFactBase table given self.new }
     {
         self.facts.truncate(count);
         self.facts[self.place] = Formula::Yes;

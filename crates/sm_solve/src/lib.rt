@@ -11,7 +11,7 @@
 //! - The walk goes over a table of the branch's own terms, where the number of each is its place in
 //!   their list; certificates and formulas get the numbers of the caller's table at the end
 //!   (`sm_list`).
-//! - `Node` is made of the facts of several obligations, once: the table of their terms, and their
+//! - `FactBase` is made of the facts of several obligations, once: the table of their terms, and their
 //!   classes. `solve_at` answers an obligation of these facts as `solve` does, and makes anew only
 //!   what its goal adds. All branches of such a walk begin with these classes (`Base` of `sm_certify`);
 //!   those of a walk of its own begin with those of its first branch, where that is split.
@@ -25,12 +25,12 @@ mod branching;
 mod context;
 mod deciding;
 mod ending;
+mod fact_base;
 mod first;
 mod goal_end;
 mod goals;
 mod grounding;
 mod inconsistent;
-mod node;
 mod reach;
 mod reading;
 mod same_forms;
@@ -40,7 +40,7 @@ mod still_inconsistent;
 mod visiting;
 mod walking;
 
-pub use node::Node;
+pub use fact_base::FactBase;
 pub use reach::Reach;
 pub use sharing::solve_at;
 pub use solving::{Answer, Leaf, solve};

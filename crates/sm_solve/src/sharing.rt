@@ -6,10 +6,10 @@ ghost use Rattle.sm_term.specs.Tables.{trees_in, sorts_in};
 ghost use Rattle.sm_term.specs.TableLaws.{AddsTerms};
 ghost use Rattle.sm_solve.specs.Answers.{Tells, Certifies, terms_walked, NamesOnly};
 ghost use Rattle.sm_list.specs.Parts.{all_numbered, assertions_in, AreFormulasWithin};
-ghost use Rattle.sm_solve.specs.Sharing.{IsNode};
+ghost use Rattle.sm_solve.specs.Sharing.{IsFactBase};
 ghost use Rattle.sm_solve.specs.Walk.{walk};
 
-use crate::node::Node;
+use crate::fact_base::FactBase;
 use crate::reach::Reach;
 use crate::solving::{Answer, solve};
 use sm_term::{Formula, TermTable};
@@ -20,7 +20,7 @@ use std::alloc::{AllocError, Global};
 pub fn solve_at(
     alloc: Global,
     table: &mut TermTable,
-    node: &mut Option<Node>,
+    node: &mut Option<FactBase>,
     facts: &[Formula],
     target: &Formula,
     reach: Reach,
@@ -33,7 +33,7 @@ pub fn solve_at(
         (assertion_in (sorts_in table.old) (trees_in table.old) (numbered target.now)) }
     requires node { let given = assertions_in (sorts_in table.old) (trees_in table.old)
         (all_numbered facts.now) in
-        IfSome node.old (IsNode table.old given) }
+        IfSome node.old (IsFactBase table.old given) }
     ensures answer { let sorts = sorts_in table.old in let trees = trees_in table.old in
         let given = assertions_in sorts trees (all_numbered facts.now) in
         let goal = assertion_in sorts trees (numbered target.now) in
@@ -48,7 +48,7 @@ pub fn solve_at(
         IfOk result (NamesOnly (terms_walked given goal) (trees_in table.new)) }
     ensures node { let given = assertions_in (sorts_in table.old) (trees_in table.old)
         (all_numbered facts.now) in
-        IfOk result (λ a. IfSome node.new (IsNode table.new given)) }
+        IfOk result (λ a. IfSome node.new (IsFactBase table.new given)) }
     ensures grows { AddsTerms table.old table.new }
     ensures err { OnErr result (trees_in table.new ≡ trees_in table.old) }
 {
@@ -66,7 +66,7 @@ pub fn solve_at(
 fn answered_at(
     alloc: Global,
     table: &mut TermTable,
-    node: &mut Option<Node>,
+    node: &mut Option<FactBase>,
     facts: &[Formula],
     target: &Formula,
     reach: Reach,
@@ -79,7 +79,7 @@ fn answered_at(
         (assertion_in (sorts_in table.old) (trees_in table.old) (numbered target.now)) }
     requires node { let given = assertions_in (sorts_in table.old) (trees_in table.old)
         (all_numbered facts.now) in
-        IfSome node.old (IsNode table.old given) }
+        IfSome node.old (IsFactBase table.old given) }
     ensures answer { let sorts = sorts_in table.old in let trees = trees_in table.old in
         let given = assertions_in sorts trees (all_numbered facts.now) in
         let goal = assertion_in sorts trees (numbered target.now) in
@@ -94,7 +94,7 @@ fn answered_at(
         IfOk result (NamesOnly (terms_walked given goal) (trees_in table.new)) }
     ensures node { let given = assertions_in (sorts_in table.old) (trees_in table.old)
         (all_numbered facts.now) in
-        IfOk result (λ a. IfSome node.new (IsNode table.new given)) }
+        IfOk result (λ a. IfSome node.new (IsFactBase table.new given)) }
     ensures grows { AddsTerms table.old table.new }
 {
     match node {
@@ -107,7 +107,7 @@ fn answered_at(
 fn solve_shared(
     alloc: Global,
     table: &mut TermTable,
-    node: &mut Node,
+    node: &mut FactBase,
     facts: &[Formula],
     target: &Formula,
     reach: Reach,
@@ -118,7 +118,7 @@ fn solve_shared(
         (assertions_in (sorts_in table.old) (trees_in table.old) (all_numbered facts.now)) }
     requires target_sorted { IsFormSorted (sorts_in table.old)
         (assertion_in (sorts_in table.old) (trees_in table.old) (numbered target.now)) }
-    requires node { IsNode table.old (assertions_in (sorts_in table.old) (trees_in table.old)
+    requires node { IsFactBase table.old (assertions_in (sorts_in table.old) (trees_in table.old)
         (all_numbered facts.now)) node.old }
     ensures answer { let sorts = sorts_in table.old in let trees = trees_in table.old in
         let given = assertions_in sorts trees (all_numbered facts.now) in
@@ -134,7 +134,7 @@ fn solve_shared(
         IfOk result (NamesOnly (terms_walked given goal) (trees_in table.new)) }
     ensures node { let given = assertions_in (sorts_in table.old) (trees_in table.old)
         (all_numbered facts.now) in
-        IfOk result (λ a. IsNode table.new given node.new) }
+        IfOk result (λ a. IsFactBase table.new given node.new) }
     ensures grows { AddsTerms table.old table.new }
 {
     match node.solve(alloc, table, target, reach)? {

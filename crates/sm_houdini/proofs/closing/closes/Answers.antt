@@ -6,7 +6,7 @@ use Rattle.sm_term.specs.Formulas.{numbered, assertion_in}
 use Rattle.sm_term.specs.Sorted.{AreFormsSorted}
 use Rattle.sm_term.specs.Tables.{trees_in, sorts_in}
 use Rattle.sm_list.specs.Parts.{all_numbered, assertions_in, AreFormulasWithin}
-use Rattle.sm_solve.specs.Sharing.{IsNode}
+use Rattle.sm_solve.specs.Sharing.{IsFactBase}
 use Rattle.sm_solve.specs.Walk.{walk}
 use Rattle.sm_houdini.specs.Closing.{closing}
 use Rattle.sm_goals.proofs.FormsLemmas.{forms_within, forms_same, forms_sorted}
@@ -28,7 +28,7 @@ solve_at-requires-clause-facts_sorted c =
 pub solve_at-requires-clause-node : goal.solve_at-requires-clause-node
 solve_at-requires-clause-node c =
     let v = c.args.table.now in
-    subst (λ (fs : List Formula). IfSome c.args.node.now (IsNode v (assertions_in (sorts_in v) (trees_in v) (all_numbered fs))))
+    subst (λ (fs : List Formula). IfSome c.args.node.now (IsFactBase v (assertions_in (sorts_in v) (trees_in v) (all_numbered fs))))
     (sym c.deref.ensures.value) c.requires.node
 
 pub returns-clause-closes : goal.returns-clause-closes

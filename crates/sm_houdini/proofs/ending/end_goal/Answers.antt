@@ -5,7 +5,7 @@ use Rattle.sm_term.specs.Sorted.{AreFormsSorted}
 use Rattle.sm_term.specs.Tables.{trees_in, sorts_in}
 use Rattle.sm_plan.proofs.TablesWiden.{widens_grown}
 use Rattle.sm_list.specs.Parts.{all_numbered, assertions_in, AreFormulasWithin}
-use Rattle.sm_solve.specs.Sharing.{IsNode}
+use Rattle.sm_solve.specs.Sharing.{IsFactBase}
 use Rattle.sm_goals.proofs.FormsLemmas.{forms_within, forms_sorted}
 use Rattle.sm_goals.proofs.NodesLemmas.{node_over}
 use Rattle.sm_houdini.proofs.EndLemmas.{goal_ends, goal_stopped}
@@ -26,7 +26,7 @@ solve_at-requires-clause-facts_sorted c =
 pub solve_at-requires-clause-node : goal.solve_at-requires-clause-node
 solve_at-requires-clause-node c =
     let v = c.args.table.now in
-    subst (λ (fs : List Formula). IfSome c.args.shared.now (IsNode v (assertions_in (sorts_in v) (trees_in v) (all_numbered fs))))
+    subst (λ (fs : List Formula). IfSome c.args.shared.now (IsFactBase v (assertions_in (sorts_in v) (trees_in v) (all_numbered fs))))
     (sym c.deref.ensures.value) c.requires.shared
 
 pub returns-in_ok-put-in-Ok-clause-shared : goal.returns-in_ok-put-in-Ok-clause-shared

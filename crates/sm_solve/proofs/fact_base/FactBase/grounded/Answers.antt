@@ -17,7 +17,7 @@ use Rattle.sm_certify.specs.Given.{IsWhole, classes_by}
 use Rattle.sm_terms.specs.Listing.{numbers_of}
 use Rattle.sm_list.specs.Parts.{all_numbered, assertions_in, AreFormulasWithin}
 use Rattle.sm_solve.proofs.GroundingLemmas.{room_sorted, as_many, node_of}
-use Rattle.sm_solve.proofs.node.Node.grounded.Goals as goal
+use Rattle.sm_solve.proofs.fact_base.FactBase.grounded.Goals as goal
 
 abbrev Found : Type 0
 Found = Vec (Linear ℕ) Global × Base

@@ -8,7 +8,7 @@ use Rattle.sm_theory.specs.TermsOfFormulas.{with_formulas}
 use Rattle.sm_solve.specs.Sharing.{room_for_goal}
 use Rattle.sm_solve.proofs.AtGoalLemmas.{opened, opened_last, room_below, flat_there}
 use Rattle.sm_solve.proofs.NodeLemmas.{added_behind}
-use Rattle.sm_solve.proofs.node.Node.open_goal.Goals as goal
+use Rattle.sm_solve.proofs.fact_base.FactBase.open_goal.Goals as goal
 
 pub add_linear_forms-requires : goal.add_linear_forms-requires
 add_linear_forms-requires c =

@@ -11,7 +11,7 @@ use Rattle.sm_judge.specs.Forms.{Walked}
 use Rattle.sm_solve.specs.Walk.{walk_from}
 use Rattle.sm_solve.specs.Walking.{TellsEnd, ShowsEnd}
 use Rattle.sm_solve.proofs.AtGoalLemmas.{led, goal_sorted, goal_named, renumbered_goal}
-use Rattle.sm_solve.proofs.node.Node.walk_goal.Goals as goal
+use Rattle.sm_solve.proofs.fact_base.FactBase.walk_goal.Goals as goal
 
 pub walk_over-requires-clause-within : goal.walk_over-requires-clause-within
 walk_over-requires-clause-within c = c.requires.3.within

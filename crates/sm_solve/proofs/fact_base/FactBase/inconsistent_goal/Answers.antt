@@ -21,7 +21,7 @@ use Rattle.sm_solve.specs.Walk.{walk_from}
 use Rattle.sm_solve.specs.Walking.{ClosesIn}
 use Rattle.sm_solve.proofs.AtGoalLemmas.{led_with, goal_sorted, renumbered_goal, room_kept}
 use Rattle.sm_solve.proofs.InconsistentLemmas.{goal_below, on_ok_from, front_fits}
-use Rattle.sm_solve.proofs.node.Node.inconsistent_goal.Goals as goal
+use Rattle.sm_solve.proofs.fact_base.FactBase.inconsistent_goal.Goals as goal
 
 pub inconsistent_tree-requires-clause-within : goal.inconsistent_tree-requires-clause-within
 inconsistent_tree-requires-clause-within c =

@@ -11,7 +11,7 @@ use Rattle.sm_list.specs.Parts.{all_numbered, assertions_in}
 use Rattle.sm_solve.specs.Naming.{AreNamed}
 use Rattle.sm_solve.specs.Sharing.{room_for_goal}
 use Rattle.sm_solve.proofs.InconsistentLemmas.{node_led, node_named, node_sorted, node_inconsistent}
-use Rattle.sm_solve.proofs.node.with_inconsistent.Goals as goal
+use Rattle.sm_solve.proofs.fact_base.with_inconsistent.Goals as goal
 
 pub inconsistent_of-requires-clause-sorted : goal.inconsistent_of-requires-clause-sorted
 inconsistent_of-requires-clause-sorted c =

@@ -11,7 +11,7 @@ ghost use Rattle.sm_term.specs.TableLaws.{AddsTerms};
 ghost use Rattle.sm_solve.specs.Answers.{Tells, Certifies, terms_walked, NamesOnly};
 ghost use Rattle.sm_list.specs.Branches.{depth_of};
 ghost use Rattle.sm_list.specs.Parts.{all_numbered, assertions_in, AreFormulasWithin};
-ghost use Rattle.sm_solve.specs.Sharing.{IsNode};
+ghost use Rattle.sm_solve.specs.Sharing.{IsFactBase};
 ghost use Rattle.sm_solve.specs.Walk.{walk};
 
 use crate::goal_end::renumbered_goal_end;
@@ -27,7 +27,7 @@ use std::alloc::{AllocError, Global};
 
 /// Facts whose terms and classes are found once for all goals.
 #[derive(Drop)]
-pub struct Node {
+pub struct FactBase {
     pub(crate) terms: SharedTerms,
     // the linear forms of the terms in the table of their own
     pub(crate) forms: Vec<LinForm>,
@@ -41,7 +41,7 @@ pub struct Node {
     pub(crate) inconsistent: Option<Inconsistent>,
 }
 
-impl Node {
+impl FactBase {
     /// The facts of a node; none where an element that they read was written before, and what it
     /// was then isn't among their terms. Whether they can't hold together is looked for within so
     /// many steps. Without a node, and after want of memory, the table is as it was.
@@ -50,19 +50,19 @@ impl Node {
         table: &mut TermTable,
         facts: &[Formula],
         steps: u64,
-    ) -> Result<Option<Node>, AllocError>
+    ) -> Result<Option<FactBase>, AllocError>
         requires within { AreFormulasWithin (length (trees_in table.old)) (all_numbered facts.now) }
         requires sorted { AreFormsSorted (sorts_in table.old)
             (assertions_in (sorts_in table.old) (trees_in table.old) (all_numbered facts.now)) }
         ensures node { let given = assertions_in (sorts_in table.old) (trees_in table.old)
             (all_numbered facts.now) in
-            IfOk result (λ o. IfSome o (IsNode table.new given)) }
+            IfOk result (λ o. IfSome o (IsFactBase table.new given)) }
         ensures grows { AddsTerms table.old table.new }
         ensures none { IfOk result (λ o. IfNone o (trees_in table.new ≡ trees_in table.old)) }
         ensures err { OnErr result (trees_in table.new ≡ trees_in table.old) }
     {
         let len = table.len();
-        match Node::made(alloc, table, facts, steps) {
+        match FactBase::made(alloc, table, facts, steps) {
             Ok(Some(node)) => Ok(Some(node)),
             Ok(None) => {
                 table.cut(len);
@@ -81,16 +81,16 @@ impl Node {
         table: &mut TermTable,
         facts: &[Formula],
         steps: u64,
-    ) -> Result<Option<Node>, AllocError>
+    ) -> Result<Option<FactBase>, AllocError>
         requires within { AreFormulasWithin (length (trees_in table.old)) (all_numbered facts.now) }
         requires sorted { AreFormsSorted (sorts_in table.old)
             (assertions_in (sorts_in table.old) (trees_in table.old) (all_numbered facts.now)) }
         ensures node { let given = assertions_in (sorts_in table.old) (trees_in table.old)
             (all_numbered facts.now) in
-            IfOk result (λ o. IfSome o (IsNode table.new given)) }
+            IfOk result (λ o. IfSome o (IsFactBase table.new given)) }
         ensures grows { AddsTerms table.old table.new }
     {
-        match Node::grounded(alloc, table, facts)? {
+        match FactBase::grounded(alloc, table, facts)? {
             Some(node) => {
                 let whole = with_inconsistent(alloc, node, steps)?;
                 Ok(Some(whole))
@@ -104,20 +104,20 @@ impl Node {
         alloc: Global,
         table: &mut TermTable,
         facts: &[Formula],
-    ) -> Result<Option<Node>, AllocError>
+    ) -> Result<Option<FactBase>, AllocError>
         requires within { AreFormulasWithin (length (trees_in table.old)) (all_numbered facts.now) }
         requires sorted { AreFormsSorted (sorts_in table.old)
             (assertions_in (sorts_in table.old) (trees_in table.old) (all_numbered facts.now)) }
         ensures node { let given = assertions_in (sorts_in table.old) (trees_in table.old)
             (all_numbered facts.now) in
-            IfOk result (λ o. IfSome o (IsNode table.new given)) }
+            IfOk result (λ o. IfSome o (IsFactBase table.new given)) }
         ensures grows { AddsTerms table.old table.new }
     {
         let all = with_room(alloc, facts)?;
         let count = count_named(alloc, table, &all)?;
         let shared = shared_facts(alloc, table, &all)?;
         match facts_base(alloc, &shared.terms.own, &shared.facts, count)? {
-            Some((forms, base)) => Ok(Some(Node {
+            Some((forms, base)) => Ok(Some(FactBase {
                 terms: shared.terms,
                 forms,
                 facts: shared.facts,
@@ -142,24 +142,24 @@ impl Node {
         requires within { IsFormulaWithin (length (trees_in table.old)) (numbered target.now) }
         requires sorted { IsFormSorted (sorts_in table.old)
             (assertion_in (sorts_in table.old) (trees_in table.old) (numbered target.now)) }
-        requires node { (given : List Assertion) × IsNode table.old given self.old }
+        requires node { (given : List Assertion) × IsFactBase table.old given self.old }
         ensures answer { let sorts = sorts_in table.old in
             let goal = assertion_in sorts (trees_in table.old) (numbered target.now) in
-            (given : List Assertion) → IsNode table.old given self.old →
+            (given : List Assertion) → IsFactBase table.old given self.old →
             IfOk result (λ o. IfSome o (λ a.
             Tells sorts (trees_in table.new) a (walk sorts reach given goal))) }
         ensures certifies { let sorts = sorts_in table.old in
             let goal = assertion_in sorts (trees_in table.old) (numbered target.now) in
-            (given : List Assertion) → IsNode table.old given self.old →
+            (given : List Assertion) → IsFactBase table.old given self.old →
             IfOk result (λ o. IfSome o (λ a.
             Certifies sorts (trees_in table.new) given goal a)) }
         ensures names { let sorts = sorts_in table.old in
             let goal = assertion_in sorts (trees_in table.old) (numbered target.now) in
-            (given : List Assertion) → IsNode table.old given self.old →
+            (given : List Assertion) → IsFactBase table.old given self.old →
             IfOk result (λ o. IfSome o
             (NamesOnly (terms_walked given goal) (trees_in table.new))) }
-        ensures stays { (given : List Assertion) → IsNode table.old given self.old →
-            IfOk result (λ o. IsNode table.new given self.new) }
+        ensures stays { (given : List Assertion) → IsFactBase table.old given self.old →
+            IfOk result (λ o. IsFactBase table.new given self.new) }
         ensures grows { AddsTerms table.old table.new }
     {
         let contrary = negate(alloc, target)?;
@@ -178,8 +178,8 @@ impl Node {
 
     // A node over a table that has got more terms.
     pub(crate) fn stays(&self, table: &TermTable)
-        ensures { (old : TableValue) (given : List Assertion) → IsNode old given self.now →
-            AddsTerms old table.now → IsNode table.now given self.now }
+        ensures { (old : TableValue) (given : List Assertion) → IsFactBase old given self.now →
+            AddsTerms old table.now → IsFactBase table.now given self.now }
     {
         // No term is there twice.
         table.len();
@@ -188,10 +188,10 @@ impl Node {
 
 // The node with whether its facts can't hold together, as the visit of their branch finds within so
 // many steps.
-fn with_inconsistent(alloc: Global, node: Node, steps: u64) -> Result<Node, AllocError>
-    requires { (table : TableValue) × (given : List Assertion) × IsNode table given node }
-    ensures { (table : TableValue) (given : List Assertion) → IsNode table given node →
-        IfOk result (IsNode table given) }
+fn with_inconsistent(alloc: Global, node: FactBase, steps: u64) -> Result<FactBase, AllocError>
+    requires { (table : TableValue) × (given : List Assertion) × IsFactBase table given node }
+    ensures { (table : TableValue) (given : List Assertion) → IsFactBase table given node →
+        IfOk result (IsFactBase table given) }
 {
     let mut node = node;
     let inconsistent = inconsistent_of(

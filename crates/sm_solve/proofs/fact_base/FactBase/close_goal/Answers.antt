@@ -5,7 +5,7 @@ use Rattle.sm_term.specs.declared.formula.Formula.TheVariants as tree
 use Rattle.sm_theory.specs.TermsOfFormulas.{with_formulas}
 use Rattle.sm_solve.specs.Sharing.{room_for_goal}
 use Rattle.sm_solve.proofs.AtGoalLemmas.{closed, first_fits, first_closed, place_left}
-use Rattle.sm_solve.proofs.node.Node.close_goal.Goals as goal
+use Rattle.sm_solve.proofs.fact_base.FactBase.close_goal.Goals as goal
 
 pub index_mut-requires : goal.index_mut-requires
 index_mut-requires c =

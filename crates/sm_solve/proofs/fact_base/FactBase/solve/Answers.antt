@@ -14,7 +14,7 @@ use Rattle.sm_solve.specs.Walking.{Shows}
 use Rattle.sm_solve.proofs.AtGoalLemmas.{terms_of_goal, room_counted}
 use Rattle.sm_solve.proofs.SolvingLemmas.{within_contrary, shows_certify}
 use Rattle.sm_solve.proofs.SortedLemmas.{sorted_contrary}
-use Rattle.sm_solve.proofs.node.Node.solve.Goals as goal
+use Rattle.sm_solve.proofs.fact_base.FactBase.solve.Goals as goal
 
 pub open_goal-requires-clause-within : goal.open_goal-requires-clause-within
 open_goal-requires-clause-within c =

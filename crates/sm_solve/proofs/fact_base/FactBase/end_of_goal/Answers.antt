@@ -6,7 +6,7 @@ use Rattle.sm_list.specs.Branches.{with_parts, terms_of}
 use Rattle.sm_judge.specs.Forms.{Closes}
 use Rattle.sm_solve.specs.Walk.{walk_from}
 use Rattle.sm_solve.specs.Walking.{ClosesIn}
-use Rattle.sm_solve.proofs.node.Node.end_of_goal.Goals as goal
+use Rattle.sm_solve.proofs.fact_base.FactBase.end_of_goal.Goals as goal
 
 pub returns-in-Some-clause-tells : goal.returns-in-Some-clause-tells
 returns-in-Some-clause-tells c = λ table given contrary at.
