@@ -23,10 +23,12 @@ use Rattle.sm_expand.specs.Opens.{OpensAs}
 use Rattle.sm_expand.proofs.PairsLemmas.{counted, plan_is}
 use Rattle.sm_expand.proofs.PlansWiden.{plans_stay}
 use Rattle.sm_write.specs.PlanStates.{plan_states, plans_states, states_opened}
-use Rattle.sm_audit.specs.declared.noting.Waiting.{Waiting}
+use Rattle.sm_expand.specs.declared.placed.PlacedState.{PlacedState}
 use Rattle.sm_audit.specs.Since.{AreNamedFrom, AreSince}
-use Rattle.sm_audit.specs.Walks.{AllStandFor, AreWaitingReady, IsUnderway, StandsFor, Waits, each_waits, states_left, waits_with}
-use Rattle.sm_audit.proofs.OpenedLemmas.{opened_stand, plans_of}
+use Rattle.sm_audit.specs.Walks.{AllStandFor, IsUnderway, StandsFor, Waits, each_waits, states_left}
+use Rattle.sm_expand.specs.PlacedStates.{ArePlacedReady, placed_with}
+use Rattle.sm_audit.proofs.OpenedLemmas.{opened_stand}
+use Rattle.sm_expand.proofs.PlacedLemmas.{plans_of}
 use Rattle.sm_audit.proofs.SinceLemmas.{store_named}
 use Rattle.sm_audit.proofs.WaitsStay.{all_stay, since_stays}
 
@@ -68,9 +70,9 @@ drop_rest [] (suc k) x ys e = absurd cc
 drop_rest (y ∷ xs) zero x ys e = let rest : xs ≡ ys = cc in rest
 drop_rest (y ∷ xs) (suc k) x ys e = drop_rest xs k x ys e
 
-module _ (states : List State) (v w : TableValue) (wider : ExtendsTable v w) (k : ℕ) (since after : List (Option ℕ)) (x : Waiting)
-    (xs : List Waiting) (o : Opened × Vec Cursor Global) (good : AreTreesSorted (sorts_in v) (trees_in v))
-    (ready : AreWaitingReady v (x ∷ xs)) (opens : OpensAs v w k x.state x.cursor o)
+module _ (states : List State) (v w : TableValue) (wider : ExtendsTable v w) (k : ℕ) (since after : List (Option ℕ)) (x : PlacedState)
+    (xs : List PlacedState) (o : Opened × Vec Cursor Global) (good : AreTreesSorted (sorts_in v) (trees_in v))
+    (ready : ArePlacedReady v (x ∷ xs)) (opens : OpensAs v w k x.state x.cursor o)
     (noted : AreSince (sorts_in v) states (trees_in v) since →
     ((c : Copy) → AreNamedFrom (sorts_in v) states (trees_in v) k (of_copy x.state.stores c).list.items) →
     AreSince (sorts_in v) states (trees_in v) after) where
@@ -82,7 +84,7 @@ module _ (states : List State) (v w : TableValue) (wider : ExtendsTable v w) (k 
 
   -- where a state stands first
   after_node : (y : Waits) (ys : List Waits) → StandsFor v y x → AllStandFor v ys xs → drop k states ≡ states_left k (y ∷ ys) →
-      AreSince (sorts_in v) states (trees_in v) since → IsUnderway states w (k + 1) after (waits_with o.0.states.items o.1.items ++ xs)
+      AreSince (sorts_in v) states (trees_in v) since → IsUnderway states w (k + 1) after (placed_with o.0.states.items o.1.items ++ xs)
   after_node y ys stand others left before =
       let p = numbered_at x.cursor in
       let st = state_in (sorts_in v) (trees_in v) stand.facts x.state in
@@ -114,16 +116,16 @@ module _ (states : List State) (v w : TableValue) (wider : ExtendsTable v w) (k 
       }
 
   -- after a node
-  pub underway_next : IsUnderway states v k since (x ∷ xs) → IsUnderway states w (k + 1) after (waits_with o.0.states.items o.1.items ++ xs)
+  pub underway_next : IsUnderway states v k since (x ∷ xs) → IsUnderway states w (k + 1) after (placed_with o.0.states.items o.1.items ++ xs)
   underway_next u = of u.waits u.stand u.left
     where
       of : (ws : List Waits) → AllStandFor v ws (x ∷ xs) → drop k states ≡ states_left k ws →
-          IsUnderway states w (k + 1) after (waits_with o.0.states.items o.1.items ++ xs)
+          IsUnderway states w (k + 1) after (placed_with o.0.states.items o.1.items ++ xs)
       of [] stand left = absurd stand
       of (y ∷ ys) stand left = after_node y ys stand.0 stand.1 left u.since_then
 
 -- before the first
-pub starts_underway : (v : TableValue) (since : List (Option ℕ)) (x : Waiting) (facts : List Assertion) (states : List State) →
+pub starts_underway : (v : TableValue) (since : List (Option ℕ)) (x : PlacedState) (facts : List Assertion) (states : List State) →
     AreSince (sorts_in v) states (trees_in v) since →
     states ≡ plan_states 0 (state_in (sorts_in v) (trees_in v) facts x.state) (plan_over (sorts_in v) (trees_in v) (numbered_at x.cursor)) →
     IsUnderway states v 0 since (x ∷ [])

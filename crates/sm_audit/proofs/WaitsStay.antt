@@ -9,9 +9,10 @@ use Rattle.sm_expand.specs.Cursors.{numbered_at}
 use Rattle.sm_expand.proofs.PlansWiden.{plan_stays, plan_ready}
 use Rattle.sm_write.specs.Nameable.{Nameable}
 use Rattle.sm_write.specs.Writable.{states_until}
-use Rattle.sm_audit.specs.declared.noting.Waiting.{Waiting}
+use Rattle.sm_expand.specs.declared.placed.PlacedState.{PlacedState}
 use Rattle.sm_audit.specs.Since.{entry_of, IsNamedFrom, AreSince}
-use Rattle.sm_audit.specs.Walks.{Waits, StandsFor, AllStandFor, IsWaitingReady, AreWaitingReady}
+use Rattle.sm_audit.specs.Walks.{Waits, StandsFor, AllStandFor}
+use Rattle.sm_expand.specs.PlacedStates.{IsPlacedReady, ArePlacedReady}
 
 module _ (v w : TableValue) (wider : ExtendsTable v w) where
   -- entries
@@ -27,26 +28,26 @@ module _ (v w : TableValue) (wider : ExtendsTable v w) where
       )
 
   -- what waits
-  one_stays : (y : Waits) (x : Waiting) → IsWaitingReady v x → StandsFor v y x → StandsFor w y x
+  one_stays : (y : Waits) (x : PlacedState) → IsPlacedReady v x → StandsFor v y x → StandsFor w y x
   one_stays y x ready stand = record {
     facts = stand.facts;
     state = stand.state ∙ sym (state_stays v w wider stand.facts x.state ready.state);
     plan = stand.plan ∙ sym (plan_stays v w wider (numbered_at x.cursor) ready.plan);
   }
 
-  pub all_stay : (ys : List Waits) (xs : List Waiting) → AreWaitingReady v xs → AllStandFor v ys xs → AllStandFor w ys xs
+  pub all_stay : (ys : List Waits) (xs : List PlacedState) → ArePlacedReady v xs → AllStandFor v ys xs → AllStandFor w ys xs
   all_stay [] [] ready stand = tt
   all_stay [] (x ∷ xs) ready stand = absurd stand
   all_stay (y ∷ ys) [] ready stand = absurd stand
   all_stay (y ∷ ys) (x ∷ xs) ready stand = (one_stays y x ready.0 stand.0, all_stay ys xs ready.1 stand.1)
 
   -- what can be gone on from can be gone on from in a wider table
-  one_ready : (x : Waiting) → IsWaitingReady v x → IsWaitingReady w x
+  one_ready : (x : PlacedState) → IsPlacedReady v x → IsPlacedReady w x
   one_ready x ready = record {
     state = state_ready v w wider x.state ready.state;
     plan = plan_ready v w wider (numbered_at x.cursor) ready.plan;
   }
 
-  pub all_ready : (xs : List Waiting) → AreWaitingReady v xs → AreWaitingReady w xs
+  pub all_ready : (xs : List PlacedState) → ArePlacedReady v xs → ArePlacedReady w xs
   all_ready [] ready = tt
   all_ready (x ∷ xs) ready = (one_ready x ready.0, all_ready xs ready.1)

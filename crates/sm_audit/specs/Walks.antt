@@ -14,9 +14,8 @@ use Rattle.sm_plan.specs.Views.{node_in, state_in}
 use Rattle.sm_expand.specs.declared.cursor.Cursor.{Cursor}
 use Rattle.sm_expand.specs.Cursors.{numbered_at}
 use Rattle.sm_expand.specs.NumberedPlans.{plan_over, IsPlanReady}
-use Rattle.sm_expand.specs.Walks.{size_of}
 use Rattle.sm_write.specs.PlanStates.{plan_states}
-use Rattle.sm_audit.specs.declared.noting.Waiting.{Waiting}
+use Rattle.sm_expand.specs.declared.placed.PlacedState.{PlacedState}
 use Rattle.sm_audit.specs.Since.{AreSince}
 
 -- a state with the plan for it
@@ -37,53 +36,32 @@ states_left k (w ∷ ws) = plan_states k w.state w.plan ++ states_left (k + size
 
 -- a state of the program with a place in its plan stands for one with a plan, where it has some
 -- facts
-pub record StandsFor (v : TableValue) (w : Waits) (x : Waiting) : Type 0 where
+pub record StandsFor (v : TableValue) (w : Waits) (x : PlacedState) : Type 0 where
   pub facts : List Assertion
   pub state : w.state ≡ state_in (sorts_in v) (trees_in v) facts x.state
   pub plan : w.plan ≡ plan_over (sorts_in v) (trees_in v) (numbered_at x.cursor)
 
 -- states of the program with places in their plans stand for those with plans, one by one
-abbrev pub AllStandFor : TableValue → List Waits → List Waiting → Type 0
+abbrev pub AllStandFor : TableValue → List Waits → List PlacedState → Type 0
 AllStandFor v [] [] = Unit {0}
 AllStandFor v [] (x ∷ xs) = ⊥
 AllStandFor v (w ∷ ws) [] = ⊥
 AllStandFor v (w ∷ ws) (x ∷ xs) = StandsFor v w x × AllStandFor v ws xs
 
--- a state that waits can be gone on from
-pub record IsWaitingReady (v : TableValue) (x : Waiting) : Type 0 where
-  pub state : IsStateReady (sorts_in v) (trees_in v) x.state
-  pub plan : IsPlanReady (sorts_in v) (trees_in v) (numbered_at x.cursor)
-
--- each state that waits can be gone on from
-abbrev pub AreWaitingReady : TableValue → List Waiting → Type 0
-AreWaitingReady v [] = Unit {0}
-AreWaitingReady v (x ∷ xs) = IsWaitingReady v x × AreWaitingReady v xs
-
--- how many nodes the states that wait have before them
-abbrev pub weight : List Waiting → ℕ
-weight [] = 0
-weight (x ∷ xs) = size_of (numbered_at x.cursor) + weight xs
-
--- states that follow a node, each with its place in the plan
-abbrev pub waits_with : List Successor → List Cursor → List Waiting
-waits_with [] cs = []
-waits_with (s ∷ ss) [] = []
-waits_with (s ∷ ss) (c ∷ cs) = record { state = s.state; cursor = c } ∷ waits_with ss cs
-
 -- the nodes of what waits
-abbrev pub nodes_left : Sorts → List Tree → List Waiting → List Node
+abbrev pub nodes_left : Sorts → List Tree → List PlacedState → List Node
 nodes_left sorts trees [] = []
 nodes_left sorts trees (x ∷ xs) =
     nodes_of (plan_over sorts trees (numbered_at x.cursor)) ++ nodes_left sorts trees xs
 
 -- the nodes that were met, and then those of what waits
-abbrev pub nodes_with : Sorts → List Tree → List NodeRow → List Waiting → List Node
+abbrev pub nodes_with : Sorts → List Tree → List NodeRow → List PlacedState → List Node
 nodes_with sorts trees rows xs = map (node_in sorts trees) rows ++ nodes_left sorts trees xs
 
 -- of the states of a plan's nodes the first k were met, and those of what waits are left; the
 -- entries tell what can be named
 pub record IsUnderway (states : List State) (v : TableValue) (k : ℕ) (since : List (Option ℕ))
-    (xs : List Waiting) : Type 0 where
+    (xs : List PlacedState) : Type 0 where
   pub since_then : AreSince (sorts_in v) states (trees_in v) since
   pub waits : List Waits
   pub stand : AllStandFor v waits xs

@@ -12,24 +12,17 @@ ghost use Rattle.sm_plan.specs.Views.{node_in};
 ghost use Rattle.sm_expand.specs.Cursors.{numbered_at};
 ghost use Rattle.sm_expand.specs.NumberedPlans.{plan_over};
 ghost use Rattle.sm_audit.specs.Since.{AreNamedFrom, AreSince, IsPut};
-ghost use Rattle.sm_audit.specs.Walks.{AreWaitingReady, IsUnderway, IsWaitingReady, nodes_with};
-ghost use Rattle.sm_audit.specs.Walks.{waits_with, weight};
+ghost use Rattle.sm_audit.specs.Walks.{IsUnderway, nodes_with};
+ghost use Rattle.sm_expand.specs.PlacedStates.{ArePlacedReady, IsPlacedReady};
+ghost use Rattle.sm_expand.specs.PlacedStates.{weight};
 
 use crate::entries::{entry, put};
 use crate::refusal::Refusal;
-use sm_expand::{Cursor, open_at, row_at};
-use sm_plan::{NodeRow, Successor, SymState};
+use sm_expand::{PlacedState, open_at, put_states, row_at};
+use sm_plan::NodeRow;
 use sm_syntax::PerCopy;
 use sm_term::{SymStore, TermId, TermTable};
-use std::alloc::{AllocError, Global};
-
-// A state that waits for its node, with the place of that node in the plan. Its facts aren't kept:
-// what they compare is built of what stands in stores.
-#[derive(Drop)]
-pub(crate) struct Waiting<'a, 'p> {
-    pub(crate) state: SymState<'a>,
-    pub(crate) cursor: Cursor<'p>,
-}
+use std::alloc::Global;
 
 // Makes a node the entry of a term that has none.
 fn note_term(since: &mut Vec<Option<u64>>, t: TermId, node: u64)
@@ -66,29 +59,6 @@ fn note_stores(since: &mut Vec<Option<u64>>, stores: &PerCopy<SymStore>, node: u
     note_terms(since, stores.candidate.list.as_slice(), node);
 }
 
-// Puts states with the places for them behind what waits, the first the last.
-fn put_states<'a, 'p>(
-    waiting: &mut Vec<Waiting<'a, 'p>>,
-    states: Vec<Successor<'a>>,
-    cursors: Vec<Cursor<'p>>,
-) -> Result<(), AllocError>
-    requires { length states.items ≡ length cursors.items }
-    ensures { OnOk result (reverse waiting.new.items
-        ≡ waits_with states.entry.items cursors.entry.items ++ reverse waiting.old.items) }
-{
-    let mut left = states;
-    let mut places = cursors;
-    while let Some(next) = left.pop() {
-        if let Some(cursor) = places.pop() {
-            waiting.push(Waiting {
-                state: next.state,
-                cursor,
-            })?;
-        }
-    }
-    Ok(())
-}
-
 // Takes the node for a state that waited: what stands in the state's stores is noted, the node's row
 // is put behind those that were met, and the states that it opens wait.
 fn note_node<'a, 'p>(
@@ -96,10 +66,10 @@ fn note_node<'a, 'p>(
     table: &mut TermTable,
     since: &mut Vec<Option<u64>>,
     rows: &mut Vec<NodeRow<'p>>,
-    waiting: &mut Vec<Waiting<'a, 'p>>,
-    next: Waiting<'a, 'p>,
+    waiting: &mut Vec<PlacedState<'a, 'p>>,
+    next: PlacedState<'a, 'p>,
 ) -> Result<(), Refusal>
-    requires { AreWaitingReady table.old (next ∷ reverse waiting.old.items) }
+    requires { ArePlacedReady table.old (next ∷ reverse waiting.old.items) }
     ensures rows { (sorts : Sorts) (trees : List Tree) → OnOk result
         (nodes_with sorts trees rows.new.items (reverse waiting.new.items)
         ≡ nodes_with sorts trees rows.old.items (next.entry ∷ reverse waiting.old.items)) }
@@ -108,7 +78,7 @@ fn note_node<'a, 'p>(
         (next.entry ∷ reverse waiting.old.items) → OnOk result
         (IsUnderway states table.new (length rows.new.items) since.new.items
         (reverse waiting.new.items)) }
-    ensures ready { OnOk result (AreWaitingReady table.new (reverse waiting.new.items)) }
+    ensures ready { OnOk result (ArePlacedReady table.new (reverse waiting.new.items)) }
 
     // A node fewer waits.
     ensures fewer { OnOk result (weight (reverse waiting.new.items)
@@ -135,9 +105,9 @@ pub(crate) fn note_nodes<'p>(
     alloc: Global,
     table: &mut TermTable,
     since: &mut Vec<Option<u64>>,
-    first: Waiting<'_, 'p>,
+    first: PlacedState<'_, 'p>,
 ) -> Result<Vec<NodeRow<'p>>, Refusal>
-    requires { IsWaitingReady table.old first }
+    requires { IsPlacedReady table.old first }
     ensures rows { (sorts : Sorts) (trees : List Tree) → IfOk result (λ rows.
         map (node_in sorts trees) rows.items
         ≡ nodes_of (plan_over sorts trees (numbered_at first.entry.cursor))) }

@@ -19,10 +19,10 @@ ghost use Rattle.sm_write.specs.PlanStates.{plan_states};
 ghost use Rattle.sm_audit.specs.Since.{AreSince};
 
 use crate::entries::no_entries;
-use crate::noting::{Waiting, note_nodes};
+use crate::noting::note_nodes;
 use crate::refusal::Refusal;
 use crate::spreading::spread;
-use sm_expand::{Plan, start_of};
+use sm_expand::{PlacedState, Plan, start_of};
 use sm_plan::{NodeRow, start_state};
 use sm_syntax::{Block, PerCopy};
 use sm_task::Task;
@@ -60,7 +60,7 @@ pub(crate) fn walk<'p>(
         programs,
     )?;
     let mut since = no_entries(alloc, table.len())?;
-    let first = Waiting {
+    let first = PlacedState {
         state,
         cursor: start_of(plan),
     };

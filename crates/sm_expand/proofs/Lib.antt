@@ -8,3 +8,4 @@ pub mod RowsLemmas
 pub mod WholeLemmas
 pub mod NodeOpened
 pub mod PlainPlans
+pub mod PlacedLemmas

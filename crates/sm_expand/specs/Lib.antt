@@ -4,3 +4,4 @@ pub mod Tasks
 pub mod Cursors
 pub mod Opens
 pub mod Walks
+pub mod PlacedStates

@@ -6,7 +6,7 @@
 //!   the number of the first node whose rule fails, with the rule. Want of memory alone is free.
 //! - A table of terms only widens, so that numbers of terms stay.
 //! - `start_of`, `row_at` and `open_at` walk over a plan node by node, for what does something else
-//!   with its nodes.
+//!   with its nodes; `put_states` keeps the states that wait for theirs.
 //!
 //! A plan is a tree: the fields of its last node are the plans for the states that follow. The
 //! definition is `obligations` of `sm_plan/specs/Plans.antt`. Read `specs/NumberedPlans.antt`
@@ -19,6 +19,7 @@ mod due;
 mod expanding;
 mod fault;
 mod nodes;
+mod placed;
 mod plan;
 mod walk;
 
@@ -27,4 +28,5 @@ pub use due::{Due, Obligations};
 pub use expanding::expand;
 pub use fault::PlanFault;
 pub use nodes::open_at;
+pub use placed::{PlacedState, put_states};
 pub use plan::{Last, Plan, Plans, Simple, Simples};

@@ -10,18 +10,18 @@ use Rattle.sm_expand.specs.declared.cursor.Cursor.{Cursor}
 use Rattle.sm_expand.specs.NumberedPlans.{NumberedPlan, At, NumberedPlans, Over, More, plan_over, plans_over, below, list_of}
 use Rattle.sm_expand.specs.NumberedPlans.{IsPlanReady, ArePlansReady}
 use Rattle.sm_expand.specs.Cursors.{numbered_at}
-use Rattle.sm_expand.specs.Walks.{size_of, sizes_of}
-use Rattle.sm_write.specs.declared.plans.Waiting.{Waiting}
-use Rattle.sm_write.specs.Underway.{AllStandFor, AreWaitingReady, weight, waits_with}
+use Rattle.sm_expand.specs.declared.placed.PlacedState.{PlacedState}
+use Rattle.sm_write.specs.Underway.{AllStandFor}
+use Rattle.sm_expand.specs.PlacedStates.{ArePlacedReady, weight, placed_with}
 use Rattle.sm_write.specs.Waiting.{Waits, each_waits}
 
 module _ (v : TableValue) where
   -- each stands for its own, before others
   pub opened_stand : (above : ℕ) (facts : List Assertion) (ss : List Successor) (cs : List Cursor) (ps : NumberedPlans) (ys : List Waits)
-      (xs : List Waiting) → length ss ≡ length cs → map numbered_at cs ≡ list_of ps → AllStandFor v ys xs →
+      (xs : List PlacedState) → length ss ≡ length cs → map numbered_at cs ≡ list_of ps → AllStandFor v ys xs →
       AllStandFor v
       (each_waits above (map (successor_in (sorts_in v) (trees_in v) facts) ss) (plans_over (sorts_in v) (trees_in v) ps) ++ ys)
-      (waits_with ss cs ++ xs)
+      (placed_with ss cs ++ xs)
   opened_stand above facts [] cs ps ys xs h e stand = stand
   opened_stand above facts (s ∷ ss) [] ps ys xs h e stand = absurd cc
   opened_stand above facts (s ∷ ss) (c ∷ cs) Over ys xs h e stand = absurd cc
@@ -37,89 +37,3 @@ module _ (v : TableValue) where
         },
         opened_stand above facts ss cs ps ys xs fewer others stand,
       )
-
-  -- what a node opens can be gone on from, before others that can
-  pub opened_ready : (ss : List Successor) (cs : List Cursor) (ps : NumberedPlans) (xs : List Waiting) → length ss ≡ length cs →
-      map numbered_at cs ≡ list_of ps → AreSuccessorsReady (sorts_in v) (trees_in v) ss → ArePlansReady (sorts_in v) (trees_in v) ps →
-      AreWaitingReady v xs → AreWaitingReady v (waits_with ss cs ++ xs)
-  opened_ready [] cs ps xs h e ready plans all = all
-  opened_ready (s ∷ ss) [] ps xs h e ready plans all = absurd cc
-  opened_ready (s ∷ ss) (c ∷ cs) Over xs h e ready plans all = absurd cc
-  opened_ready (s ∷ ss) (c ∷ cs) (More p ps) xs h e ready plans all =
-      let fewer : length ss ≡ length cs = omega arith in
-      let one : numbered_at c ≡ p = cc in
-      let others : map numbered_at cs ≡ list_of ps = cc in (
-        record {
-          state = ready.0.state;
-          plan = subst (IsPlanReady (sorts_in v) (trees_in v)) (sym one) plans.0;
-        },
-        opened_ready ss cs ps xs fewer others ready.1 plans.1 all,
-      )
-
--- the plans below a plan that is ready
-pub plans_of : (v : TableValue) (n : NumberedPlan) → IsPlanReady (sorts_in v) (trees_in v) n →
-    ArePlansReady (sorts_in v) (trees_in v) (below n)
-plans_of v (At m ps) r = r.1
-
--- how many nodes wait
-heavier : (xs ys : List Waiting) → weight (xs ++ ys) ≡ weight xs + weight ys
-heavier [] ys = let e : weight ys ≡ 0 + weight ys = omega arith in e
-heavier (x ∷ xs) ys = let p = heavier xs ys in omega arith
-
-weighs : (ss : List Successor) (cs : List Cursor) (ps : NumberedPlans) → length ss ≡ length cs → map numbered_at cs ≡ list_of ps →
-    weight (waits_with ss cs) ≡ sizes_of ps
-weighs [] [] Over h e = λ i. 0
-weighs [] [] (More p ps) h e = absurd cc
-weighs [] (c ∷ cs) ps h e = absurd cc
-weighs (s ∷ ss) [] ps h e = absurd cc
-weighs (s ∷ ss) (c ∷ cs) Over h e = absurd cc
-weighs (s ∷ ss) (c ∷ cs) (More p ps) h e =
-    let fewer : length ss ≡ length cs = omega arith in
-    let one : numbered_at c ≡ p = cc in
-    let others : map numbered_at cs ≡ list_of ps = cc in
-    λ i. size_of (one i) + weighs ss cs ps fewer others i
-
-below_weighs : (ss : List Successor) (cs : List Cursor) (p : NumberedPlan) → length ss ≡ length cs →
-    map numbered_at cs ≡ list_of (below p) → suc (weight (waits_with ss cs)) ≡ size_of p
-below_weighs ss cs (At node ps) h e =
-    let one = weighs ss cs ps h e in
-    let sum : suc (weight (waits_with ss cs)) ≡ 1 + sizes_of ps = omega arith in
-    sum
-
--- a node fewer
-pub opened_fewer : (ss : List Successor) (cs : List Cursor) (x : Waiting) (xs new : List Waiting) → length ss ≡ length cs →
-    map numbered_at cs ≡ list_of (below (numbered_at x.cursor)) → new ≡ waits_with ss cs ++ xs → weight new < weight (x ∷ xs)
-opened_fewer ss cs x xs new h e is =
-    let a : weight new ≡ weight (waits_with ss cs) + weight xs = ap weight is ∙ heavier (waits_with ss cs) xs in
-    let b = below_weighs ss cs (numbered_at x.cursor) h e in
-    omega arith
-
--- one more state waits
-pub state_put : (all left fewer : List Successor) (next : Successor) (places some less : List Cursor) (c : Cursor)
-    (old new rest : List Waiting) → left ≡ fewer ++ next ∷ [] → some ≡ less ++ c ∷ [] →
-    new ≡ old ++ record { state = next.state; cursor = c } ∷ [] →
-    (ds : List Successor) × (cs : List Cursor) × (all ≡ left ++ ds) × (places ≡ some ++ cs) × (length ds ≡ length cs)
-    × (reverse old ≡ waits_with ds cs ++ rest) →
-    (ds : List Successor) × (cs : List Cursor) × (all ≡ fewer ++ ds) × (places ≡ less ++ cs) × (length ds ≡ length cs)
-    × (reverse new ≡ waits_with ds cs ++ rest)
-state_put all left fewer next places some less c old new rest is which put h =
-    let w : Waiting = record { state = next.state; cursor = c } in (
-      next ∷ h.0,
-      c ∷ h.1,
-      h.2 ∙ ap (λ (ss : List Successor). ss ++ h.0) is ∙ append_assoc fewer (next ∷ []) h.0,
-      h.3 ∙ ap (λ (ss : List Cursor). ss ++ h.1) which ∙ append_assoc less (c ∷ []) h.1,
-      ap suc h.4,
-      ap reverse put ∙ reverse-append old (w ∷ []) ∙ ap (λ (ws : List Waiting). w ∷ ws) h.5,
-    )
-
--- the lists that are left have one length
-pub fewer_left : (left fewer : List Successor) (next : Successor) (some less : List Cursor) (c : Cursor) → left ≡ fewer ++ next ∷ [] →
-    some ≡ less ++ c ∷ [] → length left ≡ length some → length fewer ≡ length less
-fewer_left left fewer next some less c is which h =
-    let a = ap length is ∙ length-append fewer (next ∷ []) in
-    let b = ap length which ∙ length-append less (c ∷ []) in
-    omega arith
-
--- the last that was put in is the first
-pub popped : (all rest : List Waiting) (x : Waiting) → all ≡ rest ++ x ∷ [] → reverse all ≡ x ∷ reverse rest
-popped all rest x is = ap reverse is ∙ reverse-append rest (x ∷ [])

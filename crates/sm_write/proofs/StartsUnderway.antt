@@ -28,7 +28,7 @@ use Rattle.sm_expand.specs.NumberedPlans.{NumberedNode, Step, Abs, Fork, Loop, B
 use Rattle.sm_expand.specs.NumberedPlans.{of_copy_or, node_over, plan_over, plans_over, IsKeepReady, IsPlanReady, ArePlansReady}
 use Rattle.sm_expand.specs.Cursors.{numbered_at}
 use Rattle.sm_expand.proofs.PlansWiden.{plan_stays}
-use Rattle.sm_write.specs.declared.plans.Waiting.{Waiting}
+use Rattle.sm_expand.specs.declared.placed.PlacedState.{PlacedState}
 use Rattle.sm_write.specs.TreesWithin.{AreTreesWithin}
 use Rattle.sm_write.specs.Underway.{IsUnderway, IsFresh}
 use Rattle.sm_write.specs.Waiting.{AreWaiting}
@@ -100,7 +100,7 @@ fresh_stands s trees x f = record {
   nodes = sym f.nodes;
 }
 
-pub starts_underway : (t : Parts) (v w : TableValue) → ExtendsTable v w → (x : WriterValue) (y : Waiting) (facts : List Assertion) (p : NumberedPlan)
+pub starts_underway : (t : Parts) (v w : TableValue) → ExtendsTable v w → (x : WriterValue) (y : PlacedState) (facts : List Assertion) (p : NumberedPlan)
     (certs : List CertTree) → sorts_in v ≡ sort_of t.declared → IsTaskSorted (sort_of t.declared) (task_of t) →
     state_in (sorts_in w) (trees_in w) facts y.state ≡ start_state (task_of t) → numbered_at y.cursor ≡ p →
     IsPlanReady (sorts_in v) (trees_in v) p → AreTreesWithin (length (trees_in v)) certs →

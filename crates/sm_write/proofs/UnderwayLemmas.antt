@@ -28,25 +28,27 @@ use Rattle.sm_expand.specs.NumberedPlans.{node_over, plans_over, head, below}
 use Rattle.sm_expand.specs.Cursors.{numbered_at}
 use Rattle.sm_expand.proofs.PairsLemmas.{plan_is}
 use Rattle.sm_expand.proofs.PlansWiden.{plans_stay}
-use Rattle.sm_write.specs.declared.plans.Waiting.{Waiting}
+use Rattle.sm_expand.specs.declared.placed.PlacedState.{PlacedState}
 use Rattle.sm_write.specs.GoalsWritten.{IsAt, GoalsLeft, LeavesGoals}
 use Rattle.sm_write.specs.NodesWritten.{NodeWritten}
 use Rattle.sm_write.specs.Ready.{AreClosed}
 use Rattle.sm_write.specs.Seen.{IsBuilt, Seen}
 use Rattle.sm_write.specs.TreesWithin.{AreTreesWithin}
-use Rattle.sm_write.specs.Underway.{AllStandFor, AreWaitingReady, waits_with, IsUnderway, OpeningWritten, IsWhole}
+use Rattle.sm_write.specs.Underway.{AllStandFor, IsUnderway, OpeningWritten, IsWhole}
+use Rattle.sm_expand.specs.PlacedStates.{ArePlacedReady, placed_with}
 use Rattle.sm_write.specs.Walked.{IsSet}
 use Rattle.sm_write.specs.Waiting.{Waits, due_for, each_waits, AreWaiting}
 use Rattle.sm_write.specs.Writable.{EachKept, denied}
 use Rattle.sm_write.specs.Writers.{WriterValue}
-use Rattle.sm_write.proofs.OpenedWait.{opened_stand, plans_of}
+use Rattle.sm_write.proofs.OpenedWait.{opened_stand}
+use Rattle.sm_expand.proofs.PlacedLemmas.{plans_of}
 use Rattle.sm_write.proofs.TreesStay.{trees_stay}
 use Rattle.sm_write.proofs.WaitingLemmas.{NodeReady, first_waits}
 use Rattle.sm_write.proofs.WaitingStays.{at_stays, all_stay}
 use Rattle.sm_write.proofs.WalkedLemmas.{seen_kept}
 
 -- a node was written, and its goals are left
-pub record AreGoalsLeft (s : Subject) (w : TableValue) (mid : WriterValue) (o : Opened × Vec Cursor Global) (xs : List Waiting)
+pub record AreGoalsLeft (s : Subject) (w : TableValue) (mid : WriterValue) (o : Opened × Vec Cursor Global) (xs : List PlacedState)
     (certs : List CertTree) : Type 0 where
   pub seen : List State
   pub progress : Progress
@@ -58,11 +60,11 @@ pub record AreGoalsLeft (s : Subject) (w : TableValue) (mid : WriterValue) (o : 
   pub pending : progress.pending ≡ map (goal_branch state) goals ++ map due_for waits
   pub count : length goals ≡ length o.0.goals.list.items
   pub closed : AreClosed s.sorts (Seen seen) (map (denied state.facts) goals) (map (certificate_in (trees_in w)) certs) later
-  pub stand : AllStandFor w waits (waits_with o.0.states.items o.1.items ++ xs)
+  pub stand : AllStandFor w waits (placed_with o.0.states.items o.1.items ++ xs)
   pub ready : AreWaiting s.sorts seen progress.nodes waits later []
 
-module _ (s : Subject) (v w : TableValue) (wider : ExtendsTable v w) (old mid : WriterValue) (x : Waiting) (xs : List Waiting)
-    (o : Opened × Vec Cursor Global) (certs : List CertTree) (states : AreWaitingReady v (x ∷ xs))
+module _ (s : Subject) (v w : TableValue) (wider : ExtendsTable v w) (old mid : WriterValue) (x : PlacedState) (xs : List PlacedState)
+    (o : Opened × Vec Cursor Global) (certs : List CertTree) (states : ArePlacedReady v (x ∷ xs))
     (within : AreTreesWithin (length (trees_in v)) certs) (written : OpeningWritten v w old mid x o) where
   abbrev here : Node
   here = node_over (sorts_in v) (trees_in v) (head (numbered_at x.cursor))
@@ -128,7 +130,7 @@ module _ (s : Subject) (v w : TableValue) (wider : ExtendsTable v w) (old mid : 
             subst (λ (cs : List Certificate). AreClosed s.sorts (Seen now) (map (denied st.facts) q.goals) cs ready.mid)
             (sym (trees_stay v w wider certs within)) ready.closed;
         stand =
-            subst (λ (l : List Waits). AllStandFor w (l ++ ys) (waits_with o.0.states.items o.1.items ++ xs)) same
+            subst (λ (l : List Waits). AllStandFor w (l ++ ys) (placed_with o.0.states.items o.1.items ++ xs)) same
             (opened_stand w above facts o.0.states.items o.1.items (below (numbered_at x.cursor)) ys xs written.opens.count
             written.opens.plans (all_stay v w wider ys xs states.1 stand.1));
         ready = subst (λ (k : ℕ). AreWaiting s.sorts now k waits ready.mid []) (sym done.nodes) ready.others;
@@ -151,10 +153,10 @@ module _ (s : Subject) (v w : TableValue) (wider : ExtendsTable v w) (old mid : 
           is ready))
 
 -- after the certificates of the goals
-pub goals_done : (s : Subject) (w : TableValue) (mid new : WriterValue) (o : Opened × Vec Cursor Global) (xs : List Waiting)
+pub goals_done : (s : Subject) (w : TableValue) (mid new : WriterValue) (o : Opened × Vec Cursor Global) (xs : List PlacedState)
     (count : ℕ) (certs left : List CertTree) → AreGoalsLeft s w mid o xs certs → count ≡ length o.0.goals.list.items →
     LeavesGoals w mid new count (map (certificate_in (trees_in w)) certs) count (map (certificate_in (trees_in w)) left) →
-    IsUnderway s w new (waits_with o.0.states.items o.1.items ++ xs) left
+    IsUnderway s w new (placed_with o.0.states.items o.1.items ++ xs) left
 goals_done s w mid new o xs count certs left g many leaves =
     let all : length g.goals ≡ count = g.count ∙ sym many in
     let none : drop count g.goals ≡ [] = drop_all count g.goals (omega (arith, all)) in

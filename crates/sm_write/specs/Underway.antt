@@ -17,8 +17,7 @@ use Rattle.sm_expand.specs.declared.cursor.Cursor.{Cursor}
 use Rattle.sm_expand.specs.NumberedPlans.{node_over, plan_over, IsPlanReady, head}
 use Rattle.sm_expand.specs.Cursors.{numbered_at}
 use Rattle.sm_expand.specs.Opens.{OpensAs}
-use Rattle.sm_expand.specs.Walks.{size_of}
-use Rattle.sm_write.specs.declared.plans.Waiting.{Waiting}
+use Rattle.sm_expand.specs.declared.placed.PlacedState.{PlacedState}
 use Rattle.sm_write.specs.GoalsWritten.{IsAt}
 use Rattle.sm_write.specs.NodesWritten.{WritesNode}
 use Rattle.sm_prune.specs.Texts.{Leads}
@@ -27,41 +26,20 @@ use Rattle.sm_write.specs.Writers.{WriterValue}
 
 -- a state of the program with a place in its plan stands for one with a plan, where it has some
 -- facts
-pub record StandsFor (v : TableValue) (w : Waits) (x : Waiting) : Type 0 where
+pub record StandsFor (v : TableValue) (w : Waits) (x : PlacedState) : Type 0 where
   pub facts : List Assertion
   pub state : w.state ≡ state_in (sorts_in v) (trees_in v) facts x.state
   pub plan : w.plan ≡ plan_over (sorts_in v) (trees_in v) (numbered_at x.cursor)
 
 -- states of the program with places in their plans stand for those with plans, one for one
-abbrev pub AllStandFor : TableValue → List Waits → List Waiting → Type 0
+abbrev pub AllStandFor : TableValue → List Waits → List PlacedState → Type 0
 AllStandFor v [] [] = Unit {0}
 AllStandFor v [] (x ∷ xs) = ⊥
 AllStandFor v (w ∷ ws) [] = ⊥
 AllStandFor v (w ∷ ws) (x ∷ xs) = StandsFor v w x × AllStandFor v ws xs
 
--- a state that waits can be gone on from
-pub record IsWaitingReady (v : TableValue) (x : Waiting) : Type 0 where
-  pub state : IsStateReady (sorts_in v) (trees_in v) x.state
-  pub plan : IsPlanReady (sorts_in v) (trees_in v) (numbered_at x.cursor)
-
--- each state that waits can be gone on from
-abbrev pub AreWaitingReady : TableValue → List Waiting → Type 0
-AreWaitingReady v [] = Unit {0}
-AreWaitingReady v (x ∷ xs) = IsWaitingReady v x × AreWaitingReady v xs
-
--- how many nodes the states that wait have before them
-abbrev pub weight : List Waiting → ℕ
-weight [] = 0
-weight (x ∷ xs) = size_of (numbered_at x.cursor) + weight xs
-
--- states that follow a node, each with its place in the plan
-abbrev pub waits_with : List Successor → List Cursor → List Waiting
-waits_with [] cs = []
-waits_with (s ∷ ss) [] = []
-waits_with (s ∷ ss) (c ∷ cs) = record { state = s.state; cursor = c } ∷ waits_with ss cs
-
 -- a writer can write what waits, with these certificates, to the end of the plan
-pub record IsUnderway (s : Subject) (v : TableValue) (w : WriterValue) (xs : List Waiting)
+pub record IsUnderway (s : Subject) (v : TableValue) (w : WriterValue) (xs : List PlacedState)
     (cs : List CertTree) : Type 0 where
   pub seen : List State
   pub progress : Progress
@@ -73,7 +51,7 @@ pub record IsUnderway (s : Subject) (v : TableValue) (w : WriterValue) (xs : Lis
       AreWaiting s.sorts seen progress.nodes waits (map (certificate_in (trees_in v)) cs) []
 
 -- a node was written, and this is what it opens
-pub record OpeningWritten (old new : TableValue) (before after : WriterValue) (x : Waiting)
+pub record OpeningWritten (old new : TableValue) (before after : WriterValue) (x : PlacedState)
     (o : Opened × Vec Cursor Global) : Type 0 where
   pub opens : OpensAs old new before.nodes x.state x.cursor o
   pub row : NodeRow

@@ -4,7 +4,7 @@ ghost use Rattle.sm_term.specs.Tables.{trees_in};
 ghost use Rattle.sm_term.specs.TableLaws.{ExtendsTable};
 ghost use Rattle.sm_proof.specs.Verdicts.{Subject};
 ghost use Rattle.sm_write.specs.TreesWithin.{AreTreesWithin};
-ghost use Rattle.sm_write.specs.Underway.{IsWaitingReady, AreWaitingReady, weight, waits_with};
+ghost use Rattle.sm_expand.specs.PlacedStates.{IsPlacedReady, ArePlacedReady, weight};
 ghost use Rattle.sm_write.specs.Underway.{IsUnderway, IsWhole, OpeningWritten};
 ghost use Rattle.sm_write.specs.Values.{value_of};
 
@@ -12,18 +12,10 @@ use crate::goals::write_goals;
 use crate::nodes::write_head;
 use crate::writer::Writer;
 use sm_cert::CertTree;
-use sm_expand::{Cursor, open_at, row_at};
-use sm_plan::{Opened, Successor, SymState};
+use sm_expand::{Cursor, PlacedState, open_at, put_states, row_at};
+use sm_plan::Opened;
 use sm_term::TermTable;
 use std::alloc::{AllocError, Global};
-
-// A state that waits for its node, with the place of that node in the plan. Its facts aren't kept:
-// no line names them.
-#[derive(Drop)]
-pub(crate) struct Waiting<'a, 'p> {
-    pub(crate) state: SymState<'a>,
-    pub(crate) cursor: Cursor<'p>,
-}
 
 // Writes the node for a state, and gives what it opens, with a place in the plan for each state that
 // follows.
@@ -31,9 +23,9 @@ fn write_opening<'a, 'p>(
     alloc: Global,
     w: &mut Writer,
     table: &mut TermTable,
-    next: Waiting<'a, 'p>,
+    next: PlacedState<'a, 'p>,
 ) -> Result<(Opened<'a>, Vec<Cursor<'p>>), AllocError>
-    requires { IsWaitingReady table.old next }
+    requires { IsPlacedReady table.old next }
     ensures written { IfOk result
         (OpeningWritten table.old table.new (value_of w.old) (value_of w.new) next.entry) }
     ensures widens { ExtendsTable table.old table.new }
@@ -52,45 +44,22 @@ fn write_opening<'a, 'p>(
     }
 }
 
-// Puts states with the places for them behind what waits, the first the last.
-fn put_states<'a, 'p>(
-    waiting: &mut Vec<Waiting<'a, 'p>>,
-    states: Vec<Successor<'a>>,
-    cursors: Vec<Cursor<'p>>,
-) -> Result<(), AllocError>
-    requires { length states.items ≡ length cursors.items }
-    ensures { OnOk result (reverse waiting.new.items
-        ≡ waits_with states.entry.items cursors.entry.items ++ reverse waiting.old.items) }
-{
-    let mut left = states;
-    let mut places = cursors;
-    while let Some(next) = left.pop() {
-        if let Some(cursor) = places.pop() {
-            waiting.push(Waiting {
-                state: next.state,
-                cursor,
-            })?;
-        }
-    }
-    Ok(())
-}
-
 // Writes the node for a state that waited, with the certificates of its goals, and gives those that
 // are left.
 fn write_node<'a, 'p, 'c>(
     alloc: Global,
     w: &mut Writer,
     table: &mut TermTable,
-    waiting: &mut Vec<Waiting<'a, 'p>>,
-    next: Waiting<'a, 'p>,
+    waiting: &mut Vec<PlacedState<'a, 'p>>,
+    next: PlacedState<'a, 'p>,
     certs: &'c [CertTree],
 ) -> Result<&'c [CertTree], AllocError>
-    requires states { AreWaitingReady table.old (next ∷ reverse waiting.old.items) }
+    requires states { ArePlacedReady table.old (next ∷ reverse waiting.old.items) }
     requires trees { AreTreesWithin (length (trees_in table.old)) certs.now }
     ensures written { IfOk result (λ left. (s : Subject) →
         IsUnderway s table.old (value_of w.old) (next.entry ∷ reverse waiting.old.items) certs.now →
         IsUnderway s table.new (value_of w.new) (reverse waiting.new.items) left.now) }
-    ensures ready { OnOk result (AreWaitingReady table.new (reverse waiting.new.items)) }
+    ensures ready { OnOk result (ArePlacedReady table.new (reverse waiting.new.items)) }
     ensures within { IfOk result (λ left. AreTreesWithin (length (trees_in table.new)) left.now) }
 
     // A node fewer waits.
@@ -111,10 +80,10 @@ pub(crate) fn write_nodes(
     alloc: Global,
     w: &mut Writer,
     table: &mut TermTable,
-    first: Waiting<'_, '_>,
+    first: PlacedState<'_, '_>,
     certs: &[CertTree],
 ) -> Result<(), AllocError>
-    requires state { IsWaitingReady table.old first }
+    requires state { IsPlacedReady table.old first }
     requires trees { AreTreesWithin (length (trees_in table.old)) certs.now }
     ensures written { (s : Subject) →
         IsUnderway s table.old (value_of w.old) (first.entry ∷ []) certs.now →

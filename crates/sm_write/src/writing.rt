@@ -21,12 +21,12 @@ ghost use Rattle.sm_write.specs.Values.{value_of};
 ghost use Rattle.sm_write.specs.Versions.{HasVersion, version_where};
 ghost use Rattle.sm_write.specs.Writable.{IsWritable};
 
-use crate::plans::{Waiting, write_nodes};
+use crate::plans::write_nodes;
 use crate::rereading::lean_text;
 use crate::text::put_version;
 use crate::writer::Writer;
 use sm_cert::CertTree;
-use sm_expand::{Plan, start_of};
+use sm_expand::{PlacedState, Plan, start_of};
 use sm_plan::start_state;
 use sm_syntax::{Block, PerCopy};
 use sm_task::{Task, fill_all};
@@ -177,7 +177,7 @@ fn write_from_start(
         task.assumed.as_ref(),
         programs,
     )?;
-    let first = Waiting {
+    let first = PlacedState {
         state,
         cursor: start_of(plan),
     };

@@ -9,10 +9,11 @@ use Rattle.sm_expand.specs.declared.cursor.Cursor.{Cursor}
 use Rattle.sm_expand.specs.Cursors.{numbered_at}
 use Rattle.sm_expand.specs.NumberedPlans.{below}
 use Rattle.sm_expand.proofs.PlansWiden.{plans_ready}
-use Rattle.sm_audit.specs.declared.noting.Waiting.{Waiting}
-use Rattle.sm_audit.specs.Walks.{AreWaitingReady, IsUnderway, waits_with}
+use Rattle.sm_expand.specs.declared.placed.PlacedState.{PlacedState}
+use Rattle.sm_audit.specs.Walks.{IsUnderway}
+use Rattle.sm_expand.specs.PlacedStates.{ArePlacedReady, placed_with}
 use Rattle.sm_audit.proofs.NodesMet.{node_met}
-use Rattle.sm_audit.proofs.OpenedLemmas.{opened_fewer, opened_ready, plans_of}
+use Rattle.sm_expand.proofs.PlacedLemmas.{opened_fewer, opened_ready, plans_of}
 use Rattle.sm_audit.proofs.UnderwayLemmas.{underway_next}
 use Rattle.sm_audit.proofs.WaitsStay.{all_ready}
 use Rattle.sm_audit.proofs.noting.note_node.Goals as goal
@@ -48,8 +49,8 @@ returns-clause-states c = λ states u.
     let new = c.note_stores.new.since.items in
     let more : length c.push.new.self.items ≡ k + 1 =
     ap length c.in_ok-push.ensures.items ∙ length-append c.args.rows.now.items _ ∙ ap (λ (n : ℕ). n + 1) (sym same) in
-    subst (λ (l : List Waiting). IsUnderway states w (length c.push.new.self.items) new l) (sym c.in_ok-put_states.ensures)
-    (subst (λ (n : ℕ). IsUnderway states w n new (waits_with o.0.states.items o.1.items ++ xs)) (sym more)
+    subst (λ (l : List PlacedState). IsUnderway states w (length c.push.new.self.items) new l) (sym c.in_ok-put_states.ensures)
+    (subst (λ (n : ℕ). IsUnderway states w n new (placed_with o.0.states.items o.1.items ++ xs)) (sym more)
     (underway_next states v w c.in_ok-opened.ensures.widens k c.args.since.now.items new c.args.next xs o c.len.ensures.sorted c.requires
     opens (c.note_stores.ensures _ states _)
     (subst (λ (n : ℕ). IsUnderway states v n c.args.since.now.items (c.args.next ∷ xs)) (sym same) u)))
@@ -61,7 +62,7 @@ returns-clause-ready c =
     let wider = c.in_ok-opened.ensures.widens in
     let opens = c.in_ok-opened.ensures.ok in
     let n = numbered_at c.args.next.cursor in
-    subst (AreWaitingReady w) (sym c.in_ok-put_states.ensures)
+    subst (ArePlacedReady w) (sym c.in_ok-put_states.ensures)
     (opened_ready w c.in_ok-opened.opened.states.items c.in_ok-opened.cursors.items (below n) (reverse c.args.waiting.now.items)
     opens.count opens.plans opens.states (plans_ready v w wider (below n) (plans_of v n c.requires.0.plan))
     (all_ready v w wider (reverse c.args.waiting.now.items) c.requires.1))

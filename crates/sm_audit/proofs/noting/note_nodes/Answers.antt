@@ -3,18 +3,19 @@ use Rattle.std.proofs.Common.{◌≡◌, List, [], ◌∷◌, ◌++◌, length, 
 use Rattle.std.proofs.lemmas.List.{nil_from_length}
 use Rattle.sm_plan.proofs.TablesWiden.{widens_same, widens_twice}
 use Rattle.sm_plan.specs.declared.node.NodeRow.{NodeRow}
-use Rattle.sm_audit.specs.declared.noting.Waiting.{Waiting}
-use Rattle.sm_audit.specs.Walks.{AreWaitingReady, IsUnderway, nodes_with}
+use Rattle.sm_expand.specs.declared.placed.PlacedState.{PlacedState}
+use Rattle.sm_audit.specs.Walks.{IsUnderway, nodes_with}
+use Rattle.sm_expand.specs.PlacedStates.{ArePlacedReady}
 use Rattle.sm_audit.proofs.NodesMet.{all_met}
-use Rattle.sm_audit.proofs.OpenedLemmas.{popped}
+use Rattle.sm_expand.proofs.PlacedLemmas.{popped}
 use Rattle.sm_audit.proofs.noting.note_nodes.Goals as goal
 
 pub loop-next-init : goal.loop-next-init
 loop-next-init c =
     let one : reverse c.push.new.self.items ≡ c.args.first ∷ [] =
-    ap reverse c.in_ok-push.ensures.items ∙ ap (λ (l : List Waiting). reverse (l ++ c.args.first ∷ [])) c.new-waiting.ensures.items in
+    ap reverse c.in_ok-push.ensures.items ∙ ap (λ (l : List PlacedState). reverse (l ++ c.args.first ∷ [])) c.new-waiting.ensures.items in
     record {
-      ready = subst (AreWaitingReady c.args.table.now) (sym one) (c.requires, tt);
+      ready = subst (ArePlacedReady c.args.table.now) (sym one) (c.requires, tt);
       met = λ sorts trees i. nodes_with sorts trees c.new-rows.result.items (reverse c.push.new.self.items);
       underway = λ states u. u;
       widens = widens_same c.args.table.now;
@@ -22,7 +23,7 @@ loop-next-init c =
 
 pub note_node-requires : goal.note_node-requires
 note_node-requires c =
-    subst (AreWaitingReady c.loop-next.table)
+    subst (ArePlacedReady c.loop-next.table)
     (popped c.loop-next.waiting.items c.pop.new.self.items c.in-Some.next c.in-Some.ensures.items) c.loop-next.invariant.ready
 
 pub loop-next-preserved : goal.loop-next-preserved
@@ -36,7 +37,7 @@ loop-next-preserved c =
           ∙ i.invariant.met sorts trees;
       underway = λ states u.
           c.in_ok-note_node.ensures.states states
-          (subst (λ (l : List Waiting). IsUnderway states i.table (length i.rows.items) i.since.items l) first
+          (subst (λ (l : List PlacedState). IsUnderway states i.table (length i.rows.items) i.since.items l) first
           (i.invariant.underway states u));
       widens = widens_twice c.args.table.now i.table c.note_node.new.table i.invariant.widens c.in_ok-note_node.ensures.widens;
     }
@@ -49,7 +50,7 @@ pub returns-clause-rows : goal.returns-clause-rows
 returns-clause-rows c = λ sorts trees.
     let i = c.loop-next in
     let one : reverse c.push.new.self.items ≡ c.args.first ∷ [] =
-    ap reverse c.in_ok-push.ensures.items ∙ ap (λ (l : List Waiting). reverse (l ++ c.args.first ∷ [])) c.new-waiting.ensures.items in
+    ap reverse c.in_ok-push.ensures.items ∙ ap (λ (l : List PlacedState). reverse (l ++ c.args.first ∷ [])) c.new-waiting.ensures.items in
     let none : i.waiting.items ≡ [] = nil_from_length i.waiting.items (sym i.waiting.ok.0 ∙ c.in_default.ensures.cases.0) in
     all_met sorts trees i.rows.items c.args.first (reverse i.waiting.items) (ap reverse none)
     (i.invariant.met sorts trees
@@ -60,8 +61,8 @@ pub returns-clause-states : goal.returns-clause-states
 returns-clause-states c = λ states u.
     let i = c.loop-next in
     let one : reverse c.push.new.self.items ≡ c.args.first ∷ [] =
-    ap reverse c.in_ok-push.ensures.items ∙ ap (λ (l : List Waiting). reverse (l ++ c.args.first ∷ [])) c.new-waiting.ensures.items in
+    ap reverse c.in_ok-push.ensures.items ∙ ap (λ (l : List PlacedState). reverse (l ++ c.args.first ∷ [])) c.new-waiting.ensures.items in
     let start = subst (λ (rows : List NodeRow). IsUnderway states c.args.table.now (length rows) c.args.since.now.items
     (reverse c.push.new.self.items)) (sym c.new-rows.ensures.items)
-    (subst (λ (l : List Waiting). IsUnderway states c.args.table.now 0 c.args.since.now.items l) (sym one) u) in
+    (subst (λ (l : List PlacedState). IsUnderway states c.args.table.now 0 c.args.since.now.items l) (sym one) u) in
     (i.invariant.underway states start).since_then

@@ -4,12 +4,13 @@ use Rattle.sm_syntax.specs.text.Sorts.{Sorts}
 use Rattle.sm_term.specs.TableLaws.{ExtendsTable}
 use Rattle.sm_term.specs.Terms.{Tree}
 use Rattle.sm_plan.specs.States.{State}
-use Rattle.sm_audit.specs.Walks.{AreWaitingReady, IsUnderway, nodes_with, weight}
+use Rattle.sm_audit.specs.Walks.{IsUnderway, nodes_with}
+use Rattle.sm_expand.specs.PlacedStates.{ArePlacedReady, weight}
 use Rattle.sm_audit.proofs.noting.note_nodes.Given as goal
 
 abbrev pub invariant-loop-next : goal.invariant-loop-next
 invariant-loop-next l = record {
-  ready : AreWaitingReady l.table (reverse l.waiting.items);
+  ready : ArePlacedReady l.table (reverse l.waiting.items);
   met :
       (sorts : Sorts) (trees : List Tree) →
       nodes_with sorts trees l.rows.items (reverse l.waiting.items)

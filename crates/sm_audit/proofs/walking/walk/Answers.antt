@@ -12,7 +12,7 @@ use Rattle.sm_expand.specs.NumberedPlans.{NumberedPlan, IsPlanReady, plan_over}
 use Rattle.sm_expand.specs.Views.{numbered_plan, plan_in}
 use Rattle.sm_expand.proofs.PlansWiden.{plan_ready, plan_stays}
 use Rattle.sm_write.specs.PlanStates.{plan_states}
-use Rattle.sm_audit.specs.declared.noting.Waiting.{Waiting}
+use Rattle.sm_expand.specs.declared.placed.PlacedState.{PlacedState}
 use Rattle.sm_audit.proofs.SinceLemmas.{since_none}
 use Rattle.sm_audit.proofs.TaskParts.{start_is}
 use Rattle.sm_audit.proofs.UnderwayLemmas.{starts_underway}
@@ -36,7 +36,7 @@ returns-clause-since c =
     let w = c.start_state.new.table in
     let task = c.args.task.now in
     let facts = forms_in (sorts_in w) (trees_in w) c.in_ok-state._facts.list.items in
-    let first : Waiting = record { state = c.in_ok-state.state; cursor = c.start_of.result } in
+    let first : PlacedState = record { state = c.in_ok-state.state; cursor = c.start_of.result } in
     let start : state_in (sorts_in w) (trees_in w) facts c.in_ok-state.state ≡ start_state (task_of (parts_of task)) =
     start_is task c.args.programs.now c.as_ref-assumed.result _ c.requires.filled c.as_ref-assumed.ensures.value c.in_ok-state.ensures.start in
     let plan : plan_in (sorts_in v) (trees_in v) c.args.plan.now ≡ plan_over (sorts_in w) (trees_in w) _ =

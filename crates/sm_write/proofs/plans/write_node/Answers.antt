@@ -7,10 +7,11 @@ use Rattle.sm_expand.specs.declared.cursor.Cursor.{Cursor}
 use Rattle.sm_expand.specs.Cursors.{numbered_at}
 use Rattle.sm_expand.specs.NumberedPlans.{below}
 use Rattle.sm_expand.proofs.PlansWiden.{plans_ready}
-use Rattle.sm_write.specs.declared.plans.Waiting.{Waiting}
-use Rattle.sm_write.specs.Underway.{AreWaitingReady, IsUnderway}
+use Rattle.sm_expand.specs.declared.placed.PlacedState.{PlacedState}
+use Rattle.sm_write.specs.Underway.{IsUnderway}
+use Rattle.sm_expand.specs.PlacedStates.{ArePlacedReady}
 use Rattle.sm_write.specs.Values.{value_of}
-use Rattle.sm_write.proofs.OpenedWait.{opened_ready, opened_fewer, plans_of}
+use Rattle.sm_expand.proofs.PlacedLemmas.{opened_ready, opened_fewer, plans_of}
 use Rattle.sm_write.proofs.TreesStay.{trees_wider}
 use Rattle.sm_write.proofs.UnderwayLemmas.{opening_left, goals_done}
 use Rattle.sm_write.proofs.WaitingStays.{all_ready}
@@ -30,7 +31,7 @@ returns-clause-written c = λ s u.
     let new = value_of c.write_goals.new.w in
     let left = opening_left s v w c.in_ok-opened.ensures.widens (value_of c.args.w.now) mid c.args.next xs o c.args.certs.now
     c.requires.states c.requires.trees c.in_ok-opened.ensures.written u in
-    subst (λ (l : List Waiting). IsUnderway s w new l c.in_ok-left.left.now) (sym c.in_ok-put_states.ensures)
+    subst (λ (l : List PlacedState). IsUnderway s w new l c.in_ok-left.left.now) (sym c.in_ok-put_states.ensures)
     (goals_done s w mid new o xs c.len-goals.result c.args.certs.now c.in_ok-left.left.now left
     (c.len-goals.ensures ∙ c.in_ok-opened.opened.goals.list.ok.0) c.in_ok-left.ensures.written)
 
@@ -41,7 +42,7 @@ returns-clause-ready c =
     let wider = c.in_ok-opened.ensures.widens in
     let opens = c.in_ok-opened.ensures.written.opens in
     let n = numbered_at c.args.next.cursor in
-    subst (AreWaitingReady w) (sym c.in_ok-put_states.ensures)
+    subst (ArePlacedReady w) (sym c.in_ok-put_states.ensures)
     (opened_ready w c.in_ok-opened.opened.states.items c.in_ok-opened.cursors.items (below n) (reverse c.args.waiting.now.items)
     opens.count opens.plans opens.states (plans_ready v w wider (below n) (plans_of v n c.requires.states.0.plan))
     (all_ready v w wider (reverse c.args.waiting.now.items) c.requires.states.1))

@@ -2,19 +2,20 @@
 use Rattle.std.proofs.Common.{◌≡◌, List, [], ◌∷◌, ◌++◌, reverse, sym, ap, ◌∙◌, subst}
 use Rattle.std.proofs.lemmas.List.{nil_from_length}
 use Rattle.sm_plan.proofs.TablesWiden.{widens_same, widens_twice}
-use Rattle.sm_write.specs.declared.plans.Waiting.{Waiting}
-use Rattle.sm_write.specs.Underway.{AreWaitingReady, IsUnderway}
+use Rattle.sm_expand.specs.declared.placed.PlacedState.{PlacedState}
+use Rattle.sm_write.specs.Underway.{IsUnderway}
+use Rattle.sm_expand.specs.PlacedStates.{ArePlacedReady}
 use Rattle.sm_write.specs.Values.{value_of}
-use Rattle.sm_write.proofs.OpenedWait.{popped}
+use Rattle.sm_expand.proofs.PlacedLemmas.{popped}
 use Rattle.sm_write.proofs.UnderwayLemmas.{underway_whole}
 use Rattle.sm_write.proofs.plans.write_nodes.Goals as goal
 
 pub loop-next-init : goal.loop-next-init
 loop-next-init c =
     let one : reverse c.push.new.self.items ≡ c.args.first ∷ [] =
-    ap reverse c.in_ok-push.ensures.items ∙ ap (λ (l : List Waiting). reverse (l ++ c.args.first ∷ [])) c.new-waiting.ensures.items in
+    ap reverse c.in_ok-push.ensures.items ∙ ap (λ (l : List PlacedState). reverse (l ++ c.args.first ∷ [])) c.new-waiting.ensures.items in
     record {
-      states = subst (AreWaitingReady c.args.table.now) (sym one) (c.requires.state, tt);
+      states = subst (ArePlacedReady c.args.table.now) (sym one) (c.requires.state, tt);
       trees = c.requires.trees;
       underway = λ s u. u;
       widens = widens_same c.args.table.now;
@@ -22,7 +23,7 @@ loop-next-init c =
 
 pub write_node-requires-clause-states : goal.write_node-requires-clause-states
 write_node-requires-clause-states c =
-    subst (AreWaitingReady c.loop-next.table)
+    subst (ArePlacedReady c.loop-next.table)
     (popped c.loop-next.waiting.items c.pop.new.self.items c.in-Some.next c.in-Some.ensures.items) c.loop-next.invariant.states
 
 pub loop-next-preserved : goal.loop-next-preserved
@@ -33,7 +34,7 @@ loop-next-preserved c =
       trees = c.in_ok-left.ensures.within;
       underway = λ s u.
           c.in_ok-left.ensures.written s
-          (subst (λ (l : List Waiting). IsUnderway s i.table (value_of i.w) l i.left.now)
+          (subst (λ (l : List PlacedState). IsUnderway s i.table (value_of i.w) l i.left.now)
           (popped i.waiting.items c.pop.new.self.items c.in-Some.next c.in-Some.ensures.items) (i.invariant.underway s u));
       widens = widens_twice c.args.table.now i.table c.write_node.new.table i.invariant.widens c.in_ok-left.ensures.widens;
     }
@@ -46,9 +47,9 @@ pub returns-clause-written : goal.returns-clause-written
 returns-clause-written c = λ s u.
     let i = c.loop-next in
     let one : reverse c.push.new.self.items ≡ c.args.first ∷ [] =
-    ap reverse c.in_ok-push.ensures.items ∙ ap (λ (l : List Waiting). reverse (l ++ c.args.first ∷ [])) c.new-waiting.ensures.items in
+    ap reverse c.in_ok-push.ensures.items ∙ ap (λ (l : List PlacedState). reverse (l ++ c.args.first ∷ [])) c.new-waiting.ensures.items in
     let none : i.waiting.items ≡ [] = nil_from_length i.waiting.items (sym i.waiting.ok.0 ∙ c.in_default.ensures.cases.0) in
     underway_whole s i.table (value_of i.w) i.left.now
-    (subst (λ (l : List Waiting). IsUnderway s i.table (value_of i.w) l i.left.now) (ap reverse none)
+    (subst (λ (l : List PlacedState). IsUnderway s i.table (value_of i.w) l i.left.now) (ap reverse none)
     (i.invariant.underway s
-    (subst (λ (l : List Waiting). IsUnderway s c.args.table.now (value_of c.args.w.now) l c.args.certs.now) (sym one) u)))
+    (subst (λ (l : List PlacedState). IsUnderway s c.args.table.now (value_of c.args.w.now) l c.args.certs.now) (sym one) u)))

@@ -4,13 +4,14 @@ use Rattle.sm_term.specs.Tables.{trees_in}
 use Rattle.sm_term.specs.TableLaws.{ExtendsTable}
 use Rattle.sm_proof.specs.Verdicts.{Subject}
 use Rattle.sm_write.specs.TreesWithin.{AreTreesWithin}
-use Rattle.sm_write.specs.Underway.{AreWaitingReady, weight, IsUnderway}
+use Rattle.sm_write.specs.Underway.{IsUnderway}
+use Rattle.sm_expand.specs.PlacedStates.{ArePlacedReady, weight}
 use Rattle.sm_write.specs.Values.{value_of}
 use Rattle.sm_write.proofs.plans.write_nodes.Given as goal
 
 abbrev pub invariant-loop-next : goal.invariant-loop-next
 invariant-loop-next l = record {
-  states : AreWaitingReady l.table (reverse l.waiting.items);
+  states : ArePlacedReady l.table (reverse l.waiting.items);
   trees : AreTreesWithin (length (trees_in l.table)) l.left;
   underway :
       (s : Subject) → IsUnderway s l.initial.table (value_of l.initial.w) (reverse l.initial.waiting.items) l.initial.left →

@@ -10,7 +10,7 @@ use Rattle.sm_text.specs.Tasks.{parts_of}
 use Rattle.sm_expand.specs.NumberedPlans.{IsPlanReady}
 use Rattle.sm_expand.specs.Views.{numbered_plan}
 use Rattle.sm_expand.proofs.PlansWiden.{plan_ready}
-use Rattle.sm_write.specs.declared.plans.Waiting.{Waiting}
+use Rattle.sm_expand.specs.declared.placed.PlacedState.{PlacedState}
 use Rattle.sm_write.specs.Underway.{IsUnderway}
 use Rattle.sm_write.specs.Values.{value_of}
 use Rattle.sm_write.proofs.StartsUnderway.{starts_underway}
@@ -42,7 +42,7 @@ returns-clause-written c fresh =
     let t = parts_of task in
     let s = subject_of t in
     let facts = forms_in (sorts_in w) (trees_in w) c.in_ok-state._facts.list.items in
-    let first : Waiting = record { state = c.in_ok-state.state; cursor = c.start_of.result } in
+    let first : PlacedState = record { state = c.in_ok-state.state; cursor = c.start_of.result } in
     let start : state_in (sorts_in w) (trees_in w) facts c.in_ok-state.state ≡ start_state (task_of t) =
     start_is task c.args.programs.now c.as_ref.result _ c.requires.filled c.as_ref.ensures.value c.in_ok-state.ensures.start in
     let underway : IsUnderway s w (value_of c.args.w.now) (first ∷ []) c.args.trees.now =

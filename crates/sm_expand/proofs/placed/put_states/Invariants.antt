@@ -2,8 +2,8 @@
 use Rattle.std.proofs.Common.{◌≡◌, ◌++◌, List, length, reverse}
 use Rattle.sm_plan.specs.declared.opening.Successor.{Successor}
 use Rattle.sm_expand.specs.declared.cursor.Cursor.{Cursor}
-use Rattle.sm_write.specs.Underway.{waits_with}
-use Rattle.sm_write.proofs.plans.put_states.Given as goal
+use Rattle.sm_expand.specs.PlacedStates.{placed_with}
+use Rattle.sm_expand.proofs.placed.put_states.Given as goal
 
 abbrev pub invariant-loop-next : goal.invariant-loop-next
 invariant-loop-next l = record {
@@ -11,7 +11,7 @@ invariant-loop-next l = record {
       (ds : List Successor) × (cs : List Cursor) × (l.initial.left.items ≡ l.left.items
       ++ ds) × (l.initial.places.items ≡ l.places.items ++ cs)
       × (length ds ≡ length cs)
-      × (reverse l.waiting.items ≡ waits_with ds cs ++ reverse l.initial.waiting.items);
+      × (reverse l.waiting.items ≡ placed_with ds cs ++ reverse l.initial.waiting.items);
   same : length l.left.items ≡ length l.places.items;
 }
 

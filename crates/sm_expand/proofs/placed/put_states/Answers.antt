@@ -1,7 +1,7 @@
 -- One more state waits.
 use Rattle.std.proofs.Common.{[], reverse, refl, sym, append-nil}
-use Rattle.sm_write.proofs.OpenedWait.{state_put, fewer_left}
-use Rattle.sm_write.proofs.plans.put_states.Goals as goal
+use Rattle.sm_expand.proofs.PlacedLemmas.{state_put, fewer_left}
+use Rattle.sm_expand.proofs.placed.put_states.Goals as goal
 
 pub loop-next-init : goal.loop-next-init
 loop-next-init c = record {
