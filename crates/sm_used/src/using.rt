@@ -74,7 +74,7 @@ fn is_one_in(names: &Names, two: bool, fact: u64) -> bool
 // A line that closes its branch.
 fn put_closing(alloc: Global, branches: &mut Vec<Names>, line: &Line) -> Result<(), AllocError>
     ensures { (l : NumberedLine) (lines : List ProofLine) → line_of line.now ≡ Cert l →
-        closes_branch l ≡ true → Know branches.old.items lines →
+        is_closing l ≡ true → Know branches.old.items lines →
         OnOk result (Know branches.new.items (Cert l ∷ lines)) }
 {
     let mut names = no_names(alloc);
