@@ -1,6 +1,5 @@
 -- Names that are found among declarations.
-use Rattle.std.proofs.Common.{◌≡◌, ◌<◌, ◌==◌, ℕ, zero, suc, Bool, true, false, IsTrue, Option, Some, if◌then◌else◌, List, [], ◌∷◌, length}
-use Rattle.std.proofs.Common.{map, get_or, eq-eqb, refl, arith}
+use Rattle.std.proofs.Common.{◌≡◌, ◌<◌, ◌==◌, ℕ, zero, suc, Bool, true, false, IsTrue, Option, Some, if◌then◌else◌, List, [], ◌∷◌, length, map, get_or, eq-eqb, refl, arith}
 use Rattle.std.specs.Option.{is_some}
 use Rattle.sm_syntax.specs.declared.tree.Name.{Name}
 use Rattle.sm_syntax.specs.declared.tree.Sort.{Sort}

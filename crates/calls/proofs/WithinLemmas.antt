@@ -3,17 +3,13 @@ use Rattle.std.proofs.Common.{◌≡◌, ◌<◌, ◌+◌, ℕ, List, [], ◌∷
 use Rattle.std.specs.Prelude.{Box}
 use Rattle.std.specs.declared.alloc.Global.{Global}
 use Rattle.std.proofs.lemmas.List.{drop_more}
-use Rattle.sm_theory.specs.declared.line.CertLine.{CertLine}
 use Rattle.sm_theory.specs.Views.{IsLineWithin}
-use Rattle.sm_cert.specs.declared.tree.CertTree.{CertTree}
+use Rattle.sm_theory.specs.declared.line.CertLine.{CertLine}
 use Rattle.sm_cert.specs.declared.tree.CertEnd.TheVariants as ends
 use Rattle.sm_cert.specs.Views.{lines_of, AreLinesWithin}
+use Rattle.sm_cert.specs.declared.tree.CertTree.{CertTree}
 use Rattle.sm_cert.proofs.CheckLemmas.{lines_closed, lines_split}
-
--- lines and then others
-both_within : (n : ℕ) (xs ys : List CertLine) → AreLinesWithin n xs → AreLinesWithin n ys → AreLinesWithin n (xs ++ ys)
-both_within n [] ys first second = second
-both_within n (x ∷ xs) ys first second = (first.0, both_within n xs ys first.1 second)
+use Rattle.sm_list.proofs.RenumberLemmas.{within-append}
 
 -- a line and those behind it
 pub line_before : (n : ℕ) (ls : List CertLine) (i : ℕ) (d : CertLine) → i < length ls → IsLineWithin n (get_or ls i d)
@@ -24,7 +20,7 @@ line_before n ls i d less one rest = subst (AreLinesWithin n) (sym (drop_more ls
 pub closed_within : (n : ℕ) (t : CertTree) (l : CertLine) → t.last ≡ ends.Close l → AreLinesWithin n t.lines.list.items
     → IsLineWithin n l → AreLinesWithin n (lines_of t)
 closed_within n t l e own last =
-    subst (AreLinesWithin n) (sym (lines_closed t l e)) (both_within n t.lines.list.items (l ∷ []) own (last, tt))
+    subst (AreLinesWithin n) (sym (lines_closed t l e)) (within-append n t.lines.list.items (l ∷ []) own (last, tt))
 
 -- one that a line splits
 pub split_within : (n : ℕ) (t : CertTree) (l : CertLine) (c d : Box CertTree Global) → t.last ≡ ends.Split l c d
@@ -32,5 +28,5 @@ pub split_within : (n : ℕ) (t : CertTree) (l : CertLine) (c d : Box CertTree G
     → AreLinesWithin n (lines_of t)
 split_within n t l c d e own last first second =
     subst (AreLinesWithin n) (sym (lines_split t l c d e))
-    (both_within n t.lines.list.items (l ∷ (lines_of c.value ++ lines_of d.value)) own
-    (last, both_within n (lines_of c.value) (lines_of d.value) first second))
+    (within-append n t.lines.list.items (l ∷ (lines_of c.value ++ lines_of d.value)) own
+    (last, within-append n (lines_of c.value) (lines_of d.value) first second))

@@ -1,7 +1,6 @@
 // Expressions and conditions of programs, and their terms and formulas from the start of each name.
 ghost use Rattle.std.specs.Bool.{OnTrue};
-ghost use Rattle.sm_syntax.specs.text.Sorts.{IsAsDeclared};
-ghost use Rattle.sm_syntax.specs.text.Sorts.{IsWellSortedExpression, IsWellSortedCondition};
+ghost use Rattle.sm_syntax.specs.text.Sorts.{IsAsDeclared, IsWellSortedExpression, IsWellSortedCondition};
 ghost use Rattle.sm_syntax.specs.trees.Views.{expression_of, condition_of};
 ghost use Rattle.sm_term.specs.Tables.{sorts_in};
 ghost use Rattle.sm_text.specs.parsing.Prefix.{AreTokensOf};

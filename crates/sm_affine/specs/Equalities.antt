@@ -2,8 +2,8 @@
 -- shorter than others; it has 0 in the columns behind its end.
 use Rattle.std.specs.Prelude.{◌≡◌, ◌≢◌, ◌<◌, ◌≤◌, ℕ, ℤ, pos, List, [], ◌∷◌, map, Vec, slice_index_or, All}
 use Rattle.std.specs.declared.alloc.Global.{Global}
-use Rattle.sm_num.specs.declared.kind.Kind.TheVariants.{Eq}
 use Rattle.sm_num.specs.Forms.{Linear, HoldsAt}
+use Rattle.sm_num.specs.declared.kind.Kind.TheVariants.{Eq}
 use Rattle.sm_affine.specs.declared.equality.Equality.{Equality}
 use Rattle.sm_affine.specs.declared.equality.Part.{Part}
 

@@ -1,8 +1,7 @@
 // Equalities among columns, and whether they hold at rows.
 ghost use Rattle.std.specs.Prelude.{◌≡◌, ◌+ℤ◌, ◌*ℤ◌, IsTrue, IfOk, IfSome};
 ghost use Rattle.sm_num.specs.FormLaws.{value_of_form};
-ghost use Rattle.sm_affine.specs.Equalities.{number_in, form_of, HoldsIn, HoldsInEach};
-ghost use Rattle.sm_affine.specs.Equalities.{GivesColumn};
+ghost use Rattle.sm_affine.specs.Equalities.{number_in, form_of, HoldsIn, HoldsInEach, GivesColumn};
 
 use std::alloc::{AllocError, Global};
 

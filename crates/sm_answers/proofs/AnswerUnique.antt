@@ -18,12 +18,11 @@ use Rattle.sm_syntax.specs.claim.Stores.{Store}
 use Rattle.sm_syntax.specs.text.Symbols.{names_of}
 use Rattle.sm_task.proofs.RefusalUnique.{one_refusal}
 use Rattle.sm_text.proofs.Complete.Tasks as text
-use Rattle.sm_answers.specs.File.{file_limit, FailsToRead, GivesNoBytes, GivesNoTask, GivesTask, IsNoTask, IsRead, IsTooLong}
+use Rattle.sm_answers.specs.File.{file_limit, FailsToRead, GivesNoBytes, GivesNoTask, GivesTask, IsNoTask, IsRead, IsTooLong, Status}
 use Rattle.sm_answers.specs.Lines.{input_refusal_line, refusal_line, verdict_line}
 use Rattle.sm_answers.specs.Replay.{verdict_status, AnswersReplay, GivesInput, GivesNoInput, IsNoInput, Replays, ReplaysInput}
 use Rattle.sm_answers.specs.Status.{Says}
 use Rattle.sm_answers.specs.Verify.{Verifies, answer_line, answer_status, proof_limit, AnswersProof}
-use Rattle.sm_answers.specs.declared.status.Status.{Status}
 
 -- two replies are equal
 abbrev pub Same : Status → List ℕ → Status → List ℕ → Type 0

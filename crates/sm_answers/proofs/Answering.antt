@@ -6,13 +6,10 @@ use Rattle.sm_proof.specs.Verdicts as proof
 use Rattle.sm_syntax.specs.text.Parts.{Parts}
 use Rattle.sm_answers.specs.Verify.{Verifies, answer_status, AnswersProof}
 use Rattle.sm_answers.specs.Lines.{refusal_line}
-use Rattle.sm_answers.specs.File.{GivesTask, IsNoTask}
-use Rattle.sm_answers.specs.Exit.{ExitsWith}
-use Rattle.sm_answers.specs.declared.exit.Exit.{Exit}
+use Rattle.sm_answers.specs.File.{GivesTask, IsNoTask, Status, Accepted, Refused, ReadFault}
+use Rattle.sm_answers.specs.Exit.{ExitsWith, Exit}
 use Rattle.sm_answers.specs.declared.exit.Exit.TheVariants as stopped
 use Rattle.sm_answers.specs.declared.status.Reply.{Reply}
-use Rattle.sm_answers.specs.declared.status.Status.{Status}
-use Rattle.sm_answers.specs.declared.status.Status.TheVariants.{Accepted, Refused, ReadFault}
 use Rattle.sm_syntax.specs.text.Symbols.{names_of}
 use Rattle.sm_task.specs.Errors.{IsRefusedWith}
 use Rattle.sm_task.specs.declared.error.TaskError.{TaskError}

@@ -1,6 +1,5 @@
 -- A told file is one list, or is refused as one in one way, without a fault.
-use Rattle.std.proofs.Common.{◌≡◌, ◌≢◌, ◌≤◌, ◌+◌, inl, inr, ℕ, suc, Bool, true, false, if◌then◌else◌, Option, Some, None, List, [], ◌∷◌, length, codes, refl, sym, ap, ◌∙◌, arith}
-use Rattle.std.proofs.Common.{◌&&◌, nat_le}
+use Rattle.std.proofs.Common.{◌≡◌, ◌≢◌, ◌≤◌, ◌+◌, inl, inr, ℕ, suc, Bool, true, false, if◌then◌else◌, Some, None, List, [], ◌∷◌, length, codes, refl, sym, ap, ◌∙◌, arith, ◌&&◌, nat_le}
 use Rattle.std.proofs.lemmas.Bool.{leb-true}
 use Rattle.std.specs.Str.{is_utf8}
 use Rattle.sm_io.specs.Causes.{Rose}
@@ -9,18 +8,16 @@ use Rattle.sm_proof.specs.Verdicts.{lines_in}
 use Rattle.sm_answers.specs.Lists.{bad_line, bad_line_after, bad_list_line, is_name, is_short, names_in, GivesList, GivesNoList, IsList}
 use Rattle.sm_answers.specs.declared.status.Status.{Status}
 use Rattle.sm_answers.proofs.AnswerUnique.{Same, says_same, read_same, no_bytes_same, bytes_or_none}
+use Rattle.sm_lemmas.proofs.Tests.{both_pass}
+use Rattle.sm_lemmas.proofs.Options.{same_number, none_some}
 
 -- ---- how many names
-
-both : (a b : Bool) → (a && b) ≡ true → (a ≡ true) × (b ≡ true)
-both true b e = (refl, e)
-both false b e = absurd cc
 
 -- a name is one of the first 1,000
 name_before : (n : ℕ) (line : List ℕ) → is_name n line ≡ true → n ≤ 999
 name_before n line e =
-    let short = both (is_short n line) (is_utf8 line) e in
-    let few = both (nat_le n 999) (nat_le 1 (length line) && nat_le (length line) 255) short.0 in
+    let short = both_pass (is_short n line) (is_utf8 line) e in
+    let few = both_pass (nat_le n 999) (nat_le 1 (length line) && nat_le (length line) 255) short.0 in
     leb-true n 999 few.0
 
 -- a list has at most 1,000 names
@@ -60,12 +57,6 @@ bad_number bytes m e = bad_after 0 (lines_in bytes).ended (lines_in bytes).rest 
 
 -- ---- one list
 
-same_number : (m n : ℕ) → Some m ≡ Some n → m ≡ n
-same_number m n e = cc
-
-no_number : (m : ℕ) → (let o : Option ℕ = None in o) ≡ Some m → ⊥
-no_number m e = cc
-
 pub list_same : (file : Known) (b n c m : ℕ) (xs ys : List (List ℕ)) → file ≢ untold → GivesList file b n xs → GivesList file c m ys
     → xs ≡ ys
 list_same file b n c m xs ys told f g =
@@ -75,7 +66,7 @@ pub list_or_none : (file : Known) (b n c m : ℕ) (xs : List (List ℕ)) (s : St
     → GivesList file b n xs → GivesNoList file c m s t → ⊥
 list_or_none file b n c m xs s t told no_fault f (inl g) = bytes_or_none (codes "list") file b n c m f.bytes s t told no_fault f.read g
 list_or_none file b n c m xs s t told no_fault f (inr g) =
-    no_number g.refuses.number
+    none_some g.refuses.number
     (sym f.is.good ∙ ap bad_line (read_same file b n c m f.bytes g.bytes told f.read g.read) ∙ g.refuses.bad)
 
 pub no_list_same : (file : Known) (b n c m : ℕ) (s u : Status) (t v : List ℕ) → file ≢ untold → (¬ Rose b n) → (¬ Rose c m)

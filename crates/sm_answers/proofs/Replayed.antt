@@ -5,21 +5,18 @@ use Rattle.sm_eval.specs.declared.store.Store as code
 use Rattle.sm_io.specs.Files.{Known}
 use Rattle.sm_io.specs.Reads.{Read}
 use Rattle.sm_replay.specs.Verdicts.{cell_of, Judges}
-use Rattle.sm_replay.specs.Violations.{Violates}
 use Rattle.sm_replay.specs.declared.error.ReplayError.{ReplayError}
+use Rattle.sm_replay.specs.Violations.{Violates}
 use Rattle.sm_replay.specs.declared.verdict.Verdict.{Verdict}
 use Rattle.sm_replay.specs.declared.verdict.Verdict.TheVariants as verdict
 use Rattle.sm_replay.proofs.VerdictSound.{breaks_violates}
 use Rattle.sm_syntax.specs.claim.Stores.{Store}
 use Rattle.sm_syntax.specs.text.Parts.{Parts, task_of}
-use Rattle.sm_answers.specs.Exit.{ExitsWith}
-use Rattle.sm_answers.specs.File.{GivesNoTask, GivesTask}
+use Rattle.sm_answers.specs.Exit.{ExitsWith, Exit}
+use Rattle.sm_answers.specs.File.{GivesNoTask, GivesTask, Status, Conflict}
 use Rattle.sm_answers.specs.Readings.{ReadsInput, ReadsTask, ReplaysRead, RunsRead}
 use Rattle.sm_answers.specs.Replay.{verdict_status, AnswersReplay, GivesNoInput, Replays, ReplaysInput}
-use Rattle.sm_answers.specs.declared.exit.Exit.{Exit}
 use Rattle.sm_answers.specs.declared.status.Reply.{Reply}
-use Rattle.sm_answers.specs.declared.status.Status.{Status}
-use Rattle.sm_answers.specs.declared.status.Status.TheVariants.{Conflict}
 use Rattle.sm_answers.proofs.Answering.{result_by, stops_by}
 use Rattle.sm_answers.proofs.Statuses.{without_task}
 

@@ -9,12 +9,9 @@ use Rattle.sm_replay.specs.declared.verdict.Verdict.{Verdict}
 use Rattle.sm_replay.specs.declared.verdict.Verdict.TheVariants as verdict
 use Rattle.sm_syntax.specs.text.Parts.{Parts}
 use Rattle.sm_answers.specs.Verify.{Verifies, answer_line, answer_status, rejected_line, AnswersProof}
-use Rattle.sm_answers.specs.File.{GivesNoTask}
+use Rattle.sm_answers.specs.File.{GivesNoTask, Status, Accepted, Conflict, Unknown, Refused, Usage, ReadFault, Memory, SinkFault, WriteFault}
 use Rattle.sm_answers.specs.Replay.{verdict_status, GivesNoInput, Replays, ReplaysInput}
 use Rattle.sm_answers.specs.Status.{Says}
-use Rattle.sm_answers.specs.declared.status.Status.{Status}
-use Rattle.sm_answers.specs.declared.status.Status.TheVariants.{Accepted, Conflict, Unknown, Refused, Usage, ReadFault, Memory, SinkFault}
-use Rattle.sm_answers.specs.declared.status.Status.TheVariants.{WriteFault}
 
 -- a command answers with none of these
 pub record IsOfCommand (status : Status) : Type 0 where

@@ -1,6 +1,6 @@
 -- Why a command ends early. Public clauses cite it.
 use Rattle.std.specs.Prelude.{ℕ, List}
-use Rattle.sm_answers.specs.declared.exit.Exit.{Exit}
+pub use Rattle.sm_answers.specs.declared.exit.Exit.{Exit}
 use Rattle.sm_answers.specs.declared.exit.Exit.TheVariants.{Answer, Memory}
 use Rattle.sm_answers.specs.declared.status.Status.{Status}
 

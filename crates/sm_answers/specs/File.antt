@@ -12,8 +12,8 @@ use Rattle.sm_task.specs.declared.error.TaskError.TheVariants as no_task
 use Rattle.sm_words.specs.Lines.{line_of}
 use Rattle.sm_answers.specs.Lines.{refusal_line}
 use Rattle.sm_answers.specs.Status.{Says}
-use Rattle.sm_answers.specs.declared.status.Status.{Status}
-use Rattle.sm_answers.specs.declared.status.Status.TheVariants.{Refused, ReadFault}
+pub use Rattle.sm_answers.specs.declared.status.Status.{Status}
+pub use Rattle.sm_answers.specs.declared.status.Status.TheVariants.{Accepted, Conflict, Memory, ReadFault, Refused, SinkFault, Unknown, Usage, WriteFault}
 
 -- the greatest number of bytes of the file of a task, or of an input
 abbrev pub file_limit : ℕ

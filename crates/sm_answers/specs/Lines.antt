@@ -1,6 +1,5 @@
 -- The lines that are printed, as bytes. Public clauses cite it.
-use Rattle.std.specs.Prelude.{ℕ, ℤ, zero, suc, Option, Some, None, Result, Ok, Err, List, [], ◌∷◌}
-use Rattle.std.specs.Prelude.{◌++◌, unwrap_or, slice_get, codes, decimal, map}
+use Rattle.std.specs.Prelude.{ℕ, ℤ, zero, suc, Option, Some, None, Result, Ok, Err, List, [], ◌∷◌, ◌++◌, unwrap_or, slice_get, codes, decimal, map}
 use Rattle.std.specs.Fmt.{signed_decimal}
 use Rattle.sm_num.specs.declared.op.Op.{Op}
 use Rattle.sm_num.specs.declared.op.Op.TheVariants.{Add, Sub, Mul}
@@ -8,12 +7,7 @@ use Rattle.sm_syntax.specs.claim.ConflictFree.{Copy, copy_of}
 use Rattle.sm_syntax.specs.declared.tree.Name.{Name}
 use Rattle.sm_syntax.specs.trees.Copies.{letter_of}
 use Rattle.sm_task.specs.declared.error.TaskError.{TaskError}
-use Rattle.sm_task.specs.declared.error.TaskError.TheVariants.{BadByte, WideNumber, BadToken}
-use Rattle.sm_task.specs.declared.error.TaskError.TheVariants.{Expected, Nested, MissingFilling}
-use Rattle.sm_task.specs.declared.error.TaskError.TheVariants.{UnknownHole, DoubleHole}
-use Rattle.sm_task.specs.declared.error.TaskError.TheVariants.{HoleInFilling, UnknownName}
-use Rattle.sm_task.specs.declared.error.TaskError.TheVariants.{WrongSort, DoubleName, TooDeep}
-use Rattle.sm_task.specs.declared.error.TaskError.TheVariants.{TooMany, Memory}
+use Rattle.sm_task.specs.declared.error.TaskError.TheVariants.{BadByte, WideNumber, BadToken, Expected, Nested, MissingFilling, UnknownHole, DoubleHole, HoleInFilling, UnknownName, WrongSort, DoubleName, TooDeep, TooMany, Memory}
 use Rattle.sm_replay.specs.declared.error.InputError.{InputError}
 use Rattle.sm_replay.specs.declared.error.InputError.TheVariants as no_input
 use Rattle.sm_replay.specs.declared.error.ReplayError.{ReplayError}

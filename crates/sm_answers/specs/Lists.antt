@@ -1,16 +1,13 @@
 -- Which files a list names, a line each, and what is answered where it names none. The count of read
 -- faults was `before`, and is `now`. Public clauses cite it.
-use Rattle.std.specs.Prelude.{◌≡◌, ◌⊎◌, ◌&&◌, ℕ, suc, Bool, nat_le, if◌then◌else◌, Option, Some, None}
-use Rattle.std.specs.Prelude.{List, [], ◌∷◌, length, codes, decimal}
+use Rattle.std.specs.Prelude.{◌≡◌, ◌⊎◌, ◌&&◌, ℕ, suc, Bool, nat_le, if◌then◌else◌, Option, Some, None, List, [], ◌∷◌, length, codes, decimal}
 use Rattle.std.specs.Str.{is_utf8}
 use Rattle.sm_io.specs.Files.{Known}
 use Rattle.sm_io.specs.Reads.{Read, ReadsWhole}
 use Rattle.sm_proof.specs.Verdicts.{lines_in}
 use Rattle.sm_words.specs.Lines.{line_of}
-use Rattle.sm_answers.specs.File.{GivesNoBytes, IsRead}
+use Rattle.sm_answers.specs.File.{GivesNoBytes, IsRead, Status, Refused}
 use Rattle.sm_answers.specs.Status.{Says}
-use Rattle.sm_answers.specs.declared.status.Status.{Status}
-use Rattle.sm_answers.specs.declared.status.Status.TheVariants.{Refused}
 
 -- whether a line has 1 to 255 bytes, and is one of the first 1,000: so many lines come before it
 abbrev pub is_short : ℕ → List ℕ → Bool

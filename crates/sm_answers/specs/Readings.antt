@@ -10,10 +10,8 @@ use Rattle.sm_replay.specs.Violations.{Violates}
 use Rattle.sm_syntax.specs.claim.ConflictFree.{ConflictFree}
 use Rattle.sm_syntax.specs.text.Parts.{Parts, sort_of, task_of}
 use Rattle.sm_syntax.specs.text.Spells.{Spells}
-use Rattle.sm_answers.specs.File.{file_limit}
+use Rattle.sm_answers.specs.File.{file_limit, Status, Accepted, Conflict}
 use Rattle.sm_answers.specs.Verify.{proof_limit}
-use Rattle.sm_answers.specs.declared.status.Status.{Status}
-use Rattle.sm_answers.specs.declared.status.Status.TheVariants.{Accepted, Conflict}
 
 -- a file alone was read, in one pass, to its end or not
 abbrev pub ReadsOnce : List ℕ → List Read → List Read → Type 0

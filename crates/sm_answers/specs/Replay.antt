@@ -5,21 +5,18 @@ use Rattle.sm_eval.specs.StoredValues.{meaning}
 use Rattle.sm_eval.specs.declared.store.Store as code
 use Rattle.sm_io.specs.Files.{Known}
 use Rattle.sm_replay.specs.Input.{IsInput, Reads}
-use Rattle.sm_replay.specs.Verdicts.{Judges}
 use Rattle.sm_replay.specs.declared.error.InputError.{InputError}
-use Rattle.sm_replay.specs.declared.error.InputError.TheVariants as no_input
+use Rattle.sm_replay.specs.Verdicts.{Judges}
 use Rattle.sm_replay.specs.declared.error.ReplayError.{ReplayError}
+use Rattle.sm_replay.specs.declared.error.InputError.TheVariants as no_input
 use Rattle.sm_replay.specs.declared.error.ReplayError.TheVariants as stop
 use Rattle.sm_replay.specs.declared.verdict.Verdict.{Verdict}
 use Rattle.sm_replay.specs.declared.verdict.Verdict.TheVariants as verdict
 use Rattle.sm_syntax.specs.text.Parts.{Parts, sort_of, task_of}
 use Rattle.sm_syntax.specs.claim.Stores.{Store}
 use Rattle.sm_answers.specs.Lines.{input_refusal_line, verdict_line}
-use Rattle.sm_answers.specs.File.{IsRead, GivesNoBytes, GivesNoTask, GivesTask}
+use Rattle.sm_answers.specs.File.{IsRead, GivesNoBytes, GivesNoTask, GivesTask, Status, Accepted, Conflict, Unknown, Refused}
 use Rattle.sm_answers.specs.Status.{Says}
-use Rattle.sm_answers.specs.declared.status.Status.{Status}
-use Rattle.sm_answers.specs.declared.status.Status.TheVariants.{Accepted, Conflict, Unknown}
-use Rattle.sm_answers.specs.declared.status.Status.TheVariants.{Refused}
 
 -- the status of what an input shows
 abbrev pub verdict_status : Result Verdict ReplayError → Status

@@ -2,11 +2,9 @@
 -- first bad line. Public clauses cite it.
 use Rattle.std.specs.Prelude.{◌≡◌, ◌≢◌, ◌≤◌, ◌⊎◌, ℕ, List, [], ◌∷◌, codes, decimal}
 use Rattle.sm_check.specs.Files.{FileAnswer, Judged, OverLong, file_answer}
-use Rattle.sm_answers.specs.File.{FailsToRead, GivesTask, GivesNoTask}
+use Rattle.sm_answers.specs.File.{FailsToRead, GivesTask, GivesNoTask, Status, Accepted, Refused}
 use Rattle.sm_words.specs.Lines.{line_of}
 use Rattle.sm_answers.specs.Status.{Says}
-use Rattle.sm_answers.specs.declared.status.Status.{Status}
-use Rattle.sm_answers.specs.declared.status.Status.TheVariants.{Accepted, Refused}
 use Rattle.sm_io.specs.Files.{Known, absent, WhereHeld}
 use Rattle.sm_proof.specs.HeadWords.{word_text}
 use Rattle.sm_proof.specs.Verdicts.{Pass, Rejected, subject_of}

@@ -1,9 +1,9 @@
 -- What answers of the checker stand for. Only private clauses cite it.
 use Rattle.std.specs.Prelude.{ℕ, List, codes, Result, Ok, Err}
 use Rattle.sm_check.specs.Files.{Judged, OverLong, verdict_of}
+use Rattle.sm_check.specs.declared.verifying.Checked.{Checked}
 use Rattle.sm_check.specs.declared.verifying.CheckError.{CheckError}
 use Rattle.sm_check.specs.declared.verifying.CheckError.TheVariants as check_error
-use Rattle.sm_check.specs.declared.verifying.Checked.{Checked}
 use Rattle.sm_answers.specs.Status.{Says}
 use Rattle.sm_answers.specs.Verify.{answer_line, answer_status}
 use Rattle.sm_answers.specs.declared.status.Status.{Status}

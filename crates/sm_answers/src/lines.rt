@@ -5,9 +5,7 @@ ghost use Rattle.std.specs.String.{string_bytes};
 ghost use Rattle.sm_syntax.specs.claim.ConflictFree.{copy_of};
 ghost use Rattle.sm_syntax.specs.trees.Copies.{copy_named, letter_of};
 ghost use Rattle.sm_words.specs.Lines.{line_of};
-ghost use Rattle.sm_answers.specs.Lines.{cell_text, goal_line, input_line, op_word};
-ghost use Rattle.sm_answers.specs.Lines.{summary_line, too_many_line, trial_line, verdict_line};
-ghost use Rattle.sm_answers.specs.Lines.{many_holes_line, none_line, suggestion_line};
+ghost use Rattle.sm_answers.specs.Lines.{cell_text, goal_line, input_line, op_word, summary_line, too_many_line, trial_line, verdict_line, many_holes_line, none_line, suggestion_line};
 
 use crate::refusals::name_text;
 use itoa::Buffer;

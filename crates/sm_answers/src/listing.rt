@@ -1,15 +1,12 @@
 // Lists of files, and lines with numbers.
-ghost use Rattle.std.specs.Prelude.{◌≡◌, ◌<◌, ◌+◌, ◌++◌, ◌∷◌, [], ℕ, List, true, false, None};
-ghost use Rattle.std.specs.Prelude.{length, map, take};
-ghost use Rattle.std.specs.Prelude.{IfOk, IfErr, IfSome, IfNone, OnOk};
+ghost use Rattle.std.specs.Prelude.{◌≡◌, ◌<◌, ◌+◌, ◌++◌, ◌∷◌, [], ℕ, List, true, false, None, length, map, take, IfOk, IfErr, IfSome, IfNone, OnOk};
 ghost use Rattle.std.specs.Str.{is_utf8};
 ghost use Rattle.std.specs.String.{string_bytes};
 ghost use Rattle.sm_check.specs.LineEnds.{HasNoEnd};
 ghost use Rattle.sm_proof.specs.Verdicts.{lines_in};
 ghost use Rattle.sm_answers.specs.Exit.{ExitsWith};
 ghost use Rattle.sm_answers.specs.Listed.{line_before, unended, IsListed};
-ghost use Rattle.sm_answers.specs.Lists.{bad_list_line, is_name, is_short, numbered_line};
-ghost use Rattle.sm_answers.specs.Lists.{GivesList, GivesNoList, IsList, IsNoList, ReadsList};
+ghost use Rattle.sm_answers.specs.Lists.{bad_list_line, is_name, is_short, numbered_line, GivesList, GivesNoList, IsList, IsNoList, ReadsList};
 
 use crate::exit::Exit;
 use crate::file::bytes_in;

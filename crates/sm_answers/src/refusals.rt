@@ -1,8 +1,7 @@
 // The lines on what is refused.
 ghost use Rattle.std.specs.Prelude.{◌≡◌, ◌≢◌, [], ◌∷◌, codes, decimal, IfOk};
 ghost use Rattle.sm_words.specs.Lines.{line_of};
-ghost use Rattle.sm_answers.specs.Lines.{name_text, list_word, line_at_hole, line_at_name};
-ghost use Rattle.sm_answers.specs.Lines.{line_at_place, input_refusal_line, refusal_line};
+ghost use Rattle.sm_answers.specs.Lines.{name_text, list_word, line_at_hole, line_at_name, line_at_place, input_refusal_line, refusal_line};
 
 use itoa::Buffer;
 use sm_replay::InputError;

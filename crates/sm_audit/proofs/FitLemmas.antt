@@ -4,13 +4,13 @@ use Rattle.std.specs.Prelude.{Box}
 use Rattle.std.specs.declared.alloc.Global.{Global}
 use Rattle.sm_syntax.specs.text.Sorts.{Sorts}
 use Rattle.sm_term.specs.Terms.{Tree}
-use Rattle.sm_theory.specs.declared.line.CertLine.{CertLine}
 use Rattle.sm_theory.specs.Views.{line_in}
+use Rattle.sm_theory.specs.declared.line.CertLine.{CertLine}
 use Rattle.sm_cert.specs.Certificates.{Certificate, Closed, Split}
-use Rattle.sm_cert.specs.declared.tree.CertTree.{CertTree}
 use Rattle.sm_cert.specs.declared.tree.CertEnd.TheVariants as ends
 use Rattle.sm_cert.specs.NamedTerms.{EachTerm}
 use Rattle.sm_cert.specs.Views.{certificate_in, lines_before, lines_of}
+use Rattle.sm_cert.specs.declared.tree.CertTree.{CertTree}
 use Rattle.sm_cert.proofs.CheckLemmas.{tree_closed, tree_split, lines_closed, lines_split}
 use Rattle.sm_plan.specs.States.{State}
 use Rattle.sm_write.specs.Nameable.{Nameable}

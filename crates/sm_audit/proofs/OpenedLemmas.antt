@@ -3,16 +3,15 @@ use Rattle.std.proofs.Common.{◌≡◌, ℕ, suc, ◌+◌, ◌<◌, List, [], �
 use Rattle.std.proofs.lemmas.List.{length-append, reverse-append}
 use Rattle.sm_term.specs.Assertions.{Assertion}
 use Rattle.sm_term.specs.Tables.{TableValue, trees_in, sorts_in}
-use Rattle.sm_plan.specs.declared.opening.Successor.{Successor}
 use Rattle.sm_plan.specs.ReadyStates.{AreSuccessorsReady}
+use Rattle.sm_plan.specs.declared.opening.Successor.{Successor}
 use Rattle.sm_plan.specs.Views.{forms_in, successor_in}
-use Rattle.sm_expand.specs.declared.cursor.Cursor.{Cursor}
-use Rattle.sm_expand.specs.NumberedPlans.{NumberedPlan, At, NumberedPlans, Over, More, plan_over, plans_over, below, list_of}
-use Rattle.sm_expand.specs.NumberedPlans.{IsPlanReady, ArePlansReady}
+use Rattle.sm_expand.specs.NumberedPlans.{NumberedPlan, At, NumberedPlans, Over, More, plan_over, plans_over, below, list_of, IsPlanReady, ArePlansReady}
 use Rattle.sm_expand.specs.Cursors.{numbered_at}
-use Rattle.sm_expand.specs.declared.placed.PlacedState.{PlacedState}
+use Rattle.sm_expand.specs.declared.cursor.Cursor.{Cursor}
 use Rattle.sm_audit.specs.Walks.{AllStandFor, Waits, each_waits}
 use Rattle.sm_expand.specs.PlacedStates.{ArePlacedReady, weight, placed_with}
+use Rattle.sm_expand.specs.declared.placed.PlacedState.{PlacedState}
 
 module _ (v : TableValue) where
   -- each stands for its own, before others

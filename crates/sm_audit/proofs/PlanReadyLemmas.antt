@@ -3,23 +3,23 @@ use Rattle.std.proofs.Common.{◌≡◌, ℕ, ◌+◌, ◌<◌, List, [], ◌∷
 use Rattle.std.proofs.lemmas.List.{drop_more}
 use Rattle.std.specs.Prelude.{Box}
 use Rattle.std.specs.declared.alloc.Global.{Global}
-use Rattle.sm_syntax.specs.declared.tree.Sort.TheVariants.{Num}
 use Rattle.sm_syntax.specs.text.Sorts.{Sorts}
-use Rattle.sm_term.specs.declared.formula.Formula.{Formula}
+use Rattle.sm_syntax.specs.declared.tree.Sort.TheVariants.{Num}
 use Rattle.sm_term.specs.declared.formula.Formula.TheVariants as form
-use Rattle.sm_term.specs.declared.term.TermId.{TermId}
 use Rattle.sm_term.specs.Formulas.{numbered, assertion_in, IsFormulaWithin}
+use Rattle.sm_term.specs.declared.formula.Formula.{Formula}
 use Rattle.sm_term.specs.Sorted.{IsFormSorted, tree_sort}
 use Rattle.sm_term.specs.TableLaws.{AreTreesSorted}
 use Rattle.sm_term.specs.Tables.{tree_at}
+use Rattle.sm_term.specs.declared.term.TermId.{TermId}
 use Rattle.sm_term.specs.Terms.{Tree}
 use Rattle.sm_expand.specs.declared.plan.Last.TheVariants as last
-use Rattle.sm_expand.specs.declared.plan.Plan.{Plan}
-use Rattle.sm_expand.specs.declared.plan.Plans.{Plans, out-Plans}
-use Rattle.sm_expand.specs.declared.plan.Simple.{Simple}
 use Rattle.sm_expand.specs.declared.plan.Simple.TheVariants as simple
 use Rattle.sm_expand.specs.NumberedPlans.{NumberedPlan, At, Over, More, IsKeepReady, IsPlanReady, ArePlansReady, plans_before}
 use Rattle.sm_expand.specs.Views.{simple_node, straight_before, numbered_plan, numbered_last}
+use Rattle.sm_expand.specs.declared.plan.Plan.{Plan}
+use Rattle.sm_expand.specs.declared.plan.Simple.{Simple}
+use Rattle.sm_expand.specs.declared.plan.Plans.{Plans, out-Plans}
 use Rattle.sm_expand.proofs.PlanViews.{plan_is, last_fork, last_loop, last_block, last_dead, last_end}
 
 module _ (sorts : Sorts) (trees : List Tree) where

@@ -1,20 +1,19 @@
 -- What can be named from a node on can be named from each later one, and so can what is made of it.
-use Rattle.std.proofs.Common.{◌≡◌, ◌⊎◌, inl, inr, ◌<◌, ◌≤◌, ℕ, zero, suc, Bool, Option, Some, None, is_some, true, false, List, [], ◌∷◌, length, take}
-use Rattle.std.proofs.Common.{slice_get, get_or, refl, sym, ap, subst, ◌∙◌, arith}
+use Rattle.std.proofs.Common.{◌≡◌, ◌⊎◌, inl, inr, ◌<◌, ◌≤◌, ℕ, zero, suc, Bool, Option, Some, None, is_some, true, false, List, [], ◌∷◌, length, take, slice_get, get_or, refl, sym, ap, subst, ◌∙◌, arith}
 use Rattle.std.proofs.lemmas.Option.{same_Some}
 use Rattle.sm_syntax.specs.claim.ConflictFree.{Copy, copy_of}
 use Rattle.sm_syntax.specs.claim.Syntax.{Code}
-use Rattle.sm_syntax.specs.declared.tree.Sort.{Sort}
 use Rattle.sm_syntax.specs.text.Sorts.{Sorts}
-use Rattle.sm_term.specs.declared.symbolic.SymStore.{SymStore}
-use Rattle.sm_term.specs.declared.term.Term.{Term}
+use Rattle.sm_syntax.specs.declared.tree.Sort.{Sort}
 use Rattle.sm_term.specs.declared.term.Term.TheVariants as row
-use Rattle.sm_term.specs.declared.term.TermId.{TermId}
 use Rattle.sm_term.specs.Sorted.{IsDeclaredIn, IsSorted, IsStoreSorted}
 use Rattle.sm_term.specs.Symbolic.{SymbolicStore}
 use Rattle.sm_term.specs.SymStores.{store_in, tree_or_start}
+use Rattle.sm_term.specs.declared.symbolic.SymStore.{SymStore}
 use Rattle.sm_term.specs.TableLaws.{AreTreesSorted}
 use Rattle.sm_term.specs.Tables.{tree_at, tree_in}
+use Rattle.sm_term.specs.declared.term.TermId.{TermId}
+use Rattle.sm_term.specs.declared.term.Term.{Term}
 use Rattle.sm_term.specs.Terms.{Tree, Start}
 use Rattle.sm_term.proofs.TermsLemmas.{part_before}
 use Rattle.sm_plan.specs.ReadyStates.{IsStoreReady}

@@ -9,10 +9,10 @@ use Rattle.sm_expand.specs.Cursors.{numbered_at}
 use Rattle.sm_expand.proofs.PlansWiden.{plan_stays, plan_ready}
 use Rattle.sm_write.specs.Nameable.{Nameable}
 use Rattle.sm_write.specs.Writable.{states_until}
-use Rattle.sm_expand.specs.declared.placed.PlacedState.{PlacedState}
 use Rattle.sm_audit.specs.Since.{entry_of, IsNamedFrom, AreSince}
 use Rattle.sm_audit.specs.Walks.{Waits, StandsFor, AllStandFor}
 use Rattle.sm_expand.specs.PlacedStates.{IsPlacedReady, ArePlacedReady}
+use Rattle.sm_expand.specs.declared.placed.PlacedState.{PlacedState}
 
 module _ (v w : TableValue) (wider : ExtendsTable v w) where
   -- entries

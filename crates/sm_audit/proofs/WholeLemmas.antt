@@ -4,13 +4,13 @@ use Rattle.std.specs.Result.{OnOk}
 use Rattle.sm_syntax.specs.text.Parts.{Parts, sort_of, task_of}
 use Rattle.sm_syntax.specs.text.Sorts.{Sorts}
 use Rattle.sm_term.specs.Terms.{Tree}
-use Rattle.sm_cert.specs.declared.tree.CertTree.{CertTree}
 use Rattle.sm_cert.specs.Views.{certificate_in}
-use Rattle.sm_plan.specs.declared.node.NodeRow.{NodeRow}
+use Rattle.sm_cert.specs.declared.tree.CertTree.{CertTree}
 use Rattle.sm_plan.specs.Nodes.{Node}
 use Rattle.sm_plan.specs.Plans.{Due, Plan, nodes_of, obligations}
 use Rattle.sm_plan.specs.States.{State, start_state}
 use Rattle.sm_plan.specs.Views.{node_in}
+use Rattle.sm_plan.specs.declared.node.NodeRow.{NodeRow}
 use Rattle.sm_write.specs.PlanStates.{plan_states}
 use Rattle.sm_write.specs.Writable.{AreKeptNameable, AreShown, IsWritable, all_goals}
 use Rattle.sm_audit.specs.Fit.{AreGoalsFit}

@@ -2,9 +2,9 @@
 use Rattle.std.specs.Prelude.{ℕ, suc, Option, List, [], ◌∷◌}
 use Rattle.sm_term.specs.Formulas.{NumberedFormula, Yes, No, Eq, Ne, Le, Lt, And, Or, numbered}
 use Rattle.sm_term.specs.Terms.{Tree}
-use Rattle.sm_theory.specs.declared.line.CertLine.{CertLine}
 use Rattle.sm_theory.specs.Named.{EachNamed}
 use Rattle.sm_theory.specs.Views.{line_in, numbered_line}
+use Rattle.sm_theory.specs.declared.line.CertLine.{CertLine}
 use Rattle.sm_plan.specs.declared.node.NodeRow.{NodeRow}
 use Rattle.sm_plan.specs.declared.node.NodeRow.TheVariants as node
 use Rattle.sm_write.specs.Writable.{IsShortLine}

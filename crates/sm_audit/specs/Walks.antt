@@ -4,15 +4,15 @@ use Rattle.sm_syntax.specs.text.Sorts.{Sorts}
 use Rattle.sm_term.specs.Assertions.{Assertion}
 use Rattle.sm_term.specs.Tables.{TableValue, trees_in, sorts_in}
 use Rattle.sm_term.specs.Terms.{Tree}
-use Rattle.sm_plan.specs.declared.node.NodeRow.{NodeRow}
-use Rattle.sm_plan.specs.declared.opening.Successor.{Successor}
 use Rattle.sm_plan.specs.Nodes.{Node}
 use Rattle.sm_plan.specs.Plans.{Plan, Plans, Over, More, size, nodes_of}
 use Rattle.sm_plan.specs.ReadyStates.{IsStateReady}
+use Rattle.sm_plan.specs.declared.opening.Successor.{Successor}
 use Rattle.sm_plan.specs.States.{State}
 use Rattle.sm_plan.specs.Views.{node_in, state_in}
-use Rattle.sm_expand.specs.declared.cursor.Cursor.{Cursor}
+use Rattle.sm_plan.specs.declared.node.NodeRow.{NodeRow}
 use Rattle.sm_expand.specs.Cursors.{numbered_at}
+use Rattle.sm_expand.specs.declared.cursor.Cursor.{Cursor}
 use Rattle.sm_expand.specs.NumberedPlans.{plan_over, IsPlanReady}
 use Rattle.sm_write.specs.PlanStates.{plan_states}
 use Rattle.sm_expand.specs.declared.placed.PlacedState.{PlacedState}

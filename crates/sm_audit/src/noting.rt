@@ -13,8 +13,7 @@ ghost use Rattle.sm_expand.specs.Cursors.{numbered_at};
 ghost use Rattle.sm_expand.specs.NumberedPlans.{plan_over};
 ghost use Rattle.sm_audit.specs.Since.{AreNamedFrom, AreSince, IsPut};
 ghost use Rattle.sm_audit.specs.Walks.{IsUnderway, nodes_with};
-ghost use Rattle.sm_expand.specs.PlacedStates.{ArePlacedReady, IsPlacedReady};
-ghost use Rattle.sm_expand.specs.PlacedStates.{weight};
+ghost use Rattle.sm_expand.specs.PlacedStates.{ArePlacedReady, IsPlacedReady, weight};
 
 use crate::entries::{entry, put};
 use crate::refusal::Refusal;

@@ -1,6 +1,5 @@
 -- What a closure answers to tasks by their numbers is answered to them in their order.
-use Rattle.std.proofs.Common.{◌≡◌, ◌<◌, ℕ, zero-add, Option, Some, None, Result, Ok, Err, IfOk, List, [], ◌∷◌, map, length, All, Bor, slice_get}
-use Rattle.std.proofs.Common.{slice_index_or, get_or, refl, sym, subst, ◌∙◌, Vec, Global, arith}
+use Rattle.std.proofs.Common.{◌≡◌, ◌<◌, ℕ, zero-add, Option, Some, None, Result, Ok, Err, IfOk, List, [], ◌∷◌, map, length, All, Bor, slice_get, slice_index_or, get_or, refl, sym, subst, ◌∙◌, Vec, Global, arith}
 use Rattle.std.specs.Fn.{Shared}
 use Rattle.std.specs.List.{AllZip}
 use Rattle.std.specs.Option.{option_map}

@@ -1,5 +1,5 @@
 -- What a look-up finds in a cache.
-use Rattle.std.proofs.Common.{◌≡◌, ℕ, Bool, true, false, Option, Some, None, IsSome, List, refl, sym, ap, ◌∙◌, Vec, Global}
+use Rattle.std.proofs.Common.{◌≡◌, ℕ, Bool, false, Option, Some, None, IsSome, List, refl, sym, ap, ◌∙◌, Vec, Global}
 use Rattle.std.specs.Option.{option_map, option_map_or}
 use Rattle.std.specs.Map.{lookup}
 use Rattle.std.specs.Str.{bytes_eq}
@@ -47,7 +47,3 @@ none_found cached key none =
 pub none_not_some : {T P : Type 0} (o : Option T) → o ≡ None → IsSome o → P
 none_not_some None none some = absurd (cc)
 none_not_some (Some x) none some = absurd (cc)
-
--- what failed isn't well
-pub not_well : {P : Type 0} → false ≡ true → P
-not_well never = absurd (cc)

@@ -7,9 +7,9 @@ use Rattle.std.proofs.lemmas.List.Elements.{All-head, All-tail}
 use Rattle.std.proofs.lemmas.List.Sums.{sum_by-cons}
 use Rattle.lru.specs.LruCache.{promoted}
 use Rattle.sm_syntax.specs.text.Parts.{Parts}
-use Rattle.sm_text.specs.declared.task.Task.{Task}
 use Rattle.sm_text.specs.printing.Named.{HasText}
 use Rattle.sm_text.specs.Tasks.{parts_of}
+use Rattle.sm_text.specs.declared.task.Task.{Task}
 use Rattle.sm_batch.specs.declared.batch.Kept.{Kept}
 use Rattle.sm_batch.specs.declared.telling.Step.{Step}
 use Rattle.sm_batch.specs.Entries.{Entries, IsAccepted, AreAccepted}

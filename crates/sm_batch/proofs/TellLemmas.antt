@@ -1,5 +1,6 @@
 -- What was looked up and what was answered give each task its reply.
-use Rattle.std.proofs.Common.{◌≡◌, ℕ, ◌+◌, ◌<◌, suc, Bool, true, false, if◌then◌else◌, Option, Some, None, IfSome, IsSome, is_some, MatchOption, List, [], ◌∷◌, ◌++◌, map, length, All, slice_get, slice_index_or, refl, sym, ap, subst, ◌∙◌, Vec, Global, arith, append_assoc, append-nil, get_or, drop}
+use Rattle.std.proofs.Common.{◌≡◌, ℕ, ◌+◌, ◌<◌, suc, Bool, true, false, if◌then◌else◌, Option, Some, None, IfSome, IsSome, is_some, MatchOption, List, [], ◌∷◌, ◌++◌, map, length, All, slice_get, slice_index_or, refl, sym, ap, subst, ◌∙◌}
+use Rattle.std.proofs.Common.{Vec, Global, arith, append_assoc, append-nil, get_or, drop}
 use Rattle.std.specs.List.{AllZip}
 use Rattle.std.specs.Option.{option_map_or}
 use Rattle.std.specs.Map.{lookup}
@@ -7,9 +8,9 @@ use Rattle.std.proofs.lemmas.List.Elements.{All-head, All-tail, All-cons, All-ni
 use Rattle.std.proofs.lemmas.List.{nil_from_length, drop_more}
 use Rattle.sm_syntax.specs.claim.ConflictFree.{ConflictFree}
 use Rattle.sm_syntax.specs.text.Parts.{Parts, task_of}
-use Rattle.sm_text.specs.declared.task.Task.{Task}
 use Rattle.sm_text.specs.printing.Named.{HasText}
 use Rattle.sm_text.specs.Tasks.{parts_of}
+use Rattle.sm_text.specs.declared.task.Task.{Task}
 use Rattle.sm_batch.specs.declared.batch.Kept.{Kept}
 use Rattle.sm_batch.specs.declared.looking.Looked.{Looked}
 use Rattle.sm_batch.specs.declared.telling.Step.{Step}

@@ -1,5 +1,5 @@
 -- Two lists side by side.
-use Rattle.std.proofs.Common.{◌≡◌, ℕ, ◌+◌, ◌<◌, suc, List, [], ◌∷◌, ◌++◌, map, length, get_or, take, refl, sym, ap, subst, ◌∙◌}
+use Rattle.std.proofs.Common.{◌≡◌, ℕ, ◌+◌, ◌<◌, List, [], ◌∷◌, ◌++◌, map, length, get_or, take, sym, ap, subst, ◌∙◌}
 use Rattle.std.specs.List.{AllZip}
 use Rattle.std.proofs.lemmas.List.{take_more}
 
@@ -10,13 +10,6 @@ zip_push R [] [] x y all one = (one, tt)
 zip_push R [] (z ∷ ys) x y all one = absurd all
 zip_push R (w ∷ xs) [] x y all one = absurd all
 zip_push R (w ∷ xs) (z ∷ ys) x y all one = (all.0, zip_push R xs ys x y all.1 one)
-
--- they are as long
-pub zip_length : {A B : Type 0} (R : A → B → Type 0) (xs : List A) (ys : List B) → AllZip R xs ys → length xs ≡ length ys
-zip_length R [] [] all = refl
-zip_length R [] (y ∷ ys) all = absurd all
-zip_length R (x ∷ xs) [] all = absurd all
-zip_length R (x ∷ xs) (y ∷ ys) all = ap (λ n. suc n) (zip_length R xs ys all.1)
 
 -- where each pair has one, the images have the other
 pub zip_map : {A B C D : Type 0} (f : A → C) (g : B → D) (R : A → B → Type 0) (S : C → D → Type 0)

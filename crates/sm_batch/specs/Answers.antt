@@ -6,8 +6,8 @@ use Rattle.std.specs.Borrow.{Bor}
 use Rattle.std.specs.Fn.{Shared, FnReturnsAt}
 use Rattle.std.specs.declared.alloc.AllocError.{AllocError}
 use Rattle.sm_syntax.specs.text.Parts.{Parts}
-use Rattle.sm_text.specs.declared.task.Task.{Task}
 use Rattle.sm_text.specs.Tasks.{parts_of}
+use Rattle.sm_text.specs.declared.task.Task.{Task}
 use Rattle.sm_text.specs.printing.Named.{HasText}
 use Rattle.sm_batch.specs.declared.worker.Answered.{Answered}
 

@@ -1,8 +1,7 @@
 -- What a group of tasks does to what is kept. Public clauses cite it.
 -- A worker is three meanings here: its replies, which tasks it accepts, and which certificates it
 -- takes for a task.
-use Rattle.std.specs.Prelude.{◌≡◌, ℕ, Bool, true, false, not, ◌⊎◌, None, if◌then◌else◌}
-use Rattle.std.specs.Prelude.{List, [], ◌∷◌, filter}
+use Rattle.std.specs.Prelude.{◌≡◌, ℕ, Bool, true, false, not, ◌⊎◌, None, if◌then◌else◌, List, [], ◌∷◌, filter}
 use Rattle.std.specs.Option.{option_map_or}
 use Rattle.std.specs.Map.{lookup, remove_entry}
 use Rattle.std.specs.Str.{bytes_eq}

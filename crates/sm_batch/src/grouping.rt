@@ -1,6 +1,5 @@
 // A group of tasks.
-ghost use Rattle.std.specs.Prelude.{◌≡◌, ◌≤◌, ◌<◌, ◌+◌, ◌-◌, ◌^◌, min, All, map, count_by, IfOk};
-ghost use Rattle.std.specs.Prelude.{OnOk, OnErr};
+ghost use Rattle.std.specs.Prelude.{◌≡◌, ◌≤◌, ◌<◌, ◌+◌, ◌-◌, ◌^◌, min, All, map, count_by, IfOk, OnOk, OnErr};
 ghost use Rattle.std.specs.List.{AllZip};
 ghost use Rattle.sm_syntax.specs.claim.ConflictFree.{ConflictFree};
 ghost use Rattle.sm_syntax.specs.text.Parts.{task_of};

@@ -1,6 +1,5 @@
 // Puts replies together, from what is kept and from answers.
-ghost use Rattle.std.specs.Prelude.{◌≡◌, ◌<◌, length, IfOk};
-ghost use Rattle.std.specs.Prelude.{MatchOption, count_by};
+ghost use Rattle.std.specs.Prelude.{◌≡◌, ◌<◌, length, IfOk, MatchOption, count_by};
 ghost use Rattle.std.specs.Vec.Iter.{into_iter_items};
 ghost use Rattle.sm_batch.specs.Steps.{misses, AreTold, IsTold, IsKeptOf};
 

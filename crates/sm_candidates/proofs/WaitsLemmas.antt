@@ -4,12 +4,12 @@ use Rattle.sm_syntax.specs.text.Sorts.{Sorts}
 use Rattle.sm_term.specs.Tables.{TableValue, trees_in, sorts_in}
 use Rattle.sm_term.specs.TableLaws.{ExtendsTable}
 use Rattle.sm_term.specs.Terms.{Tree}
-use Rattle.sm_plan.specs.declared.opening.Successor.{Successor}
 use Rattle.sm_plan.specs.ReadyStates.{IsSuccessorReady, AreSuccessorsReady}
+use Rattle.sm_plan.specs.declared.opening.Successor.{Successor}
 use Rattle.sm_plan.proofs.TablesWiden.{state_ready}
-use Rattle.sm_expand.specs.declared.cursor.Cursor.{Cursor}
-use Rattle.sm_expand.specs.NumberedPlans.{NumberedPlan, At, NumberedPlans, Over, More, below, list_of, IsPlanReady, ArePlansReady}
+use Rattle.sm_expand.specs.NumberedPlans.{NumberedPlan, NumberedPlans, Over, More, list_of, IsPlanReady, ArePlansReady}
 use Rattle.sm_expand.specs.Cursors.{numbered_at}
+use Rattle.sm_expand.specs.declared.cursor.Cursor.{Cursor}
 use Rattle.sm_expand.proofs.PlansWiden.{plan_ready}
 use Rattle.sm_candidates.specs.declared.walking.Waiting.{Waiting}
 use Rattle.sm_candidates.specs.Waits.{IsPlaceReady, ArePlacesReady, IsWaitingReady, AreWaitingReady}
@@ -55,8 +55,3 @@ places_of v (c ∷ cs) (More p ps) e r =
     let first : numbered_at c ≡ p = ap (λ (qs : List NumberedPlan). get_or qs 0 p) e in
     let rest : map numbered_at cs ≡ list_of ps = ap (drop 1) e in
     (subst (IsPlanReady (sorts_in v) (trees_in v)) (sym first) r.0, places_of v cs ps rest r.1)
-
--- the plans below a node
-pub below_ready : (v : TableValue) (p : NumberedPlan) → IsPlanReady (sorts_in v) (trees_in v) p →
-    ArePlansReady (sorts_in v) (trees_in v) (below p)
-below_ready v (At node ps) r = r.1

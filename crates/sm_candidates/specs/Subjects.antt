@@ -3,8 +3,8 @@ use Rattle.std.specs.Prelude.{◌≡◌}
 use Rattle.sm_syntax.specs.text.Parts.{sort_of, task_of}
 use Rattle.sm_syntax.specs.trees.Programs.{declared_of}
 use Rattle.sm_term.specs.Tables.{TableValue, sorts_in}
-use Rattle.sm_text.specs.declared.task.Task.{Task}
 use Rattle.sm_text.specs.Tasks.{parts_of}
+use Rattle.sm_text.specs.declared.task.Task.{Task}
 use Rattle.sm_task.specs.Filling.{AreFilled}
 use Rattle.sm_plan.specs.SortedStates.{IsTaskSorted}
 use Rattle.sm_plan.specs.Starts.{AreNumbered}

@@ -4,8 +4,7 @@ ghost use Rattle.sm_term.specs.Tables.{TableValue, trees_in, sorts_in};
 ghost use Rattle.sm_term.specs.TableLaws.{ExtendsTable};
 ghost use Rattle.sm_plan.specs.ReadyStates.{IsSuccessorReady, AreSuccessorsReady, IsStateReady};
 ghost use Rattle.sm_candidates.specs.Subjects.{IsSubject, IsTableOf};
-ghost use Rattle.sm_candidates.specs.Waits.{IsPlaceReady, ArePlacesReady, IsWaitingReady};
-ghost use Rattle.sm_candidates.specs.Waits.{AreWaitingReady};
+ghost use Rattle.sm_candidates.specs.Waits.{IsPlaceReady, ArePlacesReady, IsWaitingReady, AreWaitingReady};
 
 use crate::subject::Subject;
 use sm_expand::{Cursor, PlanFault, open_at};

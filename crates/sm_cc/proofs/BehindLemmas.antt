@@ -1,40 +1,31 @@
 -- Labels of places behind those of a base tell what equals, and tell the classes where the places are new and quiet.
-use Rattle.std.proofs.Common.{◌≡◌, ◌⊎◌, ℕ, zero, suc, pos, ◌+◌, ◌-◌, ◌<◌, ◌≤◌, Bool, true, false, ◌&&◌, ◌||◌, inl, inr}
-use Rattle.std.proofs.Common.{Some, None, Option, List, [], ◌∷◌, ◌++◌, length, map, take, drop, slice_get, refl, sym, ap, subst, ◌∙◌, ⊎_elim, arith}
+use Rattle.std.proofs.Common.{◌≡◌, ◌⊎◌, ℕ, zero, suc, pos, ◌+◌, ◌-◌, ◌<◌, ◌≤◌, Bool, true, false, ◌&&◌, ◌||◌, inl, inr, Some, None, Option, List, [], ◌∷◌, ◌++◌, length, map, take, drop, slice_get, refl, sym, ap, subst, ◌∙◌, ⊎_elim, arith}
 use Rattle.std.specs.List.{list_any}
-use Rattle.std.proofs.lemmas.Bool.{false≢true, true≢false, eqb-true, or_cases, cases_lt, false_from_ne_true}
+use Rattle.std.proofs.lemmas.Bool.{true≢false, eqb-true, or_cases, cases_lt, false_from_ne_true, or_parts}
 use Rattle.std.proofs.lemmas.List.{length-append, length-map, take-append-drop}
 use Rattle.std.proofs.lemmas.Option.{same_Some}
 use Rattle.std.specs.Ordering.{int_eq}
 use Rattle.sm_theory.specs.Lines.{followed}
-use Rattle.sm_cc.specs.declared.row.Row.{Row}
-use Rattle.sm_cc.specs.declared.row.Element.{Element}
-use Rattle.sm_cc.specs.declared.log.Equation.{Equation}
-use Rattle.sm_cc.specs.declared.log.Known.TheVariants.{Equal}
-use Rattle.sm_cc.specs.declared.closure.Closure.{Closure}
 use Rattle.sm_cc.specs.declared.ground.BaseClasses.{BaseClasses}
 use Rattle.sm_cc.specs.declared.behind.Scanned.{Scanned}
-use Rattle.sm_cc.specs.Classes.{if_there}
-use Rattle.sm_cc.specs.Rows.{Board, PlacePairs, is_listed, rows_pass, one_head, shapes_pass, places_apart, equal_places}
-use Rattle.sm_cc.specs.Rows.{ArePlacesClosed, SamePlaces}
-use Rattle.sm_cc.specs.Log.{HasElement}
-use Rattle.sm_cc.specs.Closures.{are_together, board_of}
+use Rattle.sm_cc.specs.Rows.{Board, PlacePairs, is_listed, one_head, shapes_pass, places_apart, equal_places, ArePlacesClosed, SamePlaces, Row, Element}
+use Rattle.sm_cc.specs.Log.{HasElement, Equal}
+use Rattle.sm_cc.specs.Closures.{are_together, board_of, Closure, Equation}
 use Rattle.sm_cc.specs.Settled.{pair_brings}
 use Rattle.sm_cc.specs.Exact.{IsExact}
 use Rattle.sm_cc.specs.Firsts.{Keyed, label_at, with_labels, row_key, shape_key}
 use Rattle.sm_cc.specs.BaseClasses.{AreBelow, AreInside}
 use Rattle.sm_cc.specs.Labels.{AreLabels}
-use Rattle.sm_cc.specs.Scanned.{IsBehind, seen, headed_in, AreNew, AreLooked}
-use Rattle.sm_cc.specs.Scanned.{has_labels, are_parted, IsQuiet, IsQuietBehind, AreQuiet}
+use Rattle.sm_cc.specs.Scanned.{IsBehind, seen, headed_in, AreNew, AreLooked, has_labels, are_parted, IsQuiet, IsQuietBehind, AreQuiet}
 use Rattle.sm_cc.proofs.FirstsLemmas.{alike_keys, headed_keys}
-use Rattle.sm_cc.proofs.FreshLemmas.{IsUnder, AddsPlaces, brings_hit, brings_listed, element_before, element_below, SayNothing}
-use Rattle.sm_cc.proofs.FreshLemmas.{apart_before, not_apart, IsReadSo, quiet_so, old_read_so, added_are_closed}
-use Rattle.sm_cc.proofs.FreshLemmas.{AreLabelsBelow, HaveOwnLabels, fresh_roots_add, together_there}
+use Rattle.sm_cc.proofs.FreshLemmas.{IsUnder, AddsPlaces, brings_hit, element_before, element_below, SayNothing, apart_before, not_apart, IsReadSo, quiet_so, old_read_so, added_are_closed, AreLabelsBelow, HaveOwnLabels, fresh_roots_add}
+use Rattle.sm_cc.proofs.FreshLemmas.{together_there, within_old}
 use Rattle.sm_cc.proofs.LabelsLemmas.{right_at, together_by}
-use Rattle.sm_cc.proofs.LookedLemmas.{alike, headed, get_first, get_behind, under_behind, together_equal}
+use Rattle.sm_cc.proofs.LookedLemmas.{alike, headed, get_behind, under_behind, together_equal}
 use Rattle.sm_cc.proofs.RegroundingLemmas.{labels_kept}
 use Rattle.sm_cc.proofs.RoundsLemmas.{together_from}
-use Rattle.sm_cc.proofs.SoundLemmas.{noted_so}
+use Rattle.sm_cc.proofs.SoundLemmas.{noted_so, brings_listed}
+use Rattle.sm_cc.proofs.ExplainingLemmas.{pass_gives}
 
 -- what stands among the first of a list stands in it
 taken_same : {A : Type 0} (xs : List A) (m i : ℕ) → i < m → slice_get xs i ≡ slice_get (take m xs) i
@@ -49,18 +40,6 @@ whole_key : (roots : List Equation) (m : ℕ) (r : Row) → AreBelow m r.argumen
 whole_key roots m r below =
     ap (λ (o : Option Keyed). followed r.head (λ (h : ℕ). with_labels ((h, pos 0) ∷ []) o))
     (labels_kept m (take m roots) roots (λ (i : ℕ) (h : i < m). ap label_at (taken_same roots m i h)) r.arguments.items below)
-
--- rows that pass a test
-passed : (rows : List Row) (i j : ℕ) (test : Row → Row → Bool) → rows_pass rows i j test ≡ true →
-    (r : Row) × (s : Row) × (slice_get rows i ≡ Some r) × (slice_get rows j ≡ Some s) × (test r s ≡ true)
-passed rows i j test h = by (slice_get rows i) (slice_get rows j) refl refl h
-  where
-    by : (o p : Option Row) → slice_get rows i ≡ o → slice_get rows j ≡ p →
-        if_there o (λ (r : Row). if_there p (λ (s : Row). test r s)) ≡ true →
-        (r : Row) × (s : Row) × (slice_get rows i ≡ Some r) × (slice_get rows j ≡ Some s) × (test r s ≡ true)
-    by None p e f g = absurd (false≢true g)
-    by (Some r) None e f g = absurd (false≢true g)
-    by (Some r) (Some s) e f g = (r, s, e, f, g)
 
 -- the labels of exact classes are places that are there
 labels_below : (c : Closure) → IsExact c → AreLabelsBelow (length c.roots.items) c.roots.items
@@ -82,11 +61,6 @@ none_passes {A} p (y ∷ xs) (suc n) x h e = none_passes p xs n x (rest (p y) (l
     rest : (a b : Bool) → (a || b) ≡ false → b ≡ false
     rest false b f = f
     rest true b f = absurd (true≢false f)
-
--- neither of two tests is passed
-neither : (a b : Bool) → (a || b) ≡ false → (a ≡ false) × (b ≡ false)
-neither false b h = (refl, h)
-neither true b h = absurd (true≢false h)
 
 module _ (g : BaseClasses) (more : List Row) (s : Scanned) (looked : AreLooked g more s) (b : Board) (behind : IsBehind g.closure more b) where
   abbrev first : ℕ
@@ -160,7 +134,7 @@ module _ (g : BaseClasses) (more : List Row) (s : Scanned) (looked : AreLooked g
         (λ (below : i < first).
         let same : first ≡ seen first i = omega (arith, below) in
         subst (λ (n : ℕ). AreBelow n r.arguments.items) same
-        (inside i r (sym (get_first g.closure.rows.items more i below) ∙ at)).0)
+        (inside i r (sym (within_old g.closure.rows.items more i below) ∙ at)).0)
         (λ (above : first ≤ i).
         let same : i ≡ seen first i = omega (arith, above) in
         subst (λ (n : ℕ). AreBelow n r.arguments.items) same (new.below i r above less at))
@@ -182,13 +156,13 @@ module _ (g : BaseClasses) (more : List Row) (s : Scanned) (looked : AreLooked g
         (λ (h : pair_brings b pairs i k ≡ true).
         ⊎_elim
         (λ (x : alike b i k ≡ true).
-        let p = passed b.rows i k (λ r s. shapes_pass r s int_eq) x in
+        let p = pass_gives b.rows i k (λ r s. shapes_pass r s int_eq) x in
         let keys = alike_keys p.0.shape p.1.shape p.4 in
         new.alike k above below i keys.0 less
         (ap (λ (o : Option Row). followed o (λ (r : Row). shape_key r.shape)) (at_all k p.1 p.3) ∙ keys.2)
         (ap (λ (o : Option Row). followed o (λ (r : Row). shape_key r.shape)) (at_all i p.0 p.2) ∙ keys.1))
         (λ (x : headed b pairs i k ≡ true).
-        let p = passed b.rows i k (λ r s. one_head r s && equal_places pairs r.arguments.items s.arguments.items) x in
+        let p = pass_gives b.rows i k (λ r s. one_head r s && equal_places pairs r.arguments.items s.arguments.items) x in
         let keys = headed_keys roots p.0 p.1 p.4 in
         new.headed k above below i keys.0 less (key_seen k p.1 keys.0 below (at_all k p.1 p.3) keys.2)
         (key_seen i p.0 keys.0 before (at_all i p.0 p.2) keys.1))
@@ -199,7 +173,7 @@ module _ (g : BaseClasses) (more : List Row) (s : Scanned) (looked : AreLooked g
     says_nothing p q parted x y listed =
         ⊎_elim (λ (was : is_listed (board_of g.closure).unequal x y ≡ true). inl was)
         (λ (at : (n : ℕ) × (slice_get apart n ≡ Some (x, y))).
-        inr (neither (pairs x p && pairs y q) (pairs x q && pairs y p) (none_passes (has_labels roots p q) apart at.0 (x, y) parted at.1)))
+        inr (or_parts (pairs x p && pairs y q) (pairs x q && pairs y p) (none_passes (has_labels roots p q) apart at.0 (x, y) parted at.1)))
         (only_unequal x y listed)
 
     -- an element at a place of the base brings nothing more

@@ -17,12 +17,12 @@ any_more : (p q : Tree → Bool) → ((x : Tree) → p x ≡ true → q x ≡ tr
 any_more p q more [] h = absurd cc
 any_more p q more (x ∷ xs) h = or_map (p x) (q x) (more x) (any_more p q more xs) h
 
-there_more : {T : Type 0} (p q : T → Bool) → ((x : T) → p x ≡ true → q x ≡ true) → (o : Option T) →
+pub there_more : {T : Type 0} (p q : T → Bool) → ((x : T) → p x ≡ true → q x ≡ true) → (o : Option T) →
     if_there o p ≡ true → if_there o q ≡ true
 there_more p q more None h = absurd cc
 there_more p q more (Some x) h = more x h
 
-reads_more : (p q : Written → Tree → Bool) → ((w : Written) (j : Tree) → p w j ≡ true → q w j ≡ true) → (t : Tree) →
+pub reads_more : (p q : Written → Tree → Bool) → ((w : Written) (j : Tree) → p w j ≡ true → q w j ≡ true) → (t : Tree) →
     reads_written t p ≡ true → reads_written t q ≡ true
 reads_more p q more t h =
     there_more (λ (r : Tree × Tree). if_there (written_in r.0) (λ (w : Written). p w r.1))

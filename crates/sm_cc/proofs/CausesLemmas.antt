@@ -1,22 +1,18 @@
 -- What the tests of the rules find.
-use Rattle.std.proofs.Common.{◌≡◌, ℕ, zero, suc, ◌+◌, ◌<◌, ◌≤◌, ◌==◌, Bool, true, false, ◌&&◌, ◌||◌, Some, None, Option, List, [], ◌∷◌}
-use Rattle.std.proofs.Common.{length}
-use Rattle.std.proofs.Common.{map, drop, get_or, slice_get, refl, ap, ◌∙◌, arith}
+use Rattle.std.proofs.Common.{◌≡◌, ℕ, zero, suc, ◌+◌, ◌<◌, ◌≤◌, ◌==◌, Bool, true, false, ◌&&◌, ◌||◌, Some, None, Option, List, [], ◌∷◌, length, map, drop, get_or, slice_get, refl, ap, ◌∙◌, arith}
 use Rattle.std.proofs.lemmas.Bool.{and_parts, or_from, false_from_ne_true}
 use Rattle.std.proofs.lemmas.List.{drop_more}
 use Rattle.std.proofs.lemmas.Option.{slice_get-map}
 use Rattle.std.specs.List.{list_any, range_with_len}
 use Rattle.std.specs.Option.{MatchOption}
 use Rattle.std.specs.Ordering.{int_eq}
-use Rattle.sm_cc.specs.declared.row.Row.{Row}
 use Rattle.sm_cc.specs.declared.cause.Cause.{Cause}
-use Rattle.sm_cc.specs.declared.log.Given.{Given}
 use Rattle.sm_cc.specs.Classes.{if_there}
 use Rattle.sm_cc.specs.Log.{Placed}
 use Rattle.sm_cc.specs.Causes.{rows_bring, rows_pair, IsCause, IsCauseOf}
 use Rattle.sm_cc.specs.Settled.{pair_brings}
-use Rattle.sm_cc.specs.Rows.{Board, PlacePairs, is_listed, equal_places, shapes_pass, one_head, places_apart, row_brings}
-use Rattle.sm_cc.specs.Closures.{pair_of, fact_of, GivenHere}
+use Rattle.sm_cc.specs.Rows.{Board, PlacePairs, is_listed, equal_places, shapes_pass, one_head, places_apart, row_brings, Row}
+use Rattle.sm_cc.specs.Closures.{pair_of, fact_of, GivenHere, Given}
 
 -- whether a given pair is this one
 abbrev pub is_pair : ℕ → ℕ → Given → Bool
@@ -73,12 +69,6 @@ none_in p n h = none_from p 0 n (λ (m : ℕ) (low : 0 ≤ m) (high : m < 0 + n)
 pub absent : {X : Type 0} (o : Option X) (P : Type 0) (Q : X → Type 0) → MatchOption o P Q → ((x : X) → o ≡ Some x → ⊥) → P
 absent None P Q h none = h
 absent (Some x) P Q h none = absurd (none x refl)
-
--- there is an element within a list
-pub get_there : {X : Type 0} (xs : List X) (i : ℕ) → i < length xs → (x : X) × (slice_get xs i ≡ Some x)
-get_there [] i h = absurd (omega arith)
-get_there (x ∷ xs) zero h = (x, refl)
-get_there (x ∷ xs) (suc i) h = get_there xs i (omega arith)
 
 -- what a test says of two rows that are there
 abbrev brings_of : Board → PlacePairs → ℕ → ℕ → Option Row → Option Row → Bool

@@ -1,29 +1,25 @@
 -- Classes of terms stand over classes of the places.
-use Rattle.std.proofs.Common.{◌≡◌, ◌↔◌, ℕ, ◌<◌, Bool, true, false, not, IsTrue, List, [], ◌∷◌, ◌++◌, map, length}
-use Rattle.std.proofs.Common.{Option, Some, None, refl, sym, ap, ◌∙◌, subst, arith, ⊎_elim, slice_get, if◌then◌else◌}
+use Rattle.std.proofs.Common.{◌≡◌, ◌↔◌, ℕ, ◌<◌, Bool, true, false, not, IsTrue, List, [], ◌∷◌, ◌++◌, map, length, Option, Some, None, refl, sym, ap, ◌∙◌, subst, arith, ⊎_elim, slice_get, if◌then◌else◌}
 use Rattle.std.specs.List.{filter}
 use Rattle.std.proofs.lemmas.List.{map-append, append-nil}
 use Rattle.std.proofs.lemmas.Option.{slice_get_within}
-use Rattle.sm_term.specs.declared.term.TermId.{TermId}
 use Rattle.sm_term.specs.Terms.{Tree}
 use Rattle.sm_term.specs.Assertions.{Assertion, Eq, Ne}
 use Rattle.sm_term.specs.Sorted.{tree_sort}
 use Rattle.sm_term.specs.Tables.{trees_in, sorts_in, tree_at}
+use Rattle.sm_term.specs.declared.term.TermId.{TermId}
 use Rattle.sm_theory.specs.Lines.{Sides, equal_sides, unequal_sides}
-use Rattle.sm_cc.specs.declared.classes.GivenFact.{GivenFact}
-use Rattle.sm_cc.specs.declared.row.Row.{Row}
-use Rattle.sm_cc.specs.declared.positions.Positions.{Positions}
 use Rattle.sm_cc.specs.Classes.{Same, Apart}
-use Rattle.sm_cc.specs.Rows.{SamePlaces, ApartPlaces}
+use Rattle.sm_cc.specs.Rows.{SamePlaces, ApartPlaces, Row}
 use Rattle.sm_cc.specs.Standing.{place_of, RowsStand, with_places, places_given, board_for}
-use Rattle.sm_cc.specs.Positions.{place_at}
+use Rattle.sm_cc.specs.Positions.{place_at, Positions}
 use Rattle.sm_cc.specs.Log.{Placed}
 use Rattle.sm_cc.specs.Exact.{with_equal, with_unequal}
-use Rattle.sm_cc.specs.Views.{ClassesValue, setting_of, assertion_given, IsTermOf, IsOfTwoTerms, with_given}
+use Rattle.sm_cc.specs.Views.{ClassesValue, setting_of, assertion_given, IsTermOf, IsOfTwoTerms, with_given, GivenFact}
 use Rattle.sm_cc.specs.Assumed.{numbers_where, placed_for, with_fact, AreClasses}
 use Rattle.sm_cc.proofs.StandingLemmas.{among_there}
-use Rattle.sm_cc.proofs.RowsLemmas.{pushed}
 use Rattle.sm_cc.proofs.TermsOfPlaces.{same_told, apart_told}
+use Rattle.sm_lemmas.proofs.Lists.{get_pushed}
 
 -- the places of one formula more
 places_given-push : (terms : List Tree) (sides : Assertion → Option Sides) (fs : List Assertion) (f : Assertion) →
@@ -179,7 +175,7 @@ module _ (v : ClassesValue) (positions : Positions) (places : Placed) (are : Are
   of_two_more g fine n f e =
       ⊎_elim (λ (old : slice_get v.given n ≡ Some f). are.of_two_terms n f old)
       (λ (new : (n ≡ length v.given) × (g ≡ f)). subst (IsOfTwoTerms v) new.1 fine)
-      (pushed v.given g f n e)
+      (get_pushed v.given g f n e)
 
   -- one equation more is given of both
   pub classes_equal : (g : GivenFact) → g.are_equal ≡ true → IsOfTwoTerms v g → (i j : ℕ) →

@@ -1,22 +1,13 @@
 -- Classes with their log stay sound as entries are added.
-use Rattle.std.proofs.Common.{◌≡◌, ◌⊎◌, ℕ, zero, suc, ◌+◌, ◌<◌, ◌≤◌, Some, None, Option, List, [], ◌∷◌, ◌++◌, length, slice_get}
-use Rattle.std.proofs.Common.{inl, inr, refl, sym, ap, subst, ◌∙◌, ⊎_elim, arith, length-append, ◌==◌, true, get_or, slice_set}
-use Rattle.std.proofs.Common.{length-set, take}
+use Rattle.std.proofs.Common.{◌≡◌, ◌⊎◌, ℕ, zero, suc, ◌+◌, ◌<◌, ◌≤◌, Some, None, Option, List, [], ◌∷◌, ◌++◌, length, slice_get, inl, inr, refl, sym, ap, subst, ◌∙◌, ⊎_elim, arith, length-append, ◌==◌, true, get_or, slice_set, length-set}
+use Rattle.std.proofs.Common.{take}
 use Rattle.std.proofs.lemmas.Option.{slice_get_within, slice_get_read, same_Some}
-use Rattle.sm_cc.specs.declared.row.Row.{Row}
-use Rattle.sm_cc.specs.declared.row.Element.{Element}
 use Rattle.std.proofs.lemmas.Bool.{false≢true, eqb-true, and_parts}
 use Rattle.std.proofs.lemmas.List.{take_more, take_all}
-use Rattle.sm_cc.specs.Rows.{PlacePairs, equal_places}
-use Rattle.sm_cc.specs.declared.log.Known.{Known}
-use Rattle.sm_cc.specs.declared.log.Known.TheVariants.{Equal}
-use Rattle.sm_cc.specs.declared.log.Entry.{Entry}
-use Rattle.sm_cc.specs.declared.log.Equation.{Equation}
+use Rattle.sm_cc.specs.Rows.{PlacePairs, equal_places, Row, Element}
 use Rattle.sm_cc.specs.Classes.{if_there}
-use Rattle.sm_cc.specs.declared.closure.Closure.{Closure}
-use Rattle.sm_cc.specs.Log.{Placed, HasElement, SayEqual, Follows, AllFollow}
-use Rattle.sm_cc.specs.Closures.{IsSound, IsNoted, placed_of, Noted, Grows, Adds, AddsEquation, are_together}
-use Rattle.sm_cc.specs.Closures.{arguments_in, arguments_at, argument_at, AddsPremises}
+use Rattle.sm_cc.specs.Log.{Placed, HasElement, SayEqual, Follows, AllFollow, Known, Equal, Entry}
+use Rattle.sm_cc.specs.Closures.{IsSound, IsNoted, placed_of, Noted, Grows, Adds, AddsEquation, are_together, arguments_in, arguments_at, argument_at, AddsPremises, Closure, Equation}
 use Rattle.sm_cc.proofs.LogLemmas.{known_kept, known_last, all_follow_more, say_more, say_one_more, known_within}
 
 -- an entry is put behind the log

@@ -1,30 +1,22 @@
 -- Boards with more rows of which the rules bring nothing: the classes stay, and each new place is by itself.
-use Rattle.std.proofs.Common.{◌≡◌, ◌⊎◌, ℕ, suc, zero, ℤ, ◌+◌, ◌<◌, ◌≤◌, ◌==◌, Bool, true, false, ◌&&◌, ◌||◌, not, inl, inr, arith, map}
-use Rattle.std.proofs.Common.{Some, None, Option, List, [], ◌∷◌, ◌++◌, length, slice_get, refl, sym, ap, subst, ◌∙◌, ⊎_elim}
-use Rattle.std.proofs.lemmas.Bool.{false≢true, eqb-true, eq-eqb, and_parts, and_from, or_left, or_right, or_cases, cases_order}
-use Rattle.std.proofs.lemmas.Bool.{cases_lt, false_from_ne_true}
-use Rattle.std.proofs.lemmas.Cmp.{int_eq_equiv}
+use Rattle.std.proofs.Common.{◌≡◌, ◌⊎◌, ℕ, suc, zero, ℤ, ◌+◌, ◌<◌, ◌≤◌, ◌==◌, Bool, true, false, ◌&&◌, ◌||◌, not, inl, inr, arith, map, Some, None, Option, List, [], ◌∷◌, ◌++◌, length, slice_get, refl, sym, ap, subst, ◌∙◌, ⊎_elim}
+use Rattle.std.proofs.lemmas.Bool.{false≢true, eqb-true, eq-eqb, and_parts, and_from, or_left, or_right, or_cases, cases_order, cases_lt, false_from_ne_true}
 use Rattle.std.proofs.lemmas.Option.{slice_get_within, same_Some}
 use Rattle.std.specs.Ordering.{int_eq}
-use Rattle.sm_cc.specs.declared.row.Row.{Row}
-use Rattle.sm_cc.specs.declared.row.Shape.{Shape}
-use Rattle.sm_cc.specs.declared.row.Element.{Element}
-use Rattle.sm_cc.specs.declared.log.Equation.{Equation}
 use Rattle.sm_cc.specs.Classes.{if_there}
-use Rattle.sm_cc.specs.Rows.{Board, PlacePairs, is_listed, rows_pass, one_head, shapes_pass, equal_places, places_differ, places_apart}
-use Rattle.sm_cc.specs.Rows.{row_brings, ArePlacesClosed}
+use Rattle.sm_cc.specs.Rows.{Board, PlacePairs, is_listed, rows_pass, one_head, shapes_pass, equal_places, places_differ, places_apart, row_brings, ArePlacesClosed, Row, Element}
 use Rattle.sm_cc.specs.Log.{HasElement}
-use Rattle.sm_cc.specs.Closures.{are_together, pair_of}
-use Rattle.sm_cc.specs.declared.log.Given.{Given}
+use Rattle.sm_cc.specs.Closures.{are_together, pair_of, Equation, Given}
 use Rattle.sm_cc.specs.Settled.{pair_brings}
 use Rattle.sm_cc.specs.BaseClasses.{AreBelow, IsElementBelow, AreInside, AreAllGiven}
 use Rattle.sm_cc.specs.Growing.{IsCopy, AreKept}
-use Rattle.sm_cc.proofs.CausesLemmas.{get_there}
 use Rattle.sm_cc.proofs.ClosuresLemmas.{roots_of}
 use Rattle.sm_cc.proofs.ExplainingLemmas.{pass_gives}
-use Rattle.sm_cc.proofs.GrowingLemmas.{get_before}
 use Rattle.sm_cc.proofs.RoundsLemmas.{together_from}
-use Rattle.sm_cc.proofs.SoundLemmas.{parts_of, apart_from, pass_at, listed_at}
+use Rattle.sm_cc.proofs.SoundLemmas.{parts_of, apart_from, pass_at, listed_at, brings_listed}
+use Rattle.sm_cc.proofs.GrowingLemmas.{place_there, shapes_same, head_same, element_there}
+use Rattle.sm_cc.proofs.SettledLemmas.{shapes_turned, heads_turned}
+use Rattle.sm_lemmas.proofs.Lists.{get_below, get_in_first}
 
 -- a board has the rows of another with more behind them, and all that is given of those
 pub record IsUnder (b w : Board) : Type 0 where
@@ -42,16 +34,9 @@ pub record AddsPlaces (n m : ℕ) (old new : PlacePairs) : Type 0 where
 pub kept_behind : (old more new : List Row) → new ≡ old ++ more → AreKept old new
 kept_behind old more new all i r here = (
   r,
-  subst (λ (l : List Row). slice_get l i ≡ Some r) (sym all) (get_before old more i r here),
+  subst (λ (l : List Row). slice_get l i ≡ Some r) (sym all) (get_in_first old more i r here),
   record { head = refl; arguments = refl; shape = refl; element = refl },
 )
-
--- so the old places are there
-pub old_there : (old new : List Row) → AreKept old new → (i : ℕ) → i < length old → i < length new
-old_there old new kept i within =
-    let r = get_there old i within in
-    let s = kept i r.0 r.1 in
-    slice_get_within new i s.0 s.1
 
 -- what a test says of two rows that are there
 pass_is : (rows : List Row) (i j : ℕ) (r s : Row) (test : Row → Row → Bool) → slice_get rows i ≡ Some r → slice_get rows j ≡ Some s →
@@ -65,26 +50,13 @@ pass_kept : (old new : List Row) → AreKept old new → (i j : ℕ) → i < len
     ((r s u v : Row) → slice_get old i ≡ Some r → slice_get old j ≡ Some s → IsCopy r u → IsCopy s v → other u v ≡ test r s) →
     rows_pass new i j other ≡ rows_pass old i j test
 pass_kept old new kept i j first second test other same =
-    let r = get_there old i first in
-    let s = get_there old j second in
+    let r = get_below old i first in
+    let s = get_below old j second in
     let u = kept i r.0 r.1 in
     let v = kept j s.0 s.1 in
     pass_is new i j u.0 v.0 other u.1 v.1
     ∙ same r.0 s.0 u.0 v.0 r.1 s.1 u.2 v.2
     ∙ sym (pass_is old i j r.0 s.0 test r.1 s.1)
-
--- forms, heads and arguments of copies
-shapes_copied : (test : ℤ → ℤ → Bool) (r s u v : Row) → IsCopy r u → IsCopy s v → shapes_pass u v test ≡ shapes_pass r s test
-shapes_copied test r s u v one two =
-    ap (λ (o : Option Shape). if_there o (λ (f : Shape). if_there v.shape (λ (g : Shape).
-    (f.parts == g.parts) && test f.constant g.constant))) one.shape
-    ∙ ap (λ (o : Option Shape). if_there r.shape (λ (f : Shape). if_there o (λ (g : Shape).
-    (f.parts == g.parts) && test f.constant g.constant))) two.shape
-
-heads_copied : (r s u v : Row) → IsCopy r u → IsCopy s v → one_head u v ≡ one_head r s
-heads_copied r s u v one two =
-    ap (λ (o : Option ℕ). if_there o (λ (h : ℕ). if_there v.head (λ (k : ℕ). h == k))) one.head
-    ∙ ap (λ (o : Option ℕ). if_there r.head (λ (h : ℕ). if_there o (λ (k : ℕ). h == k))) two.head
 
 arguments_copied : (equal : PlacePairs) (r s u v : Row) → IsCopy r u → IsCopy s v →
     equal_places equal u.arguments.items v.arguments.items ≡ equal_places equal r.arguments.items s.arguments.items
@@ -117,7 +89,7 @@ shapes_kept : (old new : List Row) → AreKept old new → (test : ℤ → ℤ �
     rows_pass new i j (λ r s. shapes_pass r s test) ≡ rows_pass old i j (λ r s. shapes_pass r s test)
 shapes_kept old new kept test i j first second =
     pass_kept old new kept i j first second (λ r s. shapes_pass r s test) (λ r s. shapes_pass r s test)
-    (λ r s u v f g one two. shapes_copied test r s u v one two)
+    (λ r s u v f g one two. shapes_same test r s u v one two)
 
 -- what pairs of old places bring is what they brought
 pub pairs_kept : (b w : Board) (old new : PlacePairs) → AreKept b.rows w.rows → AreInside b.rows →
@@ -128,7 +100,7 @@ pairs_kept b w old new kept inside same i j first second =
     ∙ ap (λ (x : Bool). alike b i j || x)
     (pass_kept b.rows w.rows kept i j first second (same_arguments old) (same_arguments new)
     (λ r s u v f g one two.
-    ap (λ (x : Bool). x && equal_places new u.arguments.items v.arguments.items) (heads_copied r s u v one two)
+    ap (λ (x : Bool). x && equal_places new u.arguments.items v.arguments.items) (head_same r s u v one two)
     ∙ ap (λ (x : Bool). one_head r s && x)
     (arguments_copied new r s u v one two
     ∙ places_kept (length b.rows) old new same r.arguments.items s.arguments.items (inside i r f).0 (inside j s g).0)))
@@ -167,7 +139,7 @@ reads_out b i j test h =
 reads_in : (b : Board) (i j : ℕ) (test : Element → Bool) (e : Element) → HasElement b.rows i e → j < length b.rows → test e ≡ true →
     reads b i j test ≡ true
 reads_in b i j test e has within h =
-    let s = get_there b.rows j within in
+    let s = get_below b.rows j within in
     pass_at b.rows i j has.0 s.0 (λ r t. if_there r.element test) has.1 s.1
     (ap (λ (o : Option Element). if_there o test) has.2 ∙ h)
 
@@ -205,10 +177,6 @@ brings_rest : (b : Board) (equal : PlacePairs) (i j : ℕ) →
     row_brings b equal i j ≡ true
 brings_rest b equal i j h =
     or_right (is_listed b.equal i j) (alike b i j || (headed b equal i j || (reads b i j (hit equal j) || reads b i j (miss b equal j)))) h
-
-pub brings_listed : (b : Board) (equal : PlacePairs) (i j : ℕ) → is_listed b.equal i j ≡ true → row_brings b equal i j ≡ true
-brings_listed b equal i j h =
-    or_left (is_listed b.equal i j) (alike b i j || (headed b equal i j || (reads b i j (hit equal j) || reads b i j (miss b equal j)))) h
 
 pub brings_pair : (b : Board) (equal : PlacePairs) (i j : ℕ) → pair_brings b equal i j ≡ true → row_brings b equal i j ≡ true
 brings_pair b equal i j h =
@@ -288,23 +256,18 @@ apart_still b w under equal i j h =
     (record {
       left = x.left;
       right = x.right;
-      left_there = old_there b.rows w.rows under.rows x.left x.left_there;
-      right_there = old_there b.rows w.rows under.rows x.right x.right_there;
+      left_there = place_there b.rows w.rows under.rows x.left x.left_there;
+      right_there = place_there b.rows w.rows under.rows x.right x.right_there;
       first = x.first;
       second = x.second;
       differ = differ_still b w under x.left x.right x.left_there x.right_there x.differ;
     })
 
--- an element of an old row is one of its copy
-pub element_still : (old new : List Row) → AreKept old new → (i : ℕ) (e : Element) → HasElement old i e → HasElement new i e
-element_still old new kept i e has =
-    let s = kept i has.0 has.1 in (s.0, s.1, s.2.element ∙ has.2)
-
 -- an element of a row's copy is one of the old row
 pub element_before : (old new : List Row) → AreKept old new → (i : ℕ) → i < length old → (e : Element) → HasElement new i e →
     HasElement old i e
 element_before old new kept i within e has =
-    let r = get_there old i within in
+    let r = get_below old i within in
     let s = kept i r.0 r.1 in
     let same : s.0 ≡ has.0 = same_Some s.0 has.0 (sym s.1 ∙ has.1) in
     (r.0, r.1, sym s.2.element ∙ ap (λ (x : Row). x.element) same ∙ has.2)
@@ -314,7 +277,7 @@ pub brings_still : (b w : Board) → IsUnder b w → (equal : PlacePairs) (i j :
     row_brings b equal i j ≡ true → row_brings w equal i j ≡ true
 brings_still b w under equal i j first second h =
     let rows = under.rows in
-    let later = old_there b.rows w.rows rows j second in
+    let later = place_there b.rows w.rows rows j second in
     ⊎_elim (λ (e : is_listed b.equal i j ≡ true). brings_listed w equal i j (under.equal i j e))
     (λ (f : (pair_brings b equal i j ≡ true) ⊎ (HitsAt b equal i j ⊎ MissesAt b equal i j)).
     ⊎_elim
@@ -322,11 +285,11 @@ brings_still b w under equal i j first second h =
     (λ (g : HitsAt b equal i j ⊎ MissesAt b equal i j).
     ⊎_elim
     (λ (x : HitsAt b equal i j).
-    brings_hit w equal i j (x.0, element_still b.rows w.rows rows i x.0 x.1, later, x.3, x.4))
+    brings_hit w equal i j (x.0, element_there b.rows w.rows rows i x.0 x.1, later, x.3, x.4))
     (λ (x : MissesAt b equal i j).
     brings_miss w equal i j (
       x.0,
-      element_still b.rows w.rows rows i x.0 x.1,
+      element_there b.rows w.rows rows i x.0 x.1,
       later,
       apart_still b w under equal x.0.index x.0.other x.3,
       x.4,
@@ -341,18 +304,18 @@ brings_still b w under equal i j first second h =
         ∙ ap (λ (x : Bool). rows_pass old i j (λ r s. shapes_pass r s int_eq) || x)
         (pass_kept old new kept i j first second (same_arguments equal) (same_arguments equal)
         (λ r s u v f g one two.
-        ap (λ (x : Bool). x && equal_places equal u.arguments.items v.arguments.items) (heads_copied r s u v one two)
+        ap (λ (x : Bool). x && equal_places equal u.arguments.items v.arguments.items) (head_same r s u v one two)
         ∙ ap (λ (x : Bool). one_head r s && x) (arguments_copied equal r s u v one two)))
         ∙ h
 
 -- pairs that are closed where more is given are closed before
 pub closed_before : (b w : Board) → IsUnder b w → (equal : PlacePairs) → ArePlacesClosed w equal → ArePlacesClosed b equal
 closed_before b w under equal closed = record {
-  each = λ i h. closed.each i (old_there b.rows w.rows under.rows i h);
+  each = λ i h. closed.each i (place_there b.rows w.rows under.rows i h);
   turned = closed.turned;
   joined = closed.joined;
   brought = λ i j h g x.
-      closed.brought i j (old_there b.rows w.rows under.rows i h) (old_there b.rows w.rows under.rows j g)
+      closed.brought i j (place_there b.rows w.rows under.rows i h) (place_there b.rows w.rows under.rows j g)
       (brings_still b w under equal i j h g x);
 }
 
@@ -365,21 +328,6 @@ places_turned equal turned (i ∷ is) [] h = absurd (false≢true h)
 places_turned equal turned (i ∷ is) (j ∷ js) h =
     let both = and_parts (equal i j) (equal_places equal is js) h in
     and_from (equal j i) (equal_places equal js is) (turned i j both.0) (places_turned equal turned is js both.1)
-
-shapes_turned : (o p : Option Shape) → if_there o (λ f. if_there p (λ g. (f.parts == g.parts) && int_eq f.constant g.constant)) ≡ true →
-    if_there p (λ f. if_there o (λ g. (f.parts == g.parts) && int_eq f.constant g.constant)) ≡ true
-shapes_turned None p h = absurd (false≢true h)
-shapes_turned (Some f) None h = absurd (false≢true h)
-shapes_turned (Some f) (Some g) h =
-    let both = and_parts (f.parts == g.parts) (int_eq f.constant g.constant) h in
-    and_from (g.parts == f.parts) (int_eq g.constant f.constant) (eq-eqb g.parts f.parts (sym (eqb-true f.parts g.parts both.0)))
-    (int_eq_equiv.symm g.constant f.constant ∙ both.1)
-
-heads_turned : (o p : Option ℕ) → if_there o (λ (h : ℕ). if_there p (λ (k : ℕ). h == k)) ≡ true →
-    if_there p (λ (h : ℕ). if_there o (λ (k : ℕ). h == k)) ≡ true
-heads_turned None p h = absurd (false≢true h)
-heads_turned (Some x) None h = absurd (false≢true h)
-heads_turned (Some x) (Some y) h = eq-eqb y x (sym (eqb-true x y h))
 
 pub pair_turned : (b : Board) (equal : PlacePairs) → ((i j : ℕ) → equal i j ≡ true → equal j i ≡ true) → (i j : ℕ) →
     pair_brings b equal i j ≡ true → pair_brings b equal j i ≡ true
@@ -605,8 +553,8 @@ after_old (z ∷ xs) ys zero x h low = absurd (omega arith)
 after_old (z ∷ xs) ys (suc n) x h low = let r = after_old xs ys n x h (omega (arith, low)) in (r.0, omega (arith, r.1), r.2)
 
 -- what stands at a place within a list stands there, too, where more is behind the list
-within_old : {X : Type 0} (xs ys : List X) (n : ℕ) → n < length xs → slice_get (xs ++ ys) n ≡ slice_get xs n
-within_old xs ys n within = let x = get_there xs n within in get_before xs ys n x.0 x.1 ∙ sym x.1
+pub within_old : {X : Type 0} (xs ys : List X) (n : ℕ) → n < length xs → slice_get (xs ++ ys) n ≡ slice_get xs n
+within_old xs ys n within = let x = get_below xs n within in get_in_first xs ys n x.0 x.1 ∙ sym x.1
 
 -- places that are equal by their labels are there
 pub together_there : (roots : List Equation) (i j : ℕ) → are_together roots i j ≡ true → (i < length roots) × (j < length roots)
@@ -615,7 +563,7 @@ together_there roots i j h =
 
 -- each place that is there is equal to itself
 pub together_itself : (roots : List Equation) (i : ℕ) → i < length roots → are_together roots i i ≡ true
-together_itself roots i within = let r = get_there roots i within in together_from roots i i r.0 r.0 r.1 r.1 refl
+together_itself roots i within = let r = get_below roots i within in together_from roots i i r.0 r.0 r.1 r.1 refl
 
 -- fresh roots behind others add places
 pub fresh_roots_add : (roots fresh : List Equation) → AreLabelsBelow (length roots) roots → HaveOwnLabels (length roots) fresh →

@@ -1,20 +1,19 @@
 -- Classes that begin with those of others: the rows of these stay, and what is given of them is given still.
-use Rattle.std.proofs.Common.{◌≡◌, ℕ, ◌+◌, ◌<◌, ◌≤◌, zero, suc, Bool, true, false, List, [], ◌∷◌, ◌++◌, map, length, slice_get}
-use Rattle.std.proofs.Common.{Option, Some, None, refl, sym, ap, ◌∙◌, subst, arith, IsTrue, not, if◌then◌else◌, ⊎_elim, inl, inr, ◌⊎◌, ℤ}
+use Rattle.std.proofs.Common.{◌≡◌, ℕ, ◌+◌, ◌<◌, zero, suc, Bool, true, false, List, [], ◌∷◌, ◌++◌, map, length, slice_get, Option, Some, None, refl, sym, ap, ◌∙◌, subst, arith, IsTrue, not, if◌then◌else◌, ⊎_elim, ◌⊎◌, ℤ}
 use Rattle.std.specs.Option.{option_map}
 use Rattle.std.specs.List.{filter}
 use Rattle.std.proofs.lemmas.List.{length-append, length-map, map-append}
 use Rattle.std.proofs.lemmas.Option.{slice_get-map, slice_get_within}
 use Rattle.sm_syntax.specs.claim.Syntax.{Code}
 use Rattle.sm_syntax.specs.text.Sorts.{Sorts}
-use Rattle.sm_term.specs.declared.term.TermId.{TermId}
-use Rattle.sm_term.specs.declared.term.Term.{Term}
 use Rattle.sm_term.specs.RowLaws.{Contents}
 use Rattle.sm_term.specs.Terms.{Tree, Read}
 use Rattle.sm_term.specs.SameTerms.{same_tree}
 use Rattle.sm_term.specs.Heads.{arguments_of}
 use Rattle.sm_term.specs.Fitting.{term_fits}
 use Rattle.sm_term.specs.Tables.{TableValue, trees_in, sorts_in, codes_in, tree_at, tree_in, IsTermWithin, AreBefore}
+use Rattle.sm_term.specs.declared.term.TermId.{TermId}
+use Rattle.sm_term.specs.declared.term.Term.{Term}
 use Rattle.sm_term.specs.TableLaws.{AddsTerms, AreApart, AreCodesApart}
 use Rattle.sm_term.proofs.TreesLemmas.{tree_at-more, tree_in-more, fits-more, within-later}
 use Rattle.sm_theory.specs.LinearTerms.{linear_of}
@@ -23,11 +22,8 @@ use Rattle.sm_theory.specs.Elements.{Written, written_in, read_in}
 use Rattle.sm_theory.specs.Lines.{followed}
 use Rattle.sm_theory.proofs.FormsOfTermsLemmas.{one_place}
 use Rattle.sm_theory.proofs.LinearLater.{stands_later}
-use Rattle.sm_cc.specs.declared.classes.GivenFact.{GivenFact}
 use Rattle.sm_cc.specs.declared.ground.BaseClasses.{BaseClasses}
 use Rattle.sm_cc.specs.declared.ground.Numbering.{Numbering}
-use Rattle.sm_cc.specs.declared.log.Given.{Given}
-use Rattle.sm_cc.specs.declared.positions.Positions.{Positions}
 use Rattle.sm_cc.specs.declared.row.Row.{Row}
 use Rattle.sm_cc.specs.declared.row.Shape.{Shape}
 use Rattle.sm_cc.specs.declared.row.Element.{Element}
@@ -38,17 +34,17 @@ use Rattle.sm_cc.specs.Numbered.{head_of, IsHeadAt, IsShapeAt, heads_met, parts_
 use Rattle.sm_cc.specs.RowOf.{HasTree, IsRowOf, IsFurther, AreRowsFrom}
 use Rattle.sm_cc.specs.Growing.{IsCopy, AreGrown}
 use Rattle.sm_cc.specs.BaseClasses.{AreBelow, IsElementBelow, IsRowBelow, AreInside, AreNumberedBy, AreAllGiven, AreBaseClasses, IsLedBy}
-use Rattle.sm_cc.specs.Views.{ClassesValue, trees_of, setting_of, AreOfTwoTerms}
-use Rattle.sm_cc.specs.Positions.{ArePositions, place_at}
+use Rattle.sm_cc.specs.Views.{ClassesValue, trees_of, setting_of, AreOfTwoTerms, GivenFact}
+use Rattle.sm_cc.specs.Positions.{ArePositions, place_at, Positions}
 use Rattle.sm_cc.specs.Log.{Placed}
-use Rattle.sm_cc.specs.Closures.{pair_of, fact_of, placed_of}
+use Rattle.sm_cc.specs.Closures.{pair_of, fact_of, placed_of, Given}
 use Rattle.sm_cc.specs.Exact.{placed_with}
 use Rattle.sm_cc.specs.Assumed.{placed_fact, placed_equations, placed_contraries, AreClasses}
 use Rattle.sm_pairs.proofs.LongerLemmas.{slice_get-longer}
-use Rattle.sm_pairs.proofs.AmongLemmas.{one_thing}
 use Rattle.sm_cc.proofs.StandingLemmas.{among_there}
 use Rattle.sm_cc.proofs.RowsLemmas.{row_later, rows_stand}
 use Rattle.sm_cc.proofs.PlacedLemmas.{classes_made}
+use Rattle.sm_lemmas.proofs.Lists.{get_in_either, get_below, one_thing}
 
 -- a place that is there stays where more stand behind
 place_behind : (more : List Tree) (x : Tree) (ts : List Tree) → place_of ts x < length ts → place_of (ts ++ more) x ≡ place_of ts x
@@ -190,22 +186,6 @@ trees_longer trees later longer ids more before wider = (
       ∙ ap (λ (ts : List Tree). ts ++ trees_of later wider.0) (trees_kept trees later longer ids before),
 )
 
--- what stands in two lists
-split : {A : Type 0} (xs ys : List A) (k : ℕ) (y : A) → slice_get (xs ++ ys) k ≡ Some y →
-    (slice_get xs k ≡ Some y) ⊎ ((m : ℕ) × (k ≡ length xs + m) × (slice_get ys m ≡ Some y))
-split [] ys k y e = inr (k, omega arith, e)
-split (x ∷ xs) ys zero y e = inl e
-split {A} (x ∷ xs) ys (suc k) y e =
-    ⊎_elim (λ (h : slice_get xs k ≡ Some y). inl h)
-    (λ (h : (m : ℕ) × (k ≡ length xs + m) × (slice_get ys m ≡ Some y)). let same = h.1 in inr (h.0, omega (arith, same), h.2))
-    (split xs ys k y e)
-
--- something stands at each place
-there : {A : Type 0} (xs : List A) (i : ℕ) → i < length xs → (x : A) × (slice_get xs i ≡ Some x)
-there [] i h = absurd (omega arith)
-there (x ∷ xs) zero h = (x, refl)
-there (x ∷ xs) (suc i) h = let less : i < length xs = omega arith in there xs i less
-
 -- copies of rows with those of more terms behind them stand for all terms
 module _ (old new : TableValue) (grows : AddsTerms old new) (apart : AreApart (trees_in new)) (codes : AreCodesApart (codes_in new))
     (ts us : List Tree) (longer : IsLonger ts us) (n m : Numbering) (further : IsFurther n m) (rows more all : List Row)
@@ -217,8 +197,8 @@ module _ (old new : TableValue) (grows : AddsTerms old new) (apart : AreApart (t
   first i r t h g =
       let in_copies = slice_get_within grown.copies i r h in
       let same_count = grown.count in
-      let row = there rows i (omega (arith, in_copies, same_count)) in
-      let term = there ts i (omega (arith, in_copies, same_count, count)) in
+      let row = get_below rows i (omega (arith, in_copies, same_count)) in
+      let term = get_below ts i (omega (arith, in_copies, same_count, count)) in
       let kept = grown.kept i row.0 row.1 in
       let same = one_thing kept.0 r (sym kept.1 ∙ h) in
       let tree = one_thing term.0 t (sym (slice_get-longer ts us longer i term.0 term.1) ∙ g) in
@@ -236,7 +216,7 @@ module _ (old new : TableValue) (grows : AddsTerms old new) (apart : AreApart (t
       (λ (h : (k : ℕ) × (i ≡ length grown.copies + k) × (slice_get more k ≡ Some r)).
       let place : i ≡ length rows + h.0 = h.1 ∙ ap (λ (l : ℕ). l + h.0) grown.count in
       behind h.0 r t h.2 (ap (slice_get us) (sym place) ∙ g))
-      (split grown.copies more i r (ap (λ (l : List Row). slice_get l i) (sym grown.all) ∙ f))
+      (get_in_either grown.copies more i r (ap (λ (l : List Row). slice_get l i) (sym grown.all) ∙ f))
 
   pub rows_over : RowsStand (sorts_in new) us all
   rows_over =

@@ -1,32 +1,21 @@
 -- Classes that begin with copies of others stay sound.
-use Rattle.std.proofs.Common.{◌≡◌, ℕ, zero, suc, ◌+◌, ◌<◌, ◌≤◌, Some, None, Option, Bool, true, List, [], ◌∷◌, ◌++◌, length, map, ℤ}
-use Rattle.std.proofs.Common.{slice_get, length-append, refl, sym, ap, subst, ◌∙◌, ⊎_elim, arith, not}
+use Rattle.std.proofs.Common.{◌≡◌, ℕ, ◌+◌, ◌<◌, ◌≤◌, Some, None, Option, Bool, true, List, [], ◌∷◌, ◌++◌, length, map, ℤ, slice_get, length-append, refl, sym, ap, subst, ◌∙◌, ⊎_elim, arith, not}
 use Rattle.std.proofs.lemmas.List.{length-map}
 use Rattle.std.proofs.lemmas.Option.{slice_get_within, slice_get-map, same_Some}
 use Rattle.std.proofs.lemmas.Bool.{false≢true, cases_lt}
 use Rattle.std.specs.Option.{option_map}
 use Rattle.std.specs.Ordering.{int_eq}
-use Rattle.sm_cc.specs.declared.row.Row.{Row}
-use Rattle.sm_cc.specs.declared.row.Element.{Element}
-use Rattle.sm_cc.specs.declared.log.Known.{Known}
-use Rattle.sm_cc.specs.declared.log.Known.TheVariants.{Equal, Unequal}
-use Rattle.sm_cc.specs.declared.log.Rule.{Rule}
-use Rattle.sm_cc.specs.declared.log.Rule.TheVariants.{Refl, Sym, Trans, Subst, Alike, Apart, Cong, Hit, Miss}
-use Rattle.sm_cc.specs.declared.log.Why.{Why}
 use Rattle.sm_cc.specs.declared.log.Why.TheVariants as why
-use Rattle.sm_cc.specs.declared.log.Entry.{Entry}
-use Rattle.sm_cc.specs.declared.log.Given.{Given}
-use Rattle.sm_cc.specs.declared.log.Equation.{Equation}
-use Rattle.sm_cc.specs.declared.closure.Closure.{Closure}
 use Rattle.sm_cc.specs.Classes.{if_there}
-use Rattle.sm_cc.specs.Rows.{rows_pass, shapes_pass, one_head}
-use Rattle.sm_cc.specs.Log.{Placed, HasElement, SayEqual, Derives, Follows, Before, AllFollow, known_at}
-use Rattle.sm_cc.specs.Closures.{IsSound, AllRooted, Noted, GivenHere, pair_of, fact_of, placed_of}
+use Rattle.sm_cc.specs.Rows.{rows_pass, shapes_pass, one_head, Row, Element}
+use Rattle.sm_cc.specs.Log.{Placed, HasElement, SayEqual, Derives, Follows, Before, AllFollow, known_at, Known, Equal, Unequal, Rule, Refl, Sym, Trans, Subst, Alike, Apart, Cong, Hit, Miss, Why, Entry}
+use Rattle.sm_cc.specs.Closures.{IsSound, AllRooted, Noted, GivenHere, pair_of, fact_of, placed_of, Closure, Equation, Given}
 use Rattle.sm_cc.specs.Exact.{placed_with}
 use Rattle.sm_cc.specs.BaseClasses.{AreAllGiven}
 use Rattle.sm_cc.specs.Growing.{IsCopy, AreKept, AreGrown, IsSameRule, IsSameWhy, AreEntriesKept}
-use Rattle.sm_cc.proofs.CausesLemmas.{get_there, given_here}
-use Rattle.sm_cc.proofs.LogLemmas.{get_kept, get_last, get_cases, known_kept, known_last, known_within, follows_more, all_follow_more}
+use Rattle.sm_cc.proofs.CausesLemmas.{given_here}
+use Rattle.sm_cc.proofs.LogLemmas.{get_kept, get_cases, known_kept, known_last, known_within, follows_more, all_follow_more}
+use Rattle.sm_lemmas.proofs.Lists.{get_in_first, get_below, get_last}
 
 -- the entry that a place equals itself
 abbrev pub own_entry : ℕ → Entry
@@ -64,22 +53,16 @@ pub like_all : {A : Type 0} (like : A → A → Type 0) (n : ℕ) (old new : Lis
     (k : ℕ) (x : A) → slice_get old k ≡ Some x → (y : A) × (slice_get new k ≡ Some y) × like x y
 like_all like n old new all short k x here = let within = slice_get_within old k x here in all.each k x (omega arith) here
 
--- an element stays where it is as more are put behind it
-pub get_before : {X : Type 0} (xs ys : List X) (n : ℕ) (x : X) → slice_get xs n ≡ Some x → slice_get (xs ++ ys) n ≡ Some x
-get_before [] ys n x h = absurd (let k : None ≡ Some x = h in cc)
-get_before (z ∷ xs) ys zero x h = h
-get_before (z ∷ xs) ys (suc n) x h = get_before xs ys n x h
-
 -- rows with more behind them have a copy of each
 pub grown_kept : (old more new : List Row) → AreGrown old more new → AreKept old new
 grown_kept old more new g i r h =
     let copy = g.kept i r h in
-    (copy.0, subst (λ l. slice_get l i ≡ Some copy.0) (sym g.all) (get_before g.copies more i copy.0 copy.1), copy.2)
+    (copy.0, subst (λ l. slice_get l i ≡ Some copy.0) (sym g.all) (get_in_first g.copies more i copy.0 copy.1), copy.2)
 
 -- a place is there still
-place_there : (old new : List Row) → AreKept old new → (i : ℕ) → i < length old → i < length new
+pub place_there : (old new : List Row) → AreKept old new → (i : ℕ) → i < length old → i < length new
 place_there old new kept i h =
-    let r = get_there old i h in
+    let r = get_below old i h in
     let copy = kept i r.0 r.1 in
     slice_get_within new i copy.0 copy.1
 
@@ -103,16 +86,16 @@ pass_kept : (old new : List Row) → AreKept old new → (test : Row → Row →
 pass_kept old new kept test same i j h = pass_in old new kept test same i j (slice_get old i) (slice_get old j) refl refl h
 
 -- forms are compared alike
-shapes_same : (test : ℤ → ℤ → Bool) (r s p q : Row) → IsCopy r p → IsCopy s q → shapes_pass p q test ≡ shapes_pass r s test
+pub shapes_same : (test : ℤ → ℤ → Bool) (r s p q : Row) → IsCopy r p → IsCopy s q → shapes_pass p q test ≡ shapes_pass r s test
 shapes_same test r s p q a b =
     ap (λ o. shapes_pass (record p { shape = o }) q test) a.shape ∙ ap (λ o. shapes_pass r (record q { shape = o }) test) b.shape
 
 -- heads too
-head_same : (r s p q : Row) → IsCopy r p → IsCopy s q → one_head p q ≡ one_head r s
+pub head_same : (r s p q : Row) → IsCopy r p → IsCopy s q → one_head p q ≡ one_head r s
 head_same r s p q a b = ap (λ o. one_head (record p { head = o }) q) a.head ∙ ap (λ o. one_head r (record q { head = o })) b.head
 
 -- an element is kept
-element_there : (old new : List Row) → AreKept old new → (i : ℕ) (e : Element) → HasElement old i e → HasElement new i e
+pub element_there : (old new : List Row) → AreKept old new → (i : ℕ) (e : Element) → HasElement old i e → HasElement new i e
 element_there old new kept i e h = let copy = kept i h.0 h.1 in (copy.0, copy.1, copy.2.element ∙ h.2)
 
 -- what a rule gives of rows it gives of copies
@@ -191,7 +174,7 @@ given_all : (old new : List Given) → AreAllGiven old new → (fact i j : ℕ) 
 given_all old new all fact i j h =
     let n = h.0 in
     let within = slice_get_within (map pair_of old) n (i, j) h.1 in
-    let g = get_there old n (omega (arith, within, length-map old pair_of)) in
+    let g = get_below old n (omega (arith, within, length-map old pair_of)) in
     let pair : pair_of g.0 ≡ (i, j) =
     same_Some (pair_of g.0) (i, j) (sym (ap (option_map pair_of) g.1) ∙ sym (slice_get-map pair_of old n) ∙ h.1) in
     let number : fact_of g.0 ≡ fact =
@@ -223,7 +206,7 @@ follows_over old rows equal unequal has over (why.By r) k h = derives_kept old.r
 known_copied : (old copies : List Entry) → AreEntriesKept old copies → (n : ℕ) (k : Known) → known_at old n ≡ Some k →
     known_at copies n ≡ Some k
 known_copied old copies kept n k h =
-    let e = get_there old n (known_within old n k h) in
+    let e = get_below old n (known_within old n k h) in
     let f = kept n e.0 e.1 in
     ap (option_map (λ (x : Entry). x.known)) f.1 ∙ ap Some f.2.known ∙ sym (ap (option_map (λ (x : Entry). x.known)) e.1) ∙ h
 
@@ -235,7 +218,7 @@ copied_follow old rows equal unequal copies sound over count kept m f here =
     let log = old.entries.items in
     let v = placed_with rows equal unequal in
     let within = slice_get_within copies m f here in
-    let e = get_there log m (omega (arith, within, count)) in
+    let e = get_below log m (omega (arith, within, count)) in
     let copy = kept m e.0 e.1 in
     let same : copy.0 ≡ f = same_Some copy.0 f (sym copy.1 ∙ here) in
     let followed : Follows v (Before log m) e.0.why e.0.known =

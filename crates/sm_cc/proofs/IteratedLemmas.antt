@@ -1,8 +1,7 @@
 -- A set that grows within a list is closed after as many rounds as the list is long.
-use Rattle.std.proofs.Common.{◌≡◌, ◌⊎◌, ◌≤◌, ◌<◌, ℕ, zero, suc, ◌+◌, Bool, true, false, if◌then◌else◌, List, [], ◌∷◌, length}
-use Rattle.std.proofs.Common.{inl, inr, ⊎_elim, refl, sym, ap, subst, ◌∙◌, arith}
+use Rattle.std.proofs.Common.{◌≡◌, ◌⊎◌, ◌≤◌, ◌<◌, ℕ, zero, suc, ◌+◌, Bool, true, false, if◌then◌else◌, List, [], ◌∷◌, length, inl, inr, ⊎_elim, refl, sym, ap, subst, ◌∙◌, arith}
 use Rattle.std.proofs.Math.Path.{fun_ext}
-use Rattle.sm_pairs.proofs.AmongLemmas.{one_test}
+use Rattle.sm_lemmas.proofs.Tests.{same_tests}
 
 -- each that is in one set is in another
 abbrev pub Below : {X : Type 0} → (X → Bool) → (X → Bool) → Type 0
@@ -100,7 +99,7 @@ module _ (X : Type 0) where
       rounds n round set ≡ set
   rounds-closed zero round set up down = refl
   rounds-closed (suc n) round set up down =
-      let same : round set ≡ set = fun_ext (λ (x : X). one_test (round set x) (set x) (down x) (up x)) in
+      let same : round set ≡ set = fun_ext (λ (x : X). same_tests (round set x) (set x) (down x) (up x)) in
       ap (rounds n round) same ∙ rounds-closed n round set up down
 
   -- closed after as many rounds as are lacking

@@ -1,6 +1,5 @@
 -- The computed classes are the least set of pairs that is closed.
-use Rattle.std.proofs.Common.{◌≡◌, ◌↔◌, IsTrue, ◌≤◌, ℕ, ◌*◌, Bool, true, false, ◌&&◌, ◌||◌, List, [], length}
-use Rattle.std.proofs.Common.{⊎_elim, refl, sym, ap, subst, ◌∙◌, arith}
+use Rattle.std.proofs.Common.{◌≡◌, ◌↔◌, IsTrue, ◌≤◌, ℕ, ◌*◌, Bool, true, false, ◌&&◌, ◌||◌, List, [], length, ⊎_elim, refl, sym, ap, subst, ◌∙◌, arith}
 use Rattle.std.specs.List.{list_any}
 use Rattle.std.proofs.lemmas.Bool.{and_parts, or_left, or_right, or_cases}
 use Rattle.std.proofs.Math.Path.{fun_ext}
@@ -13,11 +12,11 @@ use Rattle.sm_cc.specs.Classes.{Setting, are_apart, brings, AreClosed, Same, Apa
 use Rattle.sm_cc.specs.Rounds.{pairs_of, is_listed, follows, are_equal}
 use Rattle.sm_cc.specs.Laws.{ClassesAreLeast}
 use Rattle.sm_cc.proofs.StandingLemmas.{both, any_from, among_there}
-use Rattle.sm_pairs.proofs.AmongLemmas.{any_to}
 use Rattle.sm_cc.proofs.IteratedLemmas.{Below, IsIn, rounds, rounds_closed, rounds_within}
-use Rattle.sm_pairs.proofs.AmongLemmas.{one_test}
 use Rattle.sm_cc.proofs.PairsLemmas.{Duo, paired, round, among_in, pairs_in, length-pairs, listed_after}
 use Rattle.sm_cc.proofs.BringsLemmas.{GivesMore, nothing_more, apart_more, brings_more}
+use Rattle.std.proofs.lemmas.Map.Keys.{any_passes_from_place}
+use Rattle.sm_lemmas.proofs.Tests.{same_tests}
 
 module _ (s : Setting) where
   -- no pairs
@@ -109,7 +108,7 @@ module _ (s : Setting) where
             (to_both (paired e) (t, w) (first.0, second.1)
             (from_joined e t w
             (let at = any_from (same_tree u) s.terms first.1 in
-            any_to (λ v. e t v && e v w) s.terms _ u (among_there s.terms u first.1) (both h k))));
+            any_passes_from_place (λ v. e t v && e v w) s.terms _ u (among_there s.terms u first.1) (both h k))));
         brought = λ t u h k m. done.0 (t, u) (to_both (paired e) (t, u) (h, k) (from_brought e t u m));
       }
 
@@ -176,7 +175,7 @@ closed_less s r given f closed = record {
 -- where the same is given, the classes are the same
 pub equal_alike : (s r : Setting) → GivesMore s r → GivesMore r s → are_equal s ≡ are_equal r
 equal_alike s r one other = fun_ext λ (t : Tree). fun_ext λ (u : Tree).
-    one_test (are_equal s t u) (are_equal r t u)
+    same_tests (are_equal s t u) (are_equal r t u)
     (λ h. equal_least s (are_equal r) (closed_less s r one (are_equal r) (equal_closed r)) t u h)
     (λ h. equal_least r (are_equal s) (closed_less r s other (are_equal s) (equal_closed s)) t u h)
 
@@ -184,6 +183,6 @@ equal_alike s r one other = fun_ext λ (t : Tree). fun_ext λ (u : Tree).
 pub apart_alike : (s r : Setting) → GivesMore s r → GivesMore r s → are_apart s (are_equal s) ≡ are_apart r (are_equal r)
 apart_alike s r one other = fun_ext λ (t : Tree). fun_ext λ (u : Tree).
     let same = equal_alike s r one other in
-    one_test (are_apart s (are_equal s) t u) (are_apart r (are_equal r) t u)
+    same_tests (are_apart s (are_equal s) t u) (are_apart r (are_equal r) t u)
     (apart_more s r one (are_equal s) (are_equal r) (λ v w h. ap (λ (e : Pairs). e v w) (sym same) ∙ h) t u)
     (apart_more r s other (are_equal r) (are_equal s) (λ v w h. ap (λ (e : Pairs). e v w) same ∙ h) t u)

@@ -1,27 +1,14 @@
 -- A log stays one as it grows.
-use Rattle.std.proofs.Common.{◌≡◌, ◌⊎◌, ℕ, zero, suc, ◌<◌, Some, None, List, [], ◌∷◌, ◌++◌, length, slice_get}
-use Rattle.std.proofs.Common.{inl, inr, refl, sym, ap, subst, ⊎_elim, arith}
+use Rattle.std.proofs.Common.{◌≡◌, ◌⊎◌, ℕ, zero, suc, ◌<◌, Some, None, List, [], ◌∷◌, ◌++◌, length, slice_get, inl, inr, refl, sym, ap, subst, ⊎_elim, arith}
 use Rattle.std.proofs.lemmas.Option.{same_Some}
 use Rattle.sm_cc.specs.declared.row.Row.{Row}
-use Rattle.sm_cc.specs.declared.log.Known.{Known}
-use Rattle.sm_cc.specs.declared.log.Known.TheVariants.{Equal, Unequal}
-use Rattle.sm_cc.specs.declared.log.Rule.{Rule}
-use Rattle.sm_cc.specs.declared.log.Rule.TheVariants.{Refl, Sym, Trans, Subst, Alike, Apart, Cong, Hit, Miss}
-use Rattle.sm_cc.specs.declared.log.Why.{Why}
-use Rattle.sm_cc.specs.declared.log.Why.TheVariants.{Given, By}
-use Rattle.sm_cc.specs.declared.log.Entry.{Entry}
-use Rattle.sm_cc.specs.Log.{Placed, SayEqual, Derives, Follows, known_at, Before, AllFollow}
+use Rattle.sm_cc.specs.Log.{Placed, SayEqual, Derives, Follows, known_at, Before, AllFollow, Known, Equal, Unequal, Rule, Refl, Sym, Trans, Subst, Alike, Apart, Cong, Hit, Miss, Why, Given, By, Entry}
 
 -- an element of a list stays where it is as another is put behind it
 pub get_kept : {X : Type 0} (xs : List X) (n : ℕ) (x y : X) → slice_get xs n ≡ Some x → slice_get (xs ++ y ∷ []) n ≡ Some x
 get_kept [] n x y h = absurd (let k : None ≡ Some x = h in cc)
 get_kept (z ∷ xs) zero x y h = h
 get_kept (z ∷ xs) (suc n) x y h = get_kept xs n x y h
-
--- the one behind
-pub get_last : {X : Type 0} (xs : List X) (y : X) → slice_get (xs ++ y ∷ []) (length xs) ≡ Some y
-get_last [] y = refl
-get_last (z ∷ xs) y = get_last xs y
 
 -- an element is an earlier one, or the last
 pub get_cases : {X : Type 0} (xs : List X) (n : ℕ) (x y : X) → slice_get (xs ++ y ∷ []) n ≡ Some x →

@@ -1,31 +1,23 @@
 -- Places behind those of a base: one look at each tells what equals it.
-use Rattle.std.proofs.Common.{◌≡◌, ◌⊎◌, ℕ, zero, suc, pos, ◌+◌, ◌<◌, ◌≤◌, Bool, true, ◌&&◌}
-use Rattle.std.proofs.Common.{Some, None, Option, List, [], ◌∷◌, ◌++◌, length, slice_get, take, refl, sym, ap, subst, ◌∙◌, ⊎_elim, inl, inr, arith}
+use Rattle.std.proofs.Common.{◌≡◌, ◌⊎◌, ℕ, zero, suc, pos, ◌+◌, ◌<◌, ◌≤◌, Bool, true, ◌&&◌, Some, None, Option, List, [], ◌∷◌, ◌++◌, length, slice_get, take, refl, sym, ap, subst, ◌∙◌, ⊎_elim, inl, inr, arith}
 use Rattle.std.proofs.lemmas.Bool.{false≢true, cases_lt, or_left, or_right}
 use Rattle.std.proofs.lemmas.List.{length_push, take_all, take-append-le}
 use Rattle.std.proofs.lemmas.Option.{same_Some, none-some, slice_get_within}
 use Rattle.std.specs.Ordering.{int_eq}
 use Rattle.sm_theory.specs.Lines.{followed}
-use Rattle.sm_cc.specs.declared.row.Row.{Row}
-use Rattle.sm_cc.specs.declared.log.Equation.{Equation}
 use Rattle.sm_cc.specs.declared.log.Known.TheVariants.{Equal}
-use Rattle.sm_cc.specs.declared.closure.Closure.{Closure}
 use Rattle.sm_cc.specs.declared.ground.BaseClasses.{BaseClasses}
 use Rattle.sm_cc.specs.declared.behind.Scanned.{Scanned}
-use Rattle.sm_cc.specs.Rows.{Board, PlacePairs, rows_pass, one_head, shapes_pass, equal_places}
-use Rattle.sm_cc.specs.Rows.{row_brings, ArePlacesClosed}
-use Rattle.sm_cc.specs.Closures.{IsSound, are_together, board_of}
+use Rattle.sm_cc.specs.Rows.{Board, PlacePairs, rows_pass, one_head, shapes_pass, equal_places, row_brings, ArePlacesClosed, Row}
+use Rattle.sm_cc.specs.Closures.{IsSound, are_together, board_of, Closure, Equation}
 use Rattle.sm_cc.specs.Exact.{IsExact}
 use Rattle.sm_cc.specs.Firsts.{Keyed, Key, first_met, AreFirsts, label_at, labels_of, with_labels, row_key, shape_key, alike_at, headed_at, met_at}
 use Rattle.sm_cc.specs.BaseClasses.{AreBelow, AreKeyed}
 use Rattle.sm_cc.specs.Regrounding.{over_at}
-use Rattle.sm_cc.specs.Scanned.{IsBehind, AreRootsSo, seen, alike_in, headed_in, any_two, HaveOneKey, IsKeyNew, IsMetFor, IsLabelOf, IsLabelFor}
-use Rattle.sm_cc.specs.Scanned.{AreNew, AreLooked}
-use Rattle.sm_cc.proofs.CausesLemmas.{get_there}
+use Rattle.sm_cc.specs.Scanned.{IsBehind, AreRootsSo, seen, alike_in, headed_in, any_two, HaveOneKey, IsKeyNew, IsMetFor, IsLabelOf, IsLabelFor, AreNew, AreLooked}
 use Rattle.sm_cc.proofs.ClosuresLemmas.{roots_of}
 use Rattle.sm_cc.proofs.FirstsLemmas.{firsts_more, met_has, met_still, shapes_bring, rows_bring_headed}
-use Rattle.sm_cc.proofs.FreshLemmas.{IsUnder, kept_behind, brings_pair, closed_before}
-use Rattle.sm_cc.proofs.GrowingLemmas.{get_before}
+use Rattle.sm_cc.proofs.FreshLemmas.{IsUnder, kept_behind, brings_pair, closed_before, within_old}
 use Rattle.sm_cc.proofs.LogLemmas.{get_cases}
 use Rattle.sm_cc.proofs.RegroundingLemmas.{firsts_moved, root_with, over_nothing}
 use Rattle.sm_cc.proofs.SoundLemmas.{pass_at, noted_so}
@@ -66,10 +58,6 @@ none_met key i none = record {
   itself = λ (same : i ≡ i) (m : ℕ) (l : Keyed) (less : m < i) (here : key i ≡ Some l) there. absurd (none-some l (sym none ∙ here));
   other = λ (differs : i ≡ i → ⊥). absurd (differs refl);
 }
-
--- something in a list with more behind it
-pub get_first : {A : Type 0} (xs ys : List A) (i : ℕ) → i < length xs → slice_get (xs ++ ys) i ≡ slice_get xs i
-get_first xs ys i less = let x = get_there xs i less in get_before xs ys i x.0 x.1 ∙ sym x.1
 
 -- something behind a list
 pub get_behind : {A : Type 0} (xs ys : List A) (i k : ℕ) → i ≡ length xs + k → slice_get (xs ++ ys) i ≡ slice_get ys k
@@ -348,7 +336,7 @@ module _ (g : BaseClasses) (more : List Row) where
     count_first = ap length same ∙ exact.sound.count
 
     row_first : (i : ℕ) → i < first → slice_get all i ≡ slice_get g.closure.rows.items i
-    row_first = get_first g.closure.rows.items more
+    row_first = within_old g.closure.rows.items more
 
     pub looked_none : AreLooked g more s
     looked_none =

@@ -1,19 +1,10 @@
 -- Marks at what an entry follows from, down to the first entry.
-use Rattle.std.proofs.Common.{◌≡◌, ◌⊎◌, ℕ, zero, suc, ◌+◌, ◌<◌, ◌≤◌, Bool, Some, List, [], ◌∷◌, ◌++◌, length, slice_get}
-use Rattle.std.proofs.Common.{take, get_or, refl, sym, ap, subst, ◌∙◌, ⊎_elim, arith}
+use Rattle.std.proofs.Common.{◌≡◌, ◌⊎◌, ℕ, zero, suc, ◌+◌, ◌<◌, ◌≤◌, Bool, Some, List, [], ◌∷◌, ◌++◌, length, slice_get, take, get_or, refl, sym, ap, subst, ◌∙◌, ⊎_elim, arith}
 use Rattle.std.proofs.lemmas.List.{take_more}
 use Rattle.std.proofs.lemmas.Option.{slice_get_read, same_Some}
 use Rattle.sm_cc.specs.declared.row.Row.{Row}
-use Rattle.sm_cc.specs.declared.log.Known.{Known}
-use Rattle.sm_cc.specs.declared.log.Known.TheVariants.{Equal, Unequal}
-use Rattle.sm_cc.specs.declared.log.Rule.{Rule}
-use Rattle.sm_cc.specs.declared.log.Rule.TheVariants.{Refl, Sym, Trans, Subst, Alike, Apart, Cong, Hit, Miss}
-use Rattle.sm_cc.specs.declared.log.Why.{Why}
-use Rattle.sm_cc.specs.declared.log.Why.TheVariants.{Given, By}
-use Rattle.sm_cc.specs.declared.log.Entry.{Entry}
-use Rattle.sm_cc.specs.declared.closure.Closure.{Closure}
-use Rattle.sm_cc.specs.Log.{Placed, SayEqual, Derives, Follows, Before}
-use Rattle.sm_cc.specs.Closures.{IsSound, placed_of}
+use Rattle.sm_cc.specs.Log.{Placed, SayEqual, Derives, Follows, Before, Known, Equal, Unequal, Rule, Refl, Sym, Trans, Subst, Alike, Apart, Cong, Hit, Miss, Why, Given, By, Entry}
+use Rattle.sm_cc.specs.Closures.{IsSound, placed_of, Closure}
 use Rattle.sm_cc.specs.Steps.{IsMarked, AreMarked, AreBelow, Marks, AreClosedFrom, numbers_of, numbers_in}
 
 -- each of these is below a number that is above that one

@@ -1,15 +1,12 @@
 -- Two classes become one.
-use Rattle.std.proofs.Common.{◌≡◌, ◌⊎◌, ℕ, ◌<◌, ◌==◌, Bool, true, false, if◌then◌else◌, Some, List, slice_get, length, get_or}
-use Rattle.std.proofs.Common.{inl, inr, refl, sym, ap, subst, ◌∙◌, ⊎_elim, arith}
+use Rattle.std.proofs.Common.{◌≡◌, ◌⊎◌, ℕ, ◌<◌, ◌==◌, Bool, true, false, if◌then◌else◌, Some, List, slice_get, length, get_or, inl, inr, refl, sym, ap, subst, ◌∙◌, ⊎_elim, arith}
 use Rattle.std.proofs.lemmas.Bool.{eq-eqb}
 use Rattle.std.proofs.lemmas.Option.{slice_get_read, same_Some}
-use Rattle.sm_cc.specs.declared.log.Equation.{Equation}
-use Rattle.sm_cc.specs.declared.closure.Closure.{Closure}
-use Rattle.sm_cc.specs.Closures.{IsSound, AddsEquation, are_together}
+use Rattle.sm_cc.specs.Closures.{IsSound, AddsEquation, are_together, Closure, Equation}
 use Rattle.sm_cc.specs.Merges.{IsLabel, AddsSome, Bridges, Crosses, relabelled, IsRelabelled, MovesRoots, IsCoarser}
-use Rattle.sm_cc.proofs.CausesLemmas.{get_there}
 use Rattle.sm_cc.proofs.ClosuresLemmas.{grows_on, equation_noted, roots_of}
 use Rattle.sm_cc.proofs.RoundsLemmas.{together_from}
+use Rattle.sm_lemmas.proofs.Lists.{get_below}
 
 -- the root that was read at a place that has a row
 pub root_get : (c : Closure) (i : ℕ) (r : Equation) → IsSound c → i < length c.rows.items → r ≡ get_or c.roots.items i r →
@@ -60,8 +57,8 @@ pub merged_together : (old mid new : Closure) (b e : Equation) → IsSound old �
     Crosses old mid b e → MovesRoots mid new b → are_together new.roots.items e.left e.right ≡ true
 merged_together old mid new b e sound first second crosses moves =
     let roots = old.roots.items in
-    let r = get_there roots e.left (omega (arith, first, sound.count)) in
-    let s = get_there roots e.right (omega (arith, second, sound.count)) in
+    let r = get_below roots e.left (omega (arith, first, sound.count)) in
+    let s = get_below roots e.right (omega (arith, second, sound.count)) in
     let same = ap (λ x. x.items) (sym crosses.roots) in
     together_then mid.roots.items new.roots.items b e.left e.right r.0 s.0 (moves.moved e.left) (moves.moved e.right)
     (subst (λ (l : List Equation). slice_get l e.left ≡ Some r.0) same r.1) (subst (λ (l : List Equation). slice_get l e.right ≡ Some

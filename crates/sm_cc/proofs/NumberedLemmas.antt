@@ -1,7 +1,5 @@
 -- Numbers of values in a list that has each once and grows at its end.
-use Rattle.std.proofs.Common.{◌≡◌, ℕ, zero, suc, Bool, true, false, ◌&&◌, List, [], ◌∷◌, ◌++◌, map}
-use Rattle.std.proofs.Common.{Some, slice_get, Decides, refl, sym, ap, ◌∙◌, if◌then◌else◌, true≢false}
-use Rattle.std.proofs.Common.{ℤ, ◌==◌, Vec, Global}
+use Rattle.std.proofs.Common.{◌≡◌, ℕ, zero, suc, Bool, true, false, ◌&&◌, List, [], ◌∷◌, ◌++◌, map, Some, slice_get, Decides, refl, sym, ap, ◌∙◌, if◌then◌else◌, true≢false, ℤ, ◌==◌, Vec, Global}
 use Rattle.std.specs.Ordering.{int_eq}
 use Rattle.std.specs.Cmp.Lexicographic.{pointwise}
 use Rattle.std.proofs.lemmas.Bool.Decides.{Decides-eqb, Decides-int_eq}

@@ -1,6 +1,5 @@
 -- What follows from pairs in one round, as a set.
-use Rattle.std.proofs.Common.{◌≡◌, ◌⊎◌, ℕ, zero, suc, ◌+◌, ◌*◌, Bool, true, false, ◌&&◌, if◌then◌else◌}
-use Rattle.std.proofs.Common.{List, [], ◌∷◌, ◌++◌, map, length, inl, inr, ⊎_elim, refl, sym, ap, subst, ◌∙◌, arith}
+use Rattle.std.proofs.Common.{◌≡◌, ◌⊎◌, ℕ, zero, suc, ◌+◌, ◌*◌, Bool, true, false, ◌&&◌, if◌then◌else◌, List, [], ◌∷◌, ◌++◌, map, length, inl, inr, ⊎_elim, refl, sym, ap, subst, ◌∙◌, arith}
 use Rattle.std.specs.List.{filter}
 use Rattle.std.proofs.lemmas.Bool.{and_parts, or_left, or_right, or_cases}
 use Rattle.std.proofs.Math.Path.{fun_ext}
@@ -13,7 +12,7 @@ use Rattle.sm_cc.specs.Classes.{Setting}
 use Rattle.sm_cc.specs.Rounds.{pairs_of, is_listed, follows, next_pairs, pairs_after}
 use Rattle.sm_cc.proofs.StandingLemmas.{both}
 use Rattle.sm_cc.proofs.IteratedLemmas.{IsIn, rounds}
-use Rattle.sm_pairs.proofs.AmongLemmas.{one_test}
+use Rattle.sm_lemmas.proofs.Tests.{same_tests}
 
 -- a pair of terms
 abbrev pub Duo : Type 0
@@ -166,7 +165,7 @@ listed_next s pairs = fun_ext λ (p : Duo).
     let two = and_parts (is_among ts p.1) (test p) one.1 in
     in_listed (next_pairs s pairs) p
     (filter_in test (pairs_of ts ts) p (pairs_in ts ts p.0 p.1 (among_in ts p.0 one.0) (among_in ts p.1 two.0)) two.1) in
-    one_test (is_listed (next_pairs s pairs) p.0 p.1) (round s (paired (is_listed pairs)) p) out back
+    same_tests (is_listed (next_pairs s pairs) p.0 p.1) (round s (paired (is_listed pairs)) p) out back
 
 -- in so many rounds
 pub listed_after : (n : ℕ) (s : Setting) (pairs : List Duo) →

@@ -1,24 +1,16 @@
 -- Exact classes of places say what is so in each closed set, and stay sound as more is given.
-use Rattle.std.proofs.Common.{◌≡◌, ℕ, ◌<◌, Bool, true, false, Some, None, Option, List, [], ◌∷◌, ◌++◌, length, slice_get, map}
-use Rattle.std.proofs.Common.{is_some, refl, sym, ap, subst, ◌∙◌}
+use Rattle.std.proofs.Common.{◌≡◌, ℕ, ◌<◌, Bool, true, false, Some, None, Option, List, [], ◌∷◌, ◌++◌, length, slice_get, map, is_some, refl, sym, ap, subst, ◌∙◌}
 use Rattle.std.proofs.lemmas.Bool.{false≢true, or_left, or_right}
 use Rattle.std.proofs.lemmas.List.{map_push}
 use Rattle.std.specs.Option.{MatchOption}
-use Rattle.sm_cc.specs.declared.row.Row.{Row}
-use Rattle.sm_cc.specs.declared.log.Known.{Known}
 use Rattle.sm_cc.specs.declared.log.Known.TheVariants as known
-use Rattle.sm_cc.specs.declared.log.Why.{Why}
-use Rattle.sm_cc.specs.declared.log.Why.TheVariants.{By}
 use Rattle.sm_cc.specs.declared.log.Why.TheVariants as why
-use Rattle.sm_cc.specs.declared.log.Entry.{Entry}
-use Rattle.sm_cc.specs.declared.log.Given.{Given}
 use Rattle.sm_cc.specs.declared.witness.Difference.{Difference}
 use Rattle.sm_cc.specs.declared.witness.Difference.TheVariants as difference
 use Rattle.sm_cc.specs.declared.witness.Witness.{Witness}
-use Rattle.sm_cc.specs.declared.closure.Closure.{Closure}
-use Rattle.sm_cc.specs.Rows.{PlacePairs, SamePlaces, ApartPlaces, ArePlacesClosed, places_apart, places_differ, is_listed}
-use Rattle.sm_cc.specs.Log.{Placed, Derives, Follows, Before}
-use Rattle.sm_cc.specs.Closures.{IsSound, are_together, board_of, placed_of, pair_of, fact_of, Grows, AllRooted}
+use Rattle.sm_cc.specs.Rows.{PlacePairs, SamePlaces, ApartPlaces, ArePlacesClosed, places_apart, places_differ, is_listed, Row}
+use Rattle.sm_cc.specs.Log.{Placed, Derives, Follows, Before, Known, Why, By, Entry}
+use Rattle.sm_cc.specs.Closures.{IsSound, are_together, board_of, placed_of, pair_of, fact_of, Grows, AllRooted, Closure, Given}
 use Rattle.sm_cc.specs.Causes.{IsWitness, IsDifference, differ_in_form, differ_otherwise}
 use Rattle.sm_cc.specs.Exact.{IsExact, with_equal, with_unequal}
 use Rattle.sm_cc.proofs.ClosuresLemmas.{placed_same}

@@ -1,6 +1,5 @@
 -- What the rules bring of terms they bring of the places at which these stand.
-use Rattle.std.proofs.Common.{◌≡◌, ℕ, ◌==◌, ◌<◌, Bool, true, ◌&&◌, List, [], ◌∷◌, map, length, slice_get}
-use Rattle.std.proofs.Common.{Option, Some, None, refl, ap, ◌∙◌, arith}
+use Rattle.std.proofs.Common.{◌≡◌, ℕ, ◌==◌, ◌<◌, Bool, true, ◌&&◌, List, [], ◌∷◌, map, length, slice_get, Option, Some, None, refl, ap, ◌∙◌, arith}
 use Rattle.std.specs.List.{list_any, range_with_len}
 use Rattle.std.specs.Ordering.{int_eq}
 use Rattle.std.proofs.lemmas.Bool.{and_parts}
@@ -15,18 +14,12 @@ use Rattle.sm_term.proofs.SameTermsLemmas.{same_tree_is}
 use Rattle.sm_theory.specs.Lines.{followed, equal_sides}
 use Rattle.sm_theory.specs.Elements.{Written, written_in, read_in}
 use Rattle.sm_theory.specs.Arithmetic.{compared_forms}
-use Rattle.sm_cc.specs.declared.row.Row.{Row}
-use Rattle.sm_cc.specs.declared.row.Element.{Element}
 use Rattle.sm_pairs.specs.Pairs.{Pairs}
-use Rattle.sm_cc.specs.Classes.{Setting, given_equal, differ, are_apart, equal_lists, if_there, reads_written}
-use Rattle.sm_cc.specs.Classes.{brings}
-use Rattle.sm_cc.specs.Rows.{PlacePairs, Board, is_listed, rows_pass, one_head, shapes_pass, places_differ, places_apart, equal_places}
-use Rattle.sm_cc.specs.Rows.{row_brings}
+use Rattle.sm_cc.specs.Classes.{Setting, given_equal, differ, are_apart, equal_lists, if_there, reads_written, brings}
+use Rattle.sm_cc.specs.Rows.{PlacePairs, Board, is_listed, rows_pass, one_head, shapes_pass, places_differ, places_apart, equal_places, row_brings, Row, Element}
 use Rattle.sm_cc.specs.Standing.{place_of, element_of, RowsStand, board_for}
-use Rattle.sm_cc.proofs.StandingLemmas.{or_map, and_map, both, any_from, in_range, place_there}
-use Rattle.sm_pairs.proofs.AmongLemmas.{any_to}
-use Rattle.sm_cc.proofs.StandingLemmas.{row_there, pass, forms_alike, said_of_places}
-use Rattle.sm_cc.proofs.StandingLemmas.{places_differ_alike}
+use Rattle.sm_cc.proofs.StandingLemmas.{or_map, and_map, both, any_from, in_range, place_there, row_there, pass, forms_alike, said_of_places, places_differ_alike}
+use Rattle.std.proofs.lemmas.Map.Keys.{any_passes_from_place}
 
 module _ (sorts : Sorts) (terms : List Tree) (given : List Assertion) (rows : List Row) (stand : RowsStand sorts terms rows) where
   abbrev setting : Setting
@@ -66,10 +59,10 @@ module _ (sorts : Sorts) (terms : List Tree) (given : List Assertion) (rows : Li
         let below_p : place p < n = (let inside = slice_get_within terms (place p) p at_p in omega (arith, stand.count, inside)) in
         let below_q : place q < n = (let inside = slice_get_within terms (place q) q at_q in omega (arith, stand.count, inside)) in
         let all = range_with_len 0 n in
-        any_to (λ i. paired i (place t) && list_any (λ j. paired j (place u) && places_differ board i j) all) all (place p) (place p)
+        any_passes_from_place (λ i. paired i (place t) && list_any (λ j. paired j (place u) && places_differ board i j) all) all (place p) (place p)
         (in_range n (place p) below_p)
         (both (has p t one.0)
-        (any_to (λ j. paired j (place u) && places_differ board (place p) j) all (place q) (place q) (in_range n (place q) below_q)
+        (any_passes_from_place (λ j. paired j (place u) && places_differ board (place p) j) all (place q) (place q) (in_range n (place q) below_q)
         (both (has q u two.0) (places_differ_alike sorts terms given rows stand p q at_p at_q two.1))))
 
     -- an element that is read

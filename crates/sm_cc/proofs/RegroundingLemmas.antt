@@ -1,28 +1,23 @@
 -- Classes that begin with others keep the first places that have their keys.
-use Rattle.std.proofs.Common.{◌≡◌, ℕ, pos, ◌<◌, ◌==◌, Bool, true, ◌&&◌, ◌||◌, Some, None, Option, List, [], ◌∷◌, length, slice_get}
-use Rattle.std.proofs.Common.{refl, sym, ap, subst, ◌∙◌, ⊎_elim, arith}
+use Rattle.std.proofs.Common.{◌≡◌, ℕ, pos, ◌<◌, ◌==◌, Bool, true, ◌&&◌, ◌||◌, Some, None, Option, List, [], ◌∷◌, length, slice_get, refl, sym, ap, subst, ◌∙◌, ⊎_elim, arith}
 use Rattle.std.specs.Ordering.{int_eq}
 use Rattle.std.proofs.lemmas.Bool.{or_left, or_right, or_cases}
 use Rattle.std.proofs.lemmas.Option.{same_Some, none-some}
 use Rattle.sm_theory.specs.Lines.{followed}
-use Rattle.sm_cc.specs.declared.row.Row.{Row}
-use Rattle.sm_cc.specs.declared.log.Equation.{Equation}
-use Rattle.sm_cc.specs.declared.closure.Closure.{Closure}
 use Rattle.sm_cc.specs.declared.ground.BaseClasses.{BaseClasses}
 use Rattle.sm_cc.specs.Classes.{if_there}
-use Rattle.sm_cc.specs.Rows.{is_listed, rows_pass, shapes_pass, one_head, equal_places, places_apart, row_brings}
-use Rattle.sm_cc.specs.Closures.{IsSound, Grows, are_together, board_of}
+use Rattle.sm_cc.specs.Rows.{is_listed, rows_pass, shapes_pass, one_head, equal_places, places_apart, row_brings, Row}
+use Rattle.sm_cc.specs.Closures.{IsSound, Grows, are_together, board_of, Closure, Equation}
 use Rattle.sm_cc.specs.Exact.{IsExact}
 use Rattle.sm_cc.specs.Settled.{pair_brings}
-use Rattle.sm_cc.specs.Firsts.{Keyed, Key, first_met, AreFirsts, TriesFirsts, KeysBring, label_at, labels_of, with_labels, row_key}
-use Rattle.sm_cc.specs.Firsts.{shape_key, alike_at, headed_at}
+use Rattle.sm_cc.specs.Firsts.{Keyed, Key, first_met, AreFirsts, TriesFirsts, KeysBring, label_at, labels_of, with_labels, row_key, shape_key, alike_at, headed_at}
 use Rattle.sm_cc.specs.BaseClasses.{AreBelow, AreInside}
 use Rattle.sm_cc.specs.Growing.{IsCopy, AreKept}
 use Rattle.sm_cc.specs.Regrounding.{met_or, over_at, KeysMeet, MeetsFirst, AreLabelsKept, IsOver}
-use Rattle.sm_cc.proofs.CausesLemmas.{get_there}
 use Rattle.sm_cc.proofs.ClosuresLemmas.{grows_from, roots_of}
 use Rattle.sm_cc.proofs.RoundsLemmas.{together_from}
 use Rattle.sm_cc.proofs.FirstsLemmas.{firsts_more, met_has, met_already}
+use Rattle.sm_lemmas.proofs.Lists.{get_below}
 
 -- one more place is met for its key
 pub meets_first : (key : ℕ → Option Keyed) (equal : ℕ → ℕ → Bool) (bound : ℕ) (old new : Keyed → Option ℕ) (i j : ℕ) (k : Key) →
@@ -109,7 +104,7 @@ row_kept bound old new r s kept copy below =
 -- copies have the keys of their rows by their forms
 alike_kept : (g c : Closure) → AreKept g.rows.items c.rows.items → (i : ℕ) → i < length g.rows.items → alike_at c i ≡ alike_at g i
 alike_kept g c kept i less =
-    let r = get_there g.rows.items i less in
+    let r = get_below g.rows.items i less in
     let s = kept i r.0 r.1 in
     ap (λ (o : Option Row). followed o (λ (q : Row). shape_key q.shape)) s.1
     ∙ ap shape_key s.2.shape
@@ -119,7 +114,7 @@ alike_kept g c kept i less =
 headed_kept : (g c : Closure) → AreKept g.rows.items c.rows.items → AreInside g.rows.items →
     AreLabelsKept (length g.rows.items) g.roots.items c.roots.items → (i : ℕ) → i < length g.rows.items → headed_at c i ≡ headed_at g i
 headed_kept g c kept inside labels i less =
-    let r = get_there g.rows.items i less in
+    let r = get_below g.rows.items i less in
     let s = kept i r.0 r.1 in
     ap (λ (o : Option Row). followed o (row_key c.roots.items)) s.1
     ∙ row_kept (length g.rows.items) g.roots.items c.roots.items r.0 s.0 labels s.2 (inside i r.0 r.1).0

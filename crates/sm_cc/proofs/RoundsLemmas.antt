@@ -1,16 +1,13 @@
 -- Rounds over pairs of places, until nothing changes.
-use Rattle.std.proofs.Common.{◌≡◌, ℕ, ◌+◌, ◌<◌, ◌==◌, true, Some, Option, length, List, slice_get, refl, sym, ap, subst, ◌∙◌, arith}
-use Rattle.std.proofs.Common.{below_more}
+use Rattle.std.proofs.Common.{◌≡◌, ℕ, ◌+◌, ◌<◌, ◌==◌, true, Some, Option, length, List, slice_get, refl, sym, ap, subst, ◌∙◌, arith, below_more}
 use Rattle.std.proofs.lemmas.Option.{same_Some}
 use Rattle.std.proofs.lemmas.Bool.{eq-eqb}
-use Rattle.sm_cc.specs.declared.log.Equation.{Equation}
-use Rattle.sm_cc.specs.declared.closure.Closure.{Closure}
 use Rattle.sm_cc.specs.Classes.{if_there}
 use Rattle.sm_cc.specs.Rows.{ArePlacesClosed}
-use Rattle.sm_cc.specs.Closures.{IsSound, are_together, board_of}
+use Rattle.sm_cc.specs.Closures.{IsSound, are_together, board_of, Closure, Equation}
 use Rattle.sm_cc.specs.Settled.{Tries, AreSettled}
-use Rattle.sm_cc.proofs.CausesLemmas.{get_there}
 use Rattle.sm_cc.proofs.ClosuresLemmas.{grows_on, roots_of}
+use Rattle.sm_lemmas.proofs.Lists.{get_below}
 
 -- one more is tried
 pub tries_more : (P : ℕ → Closure → Type 0) (k : ℕ) (a b c : Closure) → Tries (λ (d : Closure). (m : ℕ) → m < k → P m d) a b →
@@ -40,7 +37,7 @@ closed_from c sound settled =
     let roots = c.roots.items in
     record {
       each = λ (i : ℕ) (h : i < length c.rows.items).
-          let r = get_there roots i (omega (arith, h, sound.count)) in
+          let r = get_below roots i (omega (arith, h, sound.count)) in
           together_from roots i i r.0 r.0 r.1 r.1 refl;
       turned = λ (i j : ℕ) (h : are_together roots i j ≡ true).
           let x = roots_of roots i j h in

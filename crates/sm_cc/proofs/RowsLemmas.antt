@@ -1,38 +1,34 @@
 -- Rows of single terms stand together for the terms.
-use Rattle.std.proofs.Common.{◌≡◌, ℕ, ℤ, ◌==◌, ◌+◌, ◌≤◌, zero, suc, nat_eq, Bool, true, false, ◌&&◌, List, [], ◌∷◌, ◌++◌, map, length}
-use Rattle.std.proofs.Common.{slice_get}
-use Rattle.std.proofs.Common.{Option, Some, None, Decides, refl, sym, ap, ◌∙◌, subst}
-use Rattle.std.proofs.Common.{⊎_elim, inl, inr, ◌⊎◌}
+use Rattle.std.proofs.Common.{◌≡◌, ℕ, ℤ, ◌==◌, ◌+◌, ◌≤◌, nat_eq, Bool, true, false, ◌&&◌, List, [], ◌∷◌, ◌++◌, map, length, slice_get, Option, Some, None, Decides, refl, sym, ap, ◌∙◌, subst, ⊎_elim, ◌⊎◌}
 use Rattle.std.specs.Cmp.Lexicographic.{pointwise}
 use Rattle.std.proofs.lemmas.Bool.Decides.{Decides-and, Decides-eqb, same_from_decides}
 use Rattle.std.proofs.lemmas.Slice.Eq.{bytes_eq-Decides}
 use Rattle.sm_syntax.specs.text.Sorts.{Sorts}
-use Rattle.sm_term.specs.declared.term.TermId.{TermId}
-use Rattle.sm_term.specs.declared.term.Term.{Term}
 use Rattle.sm_term.specs.declared.term.Term.TheVariants as row
 use Rattle.sm_term.specs.Rows.{names_in_list, same_numbers}
 use Rattle.sm_term.specs.RowLaws.{Contents, same_numbers-Decides}
 use Rattle.sm_term.specs.Terms.{Tree}
 use Rattle.sm_term.specs.Heads.{same_head, arguments_of}
 use Rattle.sm_term.specs.Tables.{TableValue, trees_in, sorts_in, codes_in, tree_at, AreBefore}
+use Rattle.sm_term.specs.declared.term.TermId.{TermId}
+use Rattle.sm_term.specs.declared.term.Term.{Term}
 use Rattle.sm_term.specs.TableLaws.{AreCodesApart}
 use Rattle.sm_theory.specs.LinearTerms.{linear_of}
 use Rattle.sm_theory.specs.Arithmetic.{is_numeric, same_parts, compared_forms}
 use Rattle.sm_theory.proofs.LinearLater.{same_parts_stand}
 use Rattle.sm_euf.specs.Arguments.{argument_numbers, have_one_head, trees_of}
 use Rattle.sm_euf.proofs.ArgumentsLemmas.{trees_have_one_head, arguments_are, parts_before}
-use Rattle.sm_cc.specs.declared.row.Row.{Row}
 use Rattle.sm_cc.specs.declared.row.Shape.{Shape}
-use Rattle.sm_cc.specs.declared.positions.Positions.{Positions}
 use Rattle.sm_cc.specs.Classes.{if_there}
-use Rattle.sm_cc.specs.Rows.{one_head}
+use Rattle.sm_cc.specs.Rows.{one_head, Row}
 use Rattle.sm_cc.specs.Standing.{place_of, RowsStand}
 use Rattle.sm_cc.specs.Numbered.{StandApart, head_of, IsHeadAt, IsShapeAt, heads_met, parts_met}
 use Rattle.sm_pairs.specs.Longer.{IsLonger}
-use Rattle.sm_cc.specs.Positions.{place_at, ArePositions}
+use Rattle.sm_cc.specs.Positions.{place_at, ArePositions, Positions}
 use Rattle.sm_cc.specs.RowOf.{HasTree, IsRowOf, IsFurther, AreRowsFrom}
 use Rattle.sm_cc.specs.declared.ground.Numbering.{Numbering}
 use Rattle.sm_pairs.proofs.LongerLemmas.{slice_get-longer, longer_twice}
+use Rattle.sm_lemmas.proofs.Lists.{get_pushed}
 
 -- whether two heads hold the same
 same_heads : Option Contents → Option Contents → Bool
@@ -197,17 +193,6 @@ arguments_stand table terms p are term t is low places e =
         ap (λ (n : ℕ). n ∷ map (λ (a : TermId). place_at p a.0) list) (are.places a.0 before.0)
         ∙ ap (λ (ns : List ℕ). place_of terms (tree_at (trees_in table) a.0) ∷ ns) (by list before.1)
 
--- what stands in a list with one more at its end
-pub pushed : {A : Type 0} (xs : List A) (x y : A) (k : ℕ) → slice_get (xs ++ x ∷ []) k ≡ Some y →
-    (slice_get xs k ≡ Some y) ⊎ ((k ≡ length xs) × (x ≡ y))
-pushed [] x y zero e = inr (refl, cc)
-pushed [] x y (suc k) e = absurd cc
-pushed (z ∷ xs) x y zero e = inl e
-pushed (z ∷ xs) x y (suc k) e =
-    ⊎_elim (λ (h : slice_get xs k ≡ Some y). inl h)
-    (λ (h : (k ≡ length xs) × (x ≡ y)). inr (ap suc h.0, h.1))
-    (pushed xs x y k e)
-
 -- one row more
 pub rows_more : (table : TableValue) (terms : List Tree) (old new : Numbering) → IsFurther old new → (from : ℕ) (rows : List Row)
     (next : Row) → AreRowsFrom table terms old from rows → (u : Tree) → slice_get terms (from + length rows) ≡ Some u →
@@ -221,7 +206,7 @@ rows_more table terms old new further from rows next each u there made k r t f g
     let same = some_is u t (sym there ∙ ap (λ (n : ℕ). slice_get terms (from + n)) (sym h.0) ∙ g) in
     subst (λ (x : Tree). IsRowOf table terms (heads_met new.heads) (parts_met new.shapes) x r) same
     (subst (λ (x : Row). IsRowOf table terms (heads_met new.heads) (parts_met new.shapes) u x) h.1 made))
-    (pushed rows next r k f)
+    (get_pushed rows next r k f)
   where
     some_is : (c d : Tree) → Some c ≡ Some d → c ≡ d
     some_is c d e = cc

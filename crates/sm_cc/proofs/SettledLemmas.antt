@@ -1,23 +1,16 @@
 -- Where the given pairs, the elements and the pairs of rows are settled, all is.
-use Rattle.std.proofs.Common.{◌≡◌, ◌⊎◌, ℕ, suc, ◌<◌, ◌==◌, Bool, true, ◌&&◌, ◌||◌, Some, None, Option, List, [], ◌∷◌}
-use Rattle.std.proofs.Common.{length, map, slice_get, refl, sym, subst, ◌∙◌, ⊎_elim, arith}
+use Rattle.std.proofs.Common.{◌≡◌, ◌⊎◌, ℕ, suc, ◌<◌, ◌==◌, Bool, true, ◌&&◌, ◌||◌, Some, None, Option, List, [], ◌∷◌, length, map, slice_get, refl, sym, subst, ◌∙◌, ⊎_elim, arith}
 use Rattle.std.proofs.lemmas.Bool.{false≢true, eqb-true, eq-eqb, and_parts, and_from, or_left, or_right, or_cases, cases_order}
 use Rattle.std.proofs.lemmas.Cmp.{int_eq_equiv}
 use Rattle.std.specs.Ordering.{int_eq}
-use Rattle.sm_cc.specs.declared.row.Row.{Row}
 use Rattle.sm_cc.specs.declared.row.Shape.{Shape}
-use Rattle.sm_cc.specs.declared.row.Element.{Element}
-use Rattle.sm_cc.specs.declared.log.Given.{Given}
-use Rattle.sm_cc.specs.declared.log.Equation.{Equation}
-use Rattle.sm_cc.specs.declared.closure.Closure.{Closure}
 use Rattle.sm_cc.specs.Classes.{if_there}
-use Rattle.sm_cc.specs.Rows.{Board, PlacePairs, is_listed, rows_pass, one_head, shapes_pass, equal_places, places_apart}
-use Rattle.sm_cc.specs.Closures.{IsSound, are_together, board_of, pair_of}
-use Rattle.sm_cc.specs.Settled.{IsSettledThere, AreGivenSettled, AreElementsSettled, pair_brings, ArePairSettled, AllPairsSettled}
-use Rattle.sm_cc.specs.Settled.{AreSettled}
-use Rattle.sm_cc.proofs.CausesLemmas.{get_there}
+use Rattle.sm_cc.specs.Rows.{Board, PlacePairs, is_listed, rows_pass, one_head, shapes_pass, equal_places, places_apart, Row, Element}
+use Rattle.sm_cc.specs.Closures.{IsSound, are_together, board_of, pair_of, Closure, Equation, Given}
+use Rattle.sm_cc.specs.Settled.{IsSettledThere, AreGivenSettled, AreElementsSettled, pair_brings, ArePairSettled, AllPairsSettled, AreSettled}
 use Rattle.sm_cc.proofs.ClosuresLemmas.{roots_of}
 use Rattle.sm_cc.proofs.RoundsLemmas.{together_from}
+use Rattle.sm_lemmas.proofs.Lists.{get_below}
 
 -- a listed pair was given
 listed_out : (list : List Given) (i j : ℕ) → is_listed (map pair_of list) i j ≡ true →
@@ -33,7 +26,7 @@ listed_out (g ∷ list) i j h =
     (or_cases ((g.left == i) && (g.right == j)) (is_listed (map pair_of list) i j) h)
 
 -- forms and arguments are equal the other way round
-shapes_turned : (o p : Option Shape) → if_there o (λ f. if_there p (λ g. (f.parts == g.parts) && int_eq f.constant g.constant)) ≡ true →
+pub shapes_turned : (o p : Option Shape) → if_there o (λ f. if_there p (λ g. (f.parts == g.parts) && int_eq f.constant g.constant)) ≡ true →
     if_there p (λ f. if_there o (λ g. (f.parts == g.parts) && int_eq f.constant g.constant)) ≡ true
 shapes_turned None p h = absurd (false≢true h)
 shapes_turned (Some f) None h = absurd (false≢true h)
@@ -42,7 +35,7 @@ shapes_turned (Some f) (Some g) h =
     and_from (g.parts == f.parts) (int_eq g.constant f.constant) (eq-eqb g.parts f.parts (sym (eqb-true f.parts g.parts both.0)))
     (int_eq_equiv.symm g.constant f.constant ∙ both.1)
 
-heads_turned : (o p : Option ℕ) → if_there o (λ (h : ℕ). if_there p (λ (k : ℕ). h == k)) ≡ true →
+pub heads_turned : (o p : Option ℕ) → if_there o (λ (h : ℕ). if_there p (λ (k : ℕ). h == k)) ≡ true →
     if_there p (λ (h : ℕ). if_there o (λ (k : ℕ). h == k)) ≡ true
 heads_turned None p h = absurd (false≢true h)
 heads_turned (Some x) None h = absurd (false≢true h)
@@ -104,7 +97,7 @@ pair_settled c sound pairs i j first second h =
     let roots = c.roots.items in
     ⊎_elim
     (λ (same : i ≡ j).
-    let r = get_there roots i (omega (arith, first, sound.count)) in
+    let r = get_below roots i (omega (arith, first, sound.count)) in
     subst (λ (k : ℕ). are_together roots i k ≡ true) same (together_from roots i i r.0 r.0 r.1 r.1 refl))
     (λ (other : (i < j) ⊎ (j < i)).
     ⊎_elim (λ (less : i < j). together_turned roots j i (pairs j second i less (pair_turned c i j h)))

@@ -1,30 +1,18 @@
 -- What a sound log says is in each closed set of pairs.
-use Rattle.std.proofs.Common.{◌≡◌, ◌⊎◌, ℕ, zero, suc, ℤ, ◌+◌, ◌<◌, ◌≤◌, ◌==◌, Bool, true, ◌&&◌, ◌||◌, not}
-use Rattle.std.proofs.Common.{Some, None, Option, List, [], ◌∷◌, length, slice_get, refl, sym, ap, subst, ◌∙◌, ⊎_elim, arith}
+use Rattle.std.proofs.Common.{◌≡◌, ◌⊎◌, ℕ, zero, suc, ℤ, ◌+◌, ◌<◌, ◌≤◌, ◌==◌, Bool, true, ◌&&◌, ◌||◌, not, Some, None, Option, List, [], ◌∷◌, length, slice_get, refl, sym, ap, subst, ◌∙◌, ⊎_elim, arith}
 use Rattle.std.proofs.lemmas.Bool.{false≢true, eqb-true, eq-eqb, and_parts, and_from, or_left, or_right, or_cases}
 use Rattle.std.proofs.lemmas.Cmp.{int_eq_equiv}
 use Rattle.std.proofs.lemmas.Option.{slice_get_within, same_Some}
 use Rattle.std.specs.List.{list_any, range_with_len}
 use Rattle.std.specs.Ordering.{int_eq}
-use Rattle.sm_cc.specs.declared.row.Row.{Row}
 use Rattle.sm_cc.specs.declared.row.Shape.{Shape}
-use Rattle.sm_cc.specs.declared.row.Element.{Element}
-use Rattle.sm_cc.specs.declared.log.Known.{Known}
-use Rattle.sm_cc.specs.declared.log.Known.TheVariants.{Equal, Unequal}
-use Rattle.sm_cc.specs.declared.log.Rule.{Rule}
-use Rattle.sm_cc.specs.declared.log.Rule.TheVariants.{Refl, Sym, Trans, Subst, Alike, Apart, Cong, Hit, Miss}
-use Rattle.sm_cc.specs.declared.log.Why.{Why}
-use Rattle.sm_cc.specs.declared.log.Why.TheVariants.{Given, By}
-use Rattle.sm_cc.specs.declared.log.Entry.{Entry}
-use Rattle.sm_cc.specs.declared.closure.Closure.{Closure}
 use Rattle.sm_cc.specs.Classes.{if_there}
-use Rattle.sm_cc.specs.Rows.{Board, PlacePairs, is_listed, rows_pass, one_head, shapes_pass, places_differ, places_apart, equal_places}
-use Rattle.sm_cc.specs.Rows.{row_brings, ArePlacesClosed}
-use Rattle.sm_cc.specs.Log.{Placed, SayEqual, Derives, Follows, known_at, Before, AllFollow}
-use Rattle.sm_cc.specs.Closures.{IsSound, are_together, board_of, placed_of}
-use Rattle.sm_cc.proofs.CausesLemmas.{get_there}
+use Rattle.sm_cc.specs.Rows.{Board, PlacePairs, is_listed, rows_pass, one_head, shapes_pass, places_differ, places_apart, equal_places, row_brings, ArePlacesClosed, Row, Element}
+use Rattle.sm_cc.specs.Log.{Placed, SayEqual, Derives, Follows, known_at, Before, AllFollow, Known, Equal, Unequal, Rule, Refl, Sym, Trans, Subst, Alike, Apart, Cong, Hit, Miss, Why, Given, By, Entry}
+use Rattle.sm_cc.specs.Closures.{IsSound, are_together, board_of, placed_of, Closure}
 use Rattle.sm_cc.proofs.ClosuresLemmas.{roots_of}
 use Rattle.sm_cc.proofs.LogLemmas.{known_within}
+use Rattle.sm_lemmas.proofs.Lists.{get_below}
 
 -- a fact is so by a set of pairs
 abbrev pub IsSo : Board → PlacePairs → Known → Type 0
@@ -186,7 +174,7 @@ missed b equal j r = if_there r.element (λ (e : Element). places_apart b equal 
 abbrev misses : Board → PlacePairs → ℕ → ℕ → Bool
 misses b equal i j = rows_pass b.rows i j (λ r s. missed b equal j r)
 
-brings_listed : (b : Board) (equal : PlacePairs) (i j : ℕ) → is_listed b.equal i j ≡ true → row_brings b equal i j ≡ true
+pub brings_listed : (b : Board) (equal : PlacePairs) (i j : ℕ) → is_listed b.equal i j ≡ true → row_brings b equal i j ≡ true
 brings_listed b equal i j h =
     or_left (is_listed b.equal i j) (alike b i j || (headed b equal i j || (hits b equal i j || misses b equal i j))) h
 
@@ -215,7 +203,7 @@ brings_missed b equal i j h =
 
 -- there is a row within the rows
 row_there : (rows : List Row) (j : ℕ) → j < length rows → (s : Row) × (slice_get rows j ≡ Some s)
-row_there rows j h = get_there rows j h
+row_there rows j h = get_below rows j h
 
 -- what a rule gives is so, where what it takes is
 derives_so : (b : Board) (equal : PlacePairs) → ArePlacesClosed b equal → (has : ℕ → Known → Type 0) →

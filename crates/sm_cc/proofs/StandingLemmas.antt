@@ -1,6 +1,5 @@
 -- Where rows stand for terms: what is given of terms, and how they differ, by their places.
-use Rattle.std.proofs.Common.{◌≡◌, ℕ, ℤ, ◌==◌, ◌<◌, zero, suc, Bool, true, false, ◌&&◌, ◌||◌, not, List, [], ◌∷◌, length, slice_get}
-use Rattle.std.proofs.Common.{Option, Some, None, refl, sym, ap, ◌∙◌, arith, if◌then◌else◌, zero-add}
+use Rattle.std.proofs.Common.{◌≡◌, ℕ, ℤ, ◌==◌, ◌<◌, zero, suc, Bool, true, false, ◌&&◌, ◌||◌, not, List, [], ◌∷◌, length, slice_get, Option, Some, None, refl, sym, ap, ◌∙◌, arith, if◌then◌else◌, zero-add}
 use Rattle.std.specs.List.{list_any, range_with_len}
 use Rattle.std.specs.Ordering.{int_eq}
 use Rattle.std.proofs.lemmas.Bool.{eqb-true}
@@ -15,12 +14,11 @@ use Rattle.sm_term.proofs.SameTermsLemmas.{same_tree_is}
 use Rattle.sm_theory.specs.Lines.{Sides, unequal_sides}
 use Rattle.sm_theory.specs.Equality.{says_equal}
 use Rattle.sm_theory.specs.Arithmetic.{compared_forms}
-use Rattle.sm_cc.specs.declared.row.Row.{Row}
 use Rattle.sm_cc.specs.Classes.{Setting, given_unequal, differ, if_there}
 use Rattle.sm_theory.specs.TermsOfFormulas.{is_among}
-use Rattle.sm_cc.specs.Rows.{Board, is_listed, rows_pass, shapes_pass, places_differ}
+use Rattle.sm_cc.specs.Rows.{Board, is_listed, rows_pass, shapes_pass, places_differ, Row}
 use Rattle.sm_cc.specs.Standing.{place_of, RowsStand, with_places, places_given, board_for}
-use Rattle.sm_pairs.proofs.AmongLemmas.{one_thing}
+use Rattle.sm_lemmas.proofs.Lists.{one_thing}
 
 -- tests of which each part is passed where another is
 pub or_map : (a c : Bool) {b d : Bool} → (a ≡ true → c ≡ true) → (b ≡ true → d ≡ true) → (a || b) ≡ true → (c || d) ≡ true

@@ -1,6 +1,5 @@
 -- The lines of steps add their facts one after the other.
-use Rattle.std.proofs.Common.{◌≡◌, ℕ, ◌<◌, ◌+◌, zero, suc, List, [], ◌∷◌, ◌++◌, map, length, slice_get}
-use Rattle.std.proofs.Common.{Option, Some, None, refl, sym, ap, ◌∙◌, subst, arith, ◌⊎◌, ⊎_elim, inl, inr}
+use Rattle.std.proofs.Common.{◌≡◌, ℕ, ◌<◌, ◌+◌, List, [], ◌∷◌, ◌++◌, map, length, slice_get, Option, Some, refl, sym, ap, ◌∙◌, subst, arith, ◌⊎◌, ⊎_elim}
 use Rattle.std.specs.Option.{option_map}
 use Rattle.std.proofs.lemmas.List.{append-nil, map-append}
 use Rattle.std.proofs.lemmas.Option.{slice_get-map}
@@ -10,40 +9,20 @@ use Rattle.sm_term.specs.Sorted.{IsSorted}
 use Rattle.sm_theory.specs.Facts.{BranchFact}
 use Rattle.sm_theory.specs.Lines.{CertificateLine, followed}
 use Rattle.sm_theory.specs.Ways.{adds}
-use Rattle.sm_cc.specs.declared.log.Known.{Known}
 use Rattle.sm_cc.specs.declared.log.Step.{Step}
-use Rattle.sm_cc.specs.Log.{Placed}
+use Rattle.sm_cc.specs.Log.{Placed, Known}
 use Rattle.sm_cc.specs.Steps.{IsGiven, IsStated, StepsFollow, step_says}
 use Rattle.sm_cc.specs.Standing.{RowsStand}
 use Rattle.sm_cc.specs.Explained.{added_by}
 use Rattle.sm_cc.specs.Explaining.{line_of, known_fact, IsOfTerms}
 use Rattle.sm_pairs.proofs.LongerLemmas.{slice_get-longer}
-use Rattle.sm_cc.proofs.RowsLemmas.{pushed}
-use Rattle.sm_pairs.proofs.AmongLemmas.{one_thing}
 use Rattle.sm_cc.proofs.ExplainingLemmas.{rule_adds}
-
--- what stands behind a list
-behind : {A : Type 0} (xs ys : List A) (j : ℕ) → slice_get (xs ++ ys) (length xs + j) ≡ slice_get ys j
-behind [] ys j = let e : 0 + j ≡ j = omega arith in ap (slice_get ys) e
-behind (x ∷ xs) ys j =
-    let e : suc (length xs) + j ≡ suc (length xs + j) = omega arith in
-    ap (slice_get (x ∷ (xs ++ ys))) e ∙ behind xs ys j
+use Rattle.sm_lemmas.proofs.Lists.{get_below, get_in_second, together, get_pushed, one_thing}
 
 -- the first behind a list
 pub first_behind : {A : Type 0} (xs : List A) (y : A) (ys : List A) → slice_get (xs ++ y ∷ ys) (length xs) ≡ Some y
 first_behind [] y ys = refl
 first_behind (x ∷ xs) y ys = first_behind xs y ys
-
--- an element below the length
-element_below : {A : Type 0} (xs : List A) (j : ℕ) → j < length xs → (x : A) × (slice_get xs j ≡ Some x)
-element_below [] j h = absurd (omega arith)
-element_below (x ∷ xs) zero h = (x, refl)
-element_below (x ∷ xs) (suc j) h = let less : j < length xs = omega arith in element_below xs j less
-
--- lists one behind the other
-together : {A : Type 0} (xs ys zs : List A) → (xs ++ ys) ++ zs ≡ xs ++ (ys ++ zs)
-together [] ys zs = refl
-together {A} (x ∷ xs) ys zs = ap (λ (l : List A). x ∷ l) (together xs ys zs)
 
 module _ (sorts : Sorts) (terms : List Tree) (p : Placed) (stand : RowsStand sorts terms p.board.rows)
     (sorted : (i : ℕ) (t : Tree) → slice_get terms i ≡ Some t → IsSorted sorts t)
@@ -70,12 +49,12 @@ module _ (sorts : Sorts) (terms : List Tree) (p : Placed) (stand : RowsStand sor
       (slice_get-longer facts (facts ++ map fact done) (map fact done, refl) n (known_fact sorts terms k) told.0, told.1))
       (λ (x : (j : ℕ) × (n ≡ start + j) × (j < length done) × (step_says steps j ≡ Some k)).
       let j = x.0 in
-      let found = element_below done j x.2 in
+      let found = get_below done j x.2 in
       let there = slice_get-longer done steps (rest, eq) j found.0 found.1 in
       let known = one_thing found.0.known k (sym (ap (option_map (λ (s : Step). s.known)) there) ∙ x.3) in
       let number : n ≡ length facts + j = omega (arith, long, x.1) in (
         ap (slice_get (facts ++ map fact done)) number
-            ∙ behind facts (map fact done) j
+            ∙ get_in_second facts (map fact done) j
             ∙ slice_get-map fact done j
             ∙ ap (option_map fact) found.1
             ∙ ap (λ (k : Known). Some (known_fact sorts terms k)) known,
@@ -97,7 +76,7 @@ module _ (sorts : Sorts) (terms : List Tree) (p : Placed) (stand : RowsStand sor
       λ (k : ℕ) (x : Step) (e : slice_get (done ++ s ∷ []) k ≡ Some x).
       ⊎_elim (λ (h : slice_get done k ≡ Some x). fine k x h)
       (λ (h : (k ≡ length done) × (s ≡ x)). subst (λ (y : Step). IsOfTerms sorts terms y.known) h.1 one.1)
-      (pushed done s x k e) in
+      (get_pushed done s x k e) in
       let next = left_add rest (done ++ s ∷ []) (eq ∙ sym (together done (s ∷ []) rest)) more in
       let grown : branch ++ fact s ∷ [] ≡ facts ++ map fact (done ++ s ∷ []) =
       together facts (map fact done) (fact s ∷ []) ∙ ap (λ (l : List BranchFact). facts ++ l) (sym (map-append fact done (s ∷ []))) in

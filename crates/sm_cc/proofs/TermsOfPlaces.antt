@@ -1,7 +1,6 @@
 -- Where rows stand for terms, two terms are in one class exactly where their places are, and known
 -- apart exactly where these are.
-use Rattle.std.proofs.Common.{◌≡◌, ◌↔◌, ℕ, ◌==◌, ◌<◌, Bool, true, ◌&&◌, List, [], ◌∷◌, map, length, slice_get}
-use Rattle.std.proofs.Common.{Option, Some, None, refl, sym, ap, ◌∙◌, subst, arith}
+use Rattle.std.proofs.Common.{◌≡◌, ◌↔◌, ℕ, ◌==◌, ◌<◌, Bool, true, ◌&&◌, List, [], ◌∷◌, map, length, slice_get, Option, Some, None, refl, sym, ap, ◌∙◌, subst, arith}
 use Rattle.std.specs.List.{list_any, range_with_len}
 use Rattle.std.specs.Ordering.{int_eq}
 use Rattle.std.proofs.lemmas.Bool.{eqb-true, and_parts}
@@ -15,21 +14,16 @@ use Rattle.sm_term.proofs.SameTermsLemmas.{same_tree_is}
 use Rattle.sm_theory.specs.Lines.{followed, equal_sides}
 use Rattle.sm_theory.specs.Elements.{Written, written_in, read_in}
 use Rattle.sm_theory.specs.Arithmetic.{compared_forms}
-use Rattle.sm_cc.specs.declared.row.Row.{Row}
-use Rattle.sm_cc.specs.declared.row.Element.{Element}
 use Rattle.sm_theory.specs.TermsOfFormulas.{is_among}
 use Rattle.sm_pairs.specs.Pairs.{Pairs}
-use Rattle.sm_cc.specs.Classes.{Setting, given_equal, differ, are_apart, equal_lists, if_there, reads_written}
-use Rattle.sm_cc.specs.Classes.{brings, AreClosed, Same, Apart}
-use Rattle.sm_cc.specs.Rows.{PlacePairs, Board, is_listed, rows_pass, one_head, shapes_pass, places_differ, places_apart, equal_places}
-use Rattle.sm_cc.specs.Rows.{row_brings, ArePlacesClosed, SamePlaces, ApartPlaces}
+use Rattle.sm_cc.specs.Classes.{Setting, given_equal, differ, are_apart, equal_lists, if_there, reads_written, brings, AreClosed, Same, Apart}
+use Rattle.sm_cc.specs.Rows.{PlacePairs, Board, is_listed, rows_pass, one_head, shapes_pass, places_differ, places_apart, equal_places, row_brings, ArePlacesClosed, SamePlaces, ApartPlaces, Row, Element}
 use Rattle.sm_cc.specs.Standing.{place_of, element_of, RowsStand, board_for}
-use Rattle.sm_cc.proofs.StandingLemmas.{or_map, and_map, both, any_from, term_there, place_found}
-use Rattle.sm_pairs.proofs.AmongLemmas.{one_thing, any_to}
-use Rattle.sm_cc.proofs.StandingLemmas.{among_there, row_there, pass, forms_alike, said_of_terms}
+use Rattle.sm_cc.proofs.StandingLemmas.{or_map, and_map, both, any_from, term_there, place_found, among_there, row_there, pass, forms_alike, said_of_terms, differ_alike}
 use Rattle.sm_pairs.proofs.AmongLemmas.{there_among}
-use Rattle.sm_cc.proofs.StandingLemmas.{differ_alike}
 use Rattle.sm_cc.proofs.PlacesOfTerms.{apart_of_places, brings_of_places}
+use Rattle.sm_lemmas.proofs.Lists.{one_thing}
+use Rattle.std.proofs.lemmas.Map.Keys.{any_passes_from_place}
 
 module _ (sorts : Sorts) (terms : List Tree) (given : List Assertion) (rows : List Row) (stand : RowsStand sorts terms rows) where
   abbrev setting : Setting
@@ -104,9 +98,9 @@ module _ (sorts : Sorts) (terms : List Tree) (given : List Assertion) (rows : Li
         let q = right.0 in
         let same_p = subst (λ (x : Tree). equal p x ≡ true) (place_found terms t left.1 left.3) left.4 in
         let same_q = subst (λ (x : Tree). equal q x ≡ true) (place_found terms u right.1 right.3) right.4 in
-        any_to (λ p. equal p t && list_any (λ q. equal q u && differ setting p q) terms) terms i p left.2
+        any_passes_from_place (λ p. equal p t && list_any (λ q. equal q u && differ setting p q) terms) terms i p left.2
         (both same_p
-        (any_to (λ q. equal q u && differ setting p q) terms j q right.2
+        (any_passes_from_place (λ q. equal q u && differ setting p q) terms j q right.2
         (both same_q (differ_alike sorts terms given rows stand i j p q left.2 right.2 two.1))))
 
     -- an element that is read

@@ -1,21 +1,17 @@
 -- Where two places are apart: a contrary was given of their classes, or one of their forms has a constant.
-use Rattle.std.proofs.Common.{◌≡◌, ℕ, ℤ, pos, ◌<◌, ◌==◌, Bool, true, false, ◌&&◌, ◌||◌, not, Option, Some, None, List, length, slice_get}
-use Rattle.std.proofs.Common.{map, refl, sym, ap, ◌∙◌, ⊎_elim, arith}
+use Rattle.std.proofs.Common.{◌≡◌, ℕ, ℤ, pos, ◌<◌, ◌==◌, Bool, true, false, ◌&&◌, ◌||◌, not, Option, Some, None, List, length, slice_get, map, refl, sym, ap, ◌∙◌, ⊎_elim, arith}
 use Rattle.std.proofs.lemmas.Bool.{true≢false, eqb-true, and_parts, and_from, or_left, or_right, or_cases, false_from_ne_true}
 use Rattle.std.specs.List.{list_any}
 use Rattle.std.specs.Ordering.{int_eq}
-use Rattle.sm_cc.specs.declared.row.Row.{Row}
 use Rattle.sm_cc.specs.declared.row.Shape.{Shape}
-use Rattle.sm_cc.specs.declared.log.Given.{Given}
-use Rattle.sm_cc.specs.declared.closure.Closure.{Closure}
 use Rattle.sm_cc.specs.Classes.{if_there}
-use Rattle.sm_cc.specs.Rows.{PlacePairs, is_listed, rows_pass, shapes_pass, places_apart}
-use Rattle.sm_cc.specs.Closures.{pair_of, board_of, are_together}
+use Rattle.sm_cc.specs.Rows.{PlacePairs, is_listed, rows_pass, shapes_pass, places_apart, Row}
+use Rattle.sm_cc.specs.Closures.{pair_of, board_of, are_together, Closure, Given}
 use Rattle.sm_cc.specs.Causes.{is_between, are_given_apart, has_constant, is_constant_of, have_constant, may_be_apart}
 use Rattle.sm_cc.proofs.CausesLemmas.{is_pair, is_listed-map}
 use Rattle.sm_cc.proofs.SoundLemmas.{any_in, parts_of}
 use Rattle.sm_cc.proofs.StandingLemmas.{any_from}
-use Rattle.sm_pairs.proofs.AmongLemmas.{any_to}
+use Rattle.std.proofs.lemmas.Map.Keys.{any_passes_from_place}
 
 -- a listed pair of places of two classes is between these
 given_between : (equal : PlacePairs) (list : List Given) (p q i j : ℕ) → equal p i ≡ true → equal q j ≡ true →
@@ -24,7 +20,7 @@ given_between equal list p q i j first second h =
     let x = any_from (is_pair p q) list (sym (is_listed-map list p q) ∙ h) in
     let g = x.1 in
     let both = and_parts (g.left == p) (g.right == q) x.3 in
-    any_to (is_between equal i j) list x.0 g x.2
+    any_passes_from_place (is_between equal i j) list x.0 g x.2
     (or_left (equal g.left i && equal g.right j) (equal g.right i && equal g.left j)
     (and_from (equal g.left i) (equal g.right j) (ap (λ (y : ℕ). equal y i) (eqb-true g.left p both.0) ∙ first)
     (ap (λ (y : ℕ). equal y j) (eqb-true g.right q both.1) ∙ second)))
@@ -36,7 +32,7 @@ turned_between equal list p q i j first second h =
     let x = any_from (is_pair q p) list (sym (is_listed-map list q p) ∙ h) in
     let g = x.1 in
     let both = and_parts (g.left == q) (g.right == p) x.3 in
-    any_to (is_between equal i j) list x.0 g x.2
+    any_passes_from_place (is_between equal i j) list x.0 g x.2
     (or_right (equal g.left i && equal g.right j) (equal g.right i && equal g.left j)
     (and_from (equal g.right i) (equal g.left j) (ap (λ (y : ℕ). equal y i) (eqb-true g.right p both.1) ∙ first)
     (ap (λ (y : ℕ). equal y j) (eqb-true g.left q both.0) ∙ second)))

@@ -1,10 +1,9 @@
 -- Cited by public clauses: what one look tells of terms behind those of others.
 use Rattle.std.specs.Prelude.{◌≡◌, ◌⊎◌, ℕ, false, List, Some, length, slice_get}
-use Rattle.sm_term.specs.declared.term.TermId.{TermId}
 use Rattle.sm_term.specs.Tables.{trees_in, tree_at}
-use Rattle.sm_cc.specs.declared.classes.GivenFact.{GivenFact}
+use Rattle.sm_term.specs.declared.term.TermId.{TermId}
 use Rattle.sm_cc.specs.Classes.{Same}
-use Rattle.sm_cc.specs.Views.{ClassesValue, setting_of}
+use Rattle.sm_cc.specs.Views.{ClassesValue, setting_of, GivenFact}
 
 -- a label for each term of classes: terms that have one are in one class
 pub record AreEqualByLabels (v : ClassesValue) (labels : List ℕ) : Type 0 where

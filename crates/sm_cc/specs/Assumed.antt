@@ -2,15 +2,13 @@
 use Rattle.std.specs.Prelude.{◌≡◌, ℕ, Bool, not, if◌then◌else◌, slice_get, Some, List, map}
 use Rattle.std.specs.List.{filter}
 use Rattle.sm_term.specs.Tables.{trees_in, sorts_in}
-use Rattle.sm_cc.specs.declared.classes.GivenFact.{GivenFact}
 use Rattle.sm_cc.specs.declared.log.Given.{Given}
 use Rattle.sm_cc.specs.declared.row.Row.{Row}
-use Rattle.sm_cc.specs.declared.positions.Positions.{Positions}
 use Rattle.sm_cc.specs.Standing.{RowsStand, board_for}
-use Rattle.sm_cc.specs.Positions.{ArePositions, place_at}
+use Rattle.sm_cc.specs.Positions.{ArePositions, place_at, Positions}
 use Rattle.sm_cc.specs.Log.{Placed}
 use Rattle.sm_cc.specs.Exact.{with_equal, with_unequal}
-use Rattle.sm_cc.specs.Views.{ClassesValue, setting_of, IsOfTwoTerms}
+use Rattle.sm_cc.specs.Views.{ClassesValue, setting_of, IsOfTwoTerms, GivenFact}
 
 -- the numbers of the given facts that pass a test
 abbrev pub numbers_where : (GivenFact → Bool) → List GivenFact → List ℕ

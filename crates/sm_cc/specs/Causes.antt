@@ -1,23 +1,17 @@
 -- Private: which rule makes two places equal, or keeps them apart.
-use Rattle.std.specs.Prelude.{◌≡◌, ℕ, ◌==◌, pos, IsTrue, Bool, ◌&&◌, ◌||◌, not, slice_get}
-use Rattle.std.specs.Prelude.{length, Some}
+use Rattle.std.specs.Prelude.{◌≡◌, ℕ, ◌==◌, pos, IsTrue, Bool, ◌&&◌, ◌||◌, not, slice_get, length, Some}
 use Rattle.std.specs.List.{list_any, range_with_len}
 use Rattle.std.specs.Ordering.{int_eq}
-use Rattle.sm_cc.specs.declared.row.Row.{Row}
 use Rattle.sm_cc.specs.declared.row.Shape.{Shape}
-use Rattle.sm_cc.specs.declared.row.Element.{Element}
-use Rattle.sm_cc.specs.declared.log.Given.{Given}
-use Rattle.sm_cc.specs.declared.closure.Closure.{Closure}
 use Rattle.sm_cc.specs.declared.witness.Difference.{Difference}
 use Rattle.sm_cc.specs.declared.witness.Difference.TheVariants as difference
 use Rattle.sm_cc.specs.declared.witness.Witness.{Witness}
 use Rattle.sm_cc.specs.declared.cause.Cause.{Cause}
 use Rattle.sm_cc.specs.declared.cause.Cause.TheVariants as cause
 use Rattle.sm_cc.specs.Classes.{if_there}
-use Rattle.sm_cc.specs.Rows.{Board, PlacePairs, one_head, shapes_pass, rows_pass, equal_places}
-use Rattle.sm_cc.specs.Rows.{places_apart, places_differ, is_listed}
+use Rattle.sm_cc.specs.Rows.{Board, PlacePairs, one_head, shapes_pass, rows_pass, equal_places, places_apart, places_differ, is_listed, Row, Element}
 use Rattle.sm_cc.specs.Log.{Placed, AreIn, IsGivenAs}
-use Rattle.sm_cc.specs.Closures.{are_together}
+use Rattle.sm_cc.specs.Closures.{are_together, Closure, Given}
 
 -- why two places differ
 abbrev pub IsDifference : Placed → Difference → ℕ → ℕ → Type 0

@@ -1,7 +1,6 @@
 -- Cited by public clauses: which terms of a list are equal by what is given, and which are known
 -- apart.
-use Rattle.std.specs.Prelude.{ℤ, IsTrue, Bool, true, false, ◌&&◌, ◌||◌, not, List, [], ◌∷◌}
-use Rattle.std.specs.Prelude.{Option, Some, None}
+use Rattle.std.specs.Prelude.{ℤ, IsTrue, Bool, true, false, ◌&&◌, ◌||◌, not, List, [], ◌∷◌, Option, Some, None}
 use Rattle.std.specs.List.{list_any}
 use Rattle.std.specs.Ordering.{int_eq}
 use Rattle.sm_syntax.specs.text.Sorts.{Sorts}

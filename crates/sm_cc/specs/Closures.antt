@@ -1,17 +1,12 @@
 -- Private: classes of places with the log of how they were found.
-use Rattle.std.specs.Prelude.{◌≡◌, ℕ, ◌==◌, ◌≤◌, Bool, IsTrue, slice_get, slice_index, length}
-use Rattle.std.specs.Prelude.{Option, Some, None, List, [], map}
-use Rattle.sm_cc.specs.declared.row.Row.{Row}
-use Rattle.sm_cc.specs.declared.log.Known.{Known}
-use Rattle.sm_cc.specs.declared.log.Known.TheVariants.{Equal, Unequal}
-use Rattle.sm_cc.specs.declared.log.Entry.{Entry}
-use Rattle.sm_cc.specs.declared.log.Given.{Given}
-use Rattle.sm_cc.specs.declared.log.Equation.{Equation}
+use Rattle.std.specs.Prelude.{◌≡◌, ℕ, ◌==◌, ◌≤◌, Bool, IsTrue, slice_get, slice_index, length, Option, Some, None, List, [], map}
+pub use Rattle.sm_cc.specs.declared.log.Given.{Given}
+pub use Rattle.sm_cc.specs.declared.log.Equation.{Equation}
 use Rattle.sm_cc.specs.declared.log.Contrary.{Contrary}
-use Rattle.sm_cc.specs.declared.closure.Closure.{Closure}
+pub use Rattle.sm_cc.specs.declared.closure.Closure.{Closure}
 use Rattle.sm_cc.specs.Classes.{if_there}
-use Rattle.sm_cc.specs.Rows.{Board, one_head, equal_places}
-use Rattle.sm_cc.specs.Log.{Placed, IsGivenAs, SayEqual, AllFollow, known_at}
+use Rattle.sm_cc.specs.Rows.{Board, one_head, equal_places, Row}
+use Rattle.sm_cc.specs.Log.{Placed, IsGivenAs, SayEqual, AllFollow, known_at, Known, Equal, Unequal, Entry}
 
 -- the places of a given pair
 abbrev pub pair_of : Given → ℕ × ℕ

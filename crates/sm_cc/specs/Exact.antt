@@ -1,11 +1,8 @@
 -- Private: classes of places that are exact.
 use Rattle.std.specs.Prelude.{ℕ, List, [], ◌∷◌, ◌++◌, map}
-use Rattle.sm_cc.specs.declared.row.Row.{Row}
-use Rattle.sm_cc.specs.declared.log.Given.{Given}
-use Rattle.sm_cc.specs.declared.closure.Closure.{Closure}
-use Rattle.sm_cc.specs.Rows.{ArePlacesClosed}
+use Rattle.sm_cc.specs.Rows.{ArePlacesClosed, Row}
 use Rattle.sm_cc.specs.Log.{Placed}
-use Rattle.sm_cc.specs.Closures.{IsSound, board_of, are_together, pair_of, fact_of}
+use Rattle.sm_cc.specs.Closures.{IsSound, board_of, are_together, pair_of, fact_of, Closure, Given}
 
 -- classes follow from what is given, and no rule brings more
 pub record IsExact (c : Closure) : Type 0 where

@@ -1,7 +1,6 @@
 -- Private: the first places that have keys, by which places are found that are equal by their forms or
 -- by their arguments.
-use Rattle.std.specs.Prelude.{◌≡◌, ◌==◌, ℕ, ◌+◌, ℤ, pos, ◌<◌, Bool, IsTrue, Vec, length, slice_get}
-use Rattle.std.specs.Prelude.{Option, Some, None, List, [], ◌∷◌, ◌++◌, ◌&&◌, if◌then◌else◌}
+use Rattle.std.specs.Prelude.{◌≡◌, ◌==◌, ℕ, ◌+◌, ℤ, pos, ◌<◌, Bool, IsTrue, Vec, length, slice_get, Option, Some, None, List, [], ◌∷◌, ◌++◌, ◌&&◌, if◌then◌else◌}
 use Rattle.std.specs.Global.{Global}
 use Rattle.std.specs.HashMap.{HashMap, get_by}
 use Rattle.std.specs.Ordering.{int_eq}
@@ -9,9 +8,7 @@ use Rattle.std.specs.Cmp.Lexicographic.{pointwise}
 use Rattle.sm_theory.specs.Lines.{followed}
 use Rattle.sm_cc.specs.declared.row.Row.{Row}
 use Rattle.sm_cc.specs.declared.row.Shape.{Shape}
-use Rattle.sm_cc.specs.declared.log.Equation.{Equation}
-use Rattle.sm_cc.specs.declared.closure.Closure.{Closure}
-use Rattle.sm_cc.specs.Closures.{Grows, are_together, board_of}
+use Rattle.sm_cc.specs.Closures.{Grows, are_together, board_of, Closure, Equation}
 use Rattle.sm_cc.specs.Settled.{pair_brings, ArePairSettled}
 
 -- what is told by a key

@@ -5,11 +5,10 @@ use Rattle.sm_cc.specs.declared.behind.AddedTerms.{AddedTerms}
 use Rattle.sm_cc.specs.declared.behind.Scanned.{Scanned}
 use Rattle.sm_cc.specs.declared.ground.BaseClasses.{BaseClasses}
 use Rattle.sm_cc.specs.declared.log.Equation.{Equation}
-use Rattle.sm_cc.specs.declared.positions.Positions.{Positions}
 use Rattle.sm_cc.specs.declared.row.Row.{Row}
 use Rattle.sm_cc.specs.LabelsAt.{label_at}
 use Rattle.sm_cc.specs.Scanned.{AreLooked, AreQuiet}
-use Rattle.sm_cc.specs.Positions.{place_at}
+use Rattle.sm_cc.specs.Positions.{place_at, Positions}
 
 -- labels of all places by one look at each behind those of a base, and whether they are exact
 pub record ArePlacesLabelled (g : BaseClasses) (more : List Row) (apart : List (ℕ × ℕ)) (b : AddedTerms)

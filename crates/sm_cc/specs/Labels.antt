@@ -1,7 +1,7 @@
 -- Cited by public clauses: labels that tell classes.
 use Rattle.std.specs.Prelude.{◌≡◌, ◌↔◌, ℕ, List, Some, length, slice_get}
-use Rattle.sm_term.specs.declared.term.TermId.{TermId}
 use Rattle.sm_term.specs.Tables.{trees_in, tree_at}
+use Rattle.sm_term.specs.declared.term.TermId.{TermId}
 use Rattle.sm_cc.specs.Classes.{Same}
 use Rattle.sm_cc.specs.Rows.{Board, SamePlaces}
 use Rattle.sm_cc.specs.Views.{ClassesValue, setting_of}

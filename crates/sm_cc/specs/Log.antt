@@ -1,18 +1,17 @@
 -- Private: a log of what is known of places, each fact by a rule from facts with numbers.
-use Rattle.std.specs.Prelude.{◌≡◌, ℕ, ◌<◌, IsTrue, not, slice_get, length}
-use Rattle.std.specs.Prelude.{Option, Some, List, [], ◌∷◌}
+use Rattle.std.specs.Prelude.{◌≡◌, ℕ, ◌<◌, IsTrue, not, slice_get, length, Option, Some, List, [], ◌∷◌}
 use Rattle.std.specs.Option.{option_map}
 use Rattle.std.specs.Ordering.{int_eq}
-use Rattle.sm_cc.specs.declared.row.Row.{Row}
-use Rattle.sm_cc.specs.declared.row.Element.{Element}
-use Rattle.sm_cc.specs.declared.log.Known.{Known}
-use Rattle.sm_cc.specs.declared.log.Known.TheVariants.{Equal, Unequal}
-use Rattle.sm_cc.specs.declared.log.Rule.{Rule}
+pub use Rattle.sm_cc.specs.declared.log.Known.{Known}
+pub use Rattle.sm_cc.specs.declared.log.Known.TheVariants.{Equal, Unequal}
+pub use Rattle.sm_cc.specs.declared.log.Rule.{Rule}
 use Rattle.sm_cc.specs.declared.log.Rule.TheVariants as rule
-use Rattle.sm_cc.specs.declared.log.Why.{Why}
+pub use Rattle.sm_cc.specs.declared.log.Why.{Why}
 use Rattle.sm_cc.specs.declared.log.Why.TheVariants as why
-use Rattle.sm_cc.specs.declared.log.Entry.{Entry}
-use Rattle.sm_cc.specs.Rows.{Board, rows_pass, shapes_pass, one_head}
+pub use Rattle.sm_cc.specs.declared.log.Entry.{Entry}
+use Rattle.sm_cc.specs.Rows.{Board, rows_pass, shapes_pass, one_head, Row, Element}
+pub use Rattle.sm_cc.specs.declared.log.Rule.TheVariants.{Alike, Apart, Cong, Hit, Miss, Refl, Subst, Sym, Trans}
+pub use Rattle.sm_cc.specs.declared.log.Why.TheVariants.{By, Given}
 
 -- what is seen of classes over places: the board, and the number under which each pair was given
 pub record Placed : Type 0 where

@@ -1,9 +1,6 @@
 -- Private: two classes become one, as places get other labels.
-use Rattle.std.specs.Prelude.{◌≡◌, ◌≢◌, ℕ, ◌==◌, ◌<◌, ◌≤◌, ◌⊎◌, IsTrue, if◌then◌else◌}
-use Rattle.std.specs.Prelude.{slice_get, Some, List}
-use Rattle.sm_cc.specs.declared.log.Equation.{Equation}
-use Rattle.sm_cc.specs.declared.closure.Closure.{Closure}
-use Rattle.sm_cc.specs.Closures.{IsNoted, Grows, AddsEquation, are_together}
+use Rattle.std.specs.Prelude.{◌≡◌, ◌≢◌, ℕ, ◌==◌, ◌<◌, ◌≤◌, ◌⊎◌, IsTrue, if◌then◌else◌, slice_get, Some, List}
+use Rattle.sm_cc.specs.Closures.{IsNoted, Grows, AddsEquation, are_together, Closure, Equation}
 
 -- a place has a label
 abbrev pub IsLabel : List Equation → ℕ → ℕ → Type 0

@@ -1,6 +1,5 @@
 -- Private: what the heads and the linear forms of terms are numbered by, in lists without repeats.
-use Rattle.std.specs.Prelude.{◌≡◌, ℕ, ℤ, false, true, slice_get, Option, Some, None, List, [], map}
-use Rattle.std.specs.Prelude.{Vec}
+use Rattle.std.specs.Prelude.{◌≡◌, ℕ, ℤ, false, true, slice_get, Option, Some, None, List, [], map, Vec}
 use Rattle.std.specs.Global.{Global}
 use Rattle.sm_syntax.specs.text.Sorts.{Sorts}
 use Rattle.sm_num.specs.Forms.{Linear}

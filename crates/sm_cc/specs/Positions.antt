@@ -1,16 +1,14 @@
 -- Private: the first places of terms in a list, by the numbers of the terms.
-use Rattle.std.specs.Prelude.{◌≡◌, ◌==◌, ℕ, suc, ◌<◌, ◌≤◌, Bool, false, ◌&&◌, if◌then◌else◌}
-use Rattle.std.specs.Prelude.{Option, Some, None, option_map, unwrap_or, List, [], ◌∷◌, length}
-use Rattle.std.specs.Prelude.{get_or}
+use Rattle.std.specs.Prelude.{◌≡◌, ◌==◌, ℕ, suc, ◌<◌, ◌≤◌, Bool, false, ◌&&◌, if◌then◌else◌, Option, Some, None, option_map, unwrap_or, List, [], ◌∷◌, length, get_or}
 use Rattle.std.specs.HashMap.{get}
-use Rattle.sm_term.specs.declared.term.Term.{Term}
 use Rattle.sm_term.specs.declared.term.Term.TheVariants as row
 use Rattle.sm_term.specs.Terms.{Tree, Read}
 use Rattle.sm_term.specs.SameTerms.{same_tree}
 use Rattle.sm_term.specs.Tables.{tree_at}
+use Rattle.sm_term.specs.declared.term.Term.{Term}
 use Rattle.sm_theory.specs.Elements.{Written, written_in}
 use Rattle.sm_theory.specs.Lines.{followed}
-use Rattle.sm_cc.specs.declared.positions.Positions.{Positions}
+pub use Rattle.sm_cc.specs.declared.positions.Positions.{Positions}
 use Rattle.sm_cc.specs.declared.row.Element.{Element}
 use Rattle.sm_cc.specs.Standing.{place_of}
 

@@ -1,16 +1,15 @@
 -- Private: the row of one term, by what was numbered before.
 use Rattle.std.specs.Prelude.{◌≡◌, ℕ, ◌+◌, ◌<◌, ℤ, IsTrue, List, length, map, slice_get, Some}
-use Rattle.sm_term.specs.declared.term.Term.{Term}
 use Rattle.sm_term.specs.RowLaws.{Contents}
 use Rattle.sm_term.specs.Terms.{Tree}
 use Rattle.sm_term.specs.Heads.{arguments_of}
 use Rattle.sm_term.specs.Fitting.{term_fits}
 use Rattle.sm_term.specs.Tables.{TableValue, trees_in, sorts_in, codes_in, tree_in, IsTermWithin}
+use Rattle.sm_term.specs.declared.term.Term.{Term}
 use Rattle.sm_cc.specs.declared.row.Row.{Row}
 use Rattle.sm_cc.specs.declared.ground.Numbering.{Numbering}
-use Rattle.sm_cc.specs.Numbered.{StandApart, heads_met, parts_met}
+use Rattle.sm_cc.specs.Numbered.{StandApart, heads_met, parts_met, head_of, IsHeadAt, IsShapeAt}
 use Rattle.sm_pairs.specs.Longer.{IsLonger}
-use Rattle.sm_cc.specs.Numbered.{head_of, IsHeadAt, IsShapeAt}
 use Rattle.sm_cc.specs.Standing.{place_of, element_of}
 
 -- a term of a table that has a tree

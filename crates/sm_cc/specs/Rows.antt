@@ -1,11 +1,10 @@
 -- Private: classes over the places of terms in a list, by what rows know of the terms.
-use Rattle.std.specs.Prelude.{ℕ, ◌==◌, ℤ, IsTrue, Bool, true, false, ◌&&◌, ◌||◌, not}
-use Rattle.std.specs.Prelude.{◌<◌, slice_get, List, [], ◌∷◌, length}
+use Rattle.std.specs.Prelude.{ℕ, ◌==◌, ℤ, IsTrue, Bool, true, false, ◌&&◌, ◌||◌, not, ◌<◌, slice_get, List, [], ◌∷◌, length}
 use Rattle.std.specs.List.{list_any, range_with_len}
 use Rattle.std.specs.Ordering.{int_eq}
-use Rattle.sm_cc.specs.declared.row.Row.{Row}
+pub use Rattle.sm_cc.specs.declared.row.Row.{Row}
 use Rattle.sm_cc.specs.declared.row.Shape.{Shape}
-use Rattle.sm_cc.specs.declared.row.Element.{Element}
+pub use Rattle.sm_cc.specs.declared.row.Element.{Element}
 use Rattle.sm_cc.specs.Classes.{if_there}
 
 -- which pairs of places are equal

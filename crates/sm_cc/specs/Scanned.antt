@@ -1,16 +1,11 @@
 -- Private: places behind those of a base, and what one look at each tells.
-use Rattle.std.specs.Prelude.{◌≡◌, ◌⊎◌, ℕ, ◌+◌, ◌-◌, ◌<◌, ◌≤◌, Bool, true, false, ◌&&◌, ◌||◌}
-use Rattle.std.specs.Prelude.{IsTrue, Option, Some, None, List, ◌++◌, length, slice_get, take}
+use Rattle.std.specs.Prelude.{◌≡◌, ◌⊎◌, ℕ, ◌+◌, ◌-◌, ◌<◌, ◌≤◌, Bool, true, false, ◌&&◌, ◌||◌, IsTrue, Option, Some, None, List, ◌++◌, length, slice_get, take}
 use Rattle.std.specs.List.{list_any}
 use Rattle.sm_theory.specs.Lines.{followed}
-use Rattle.sm_cc.specs.declared.row.Row.{Row}
-use Rattle.sm_cc.specs.declared.row.Element.{Element}
-use Rattle.sm_cc.specs.declared.log.Equation.{Equation}
-use Rattle.sm_cc.specs.declared.closure.Closure.{Closure}
 use Rattle.sm_cc.specs.declared.ground.BaseClasses.{BaseClasses}
 use Rattle.sm_cc.specs.declared.behind.Scanned.{Scanned}
-use Rattle.sm_cc.specs.Rows.{Board, PlacePairs, ArePlacesClosed, is_listed, places_apart}
-use Rattle.sm_cc.specs.Closures.{board_of, are_together}
+use Rattle.sm_cc.specs.Rows.{Board, PlacePairs, ArePlacesClosed, is_listed, places_apart, Row, Element}
+use Rattle.sm_cc.specs.Closures.{board_of, are_together, Closure, Equation}
 use Rattle.sm_cc.specs.Firsts.{Keyed, AreFirsts, met_at, shape_key, row_key, label_at}
 use Rattle.sm_cc.specs.BaseClasses.{AreBelow}
 use Rattle.sm_cc.specs.Regrounding.{over_at}

@@ -1,13 +1,9 @@
 -- Private: the rules bring nothing more of some places.
 use Rattle.std.specs.Prelude.{◌≡◌, ℕ, ◌<◌, IsTrue, Bool, ◌||◌, ◌&&◌, slice_get, length, Some}
 use Rattle.std.specs.Ordering.{int_eq}
-use Rattle.sm_cc.specs.declared.row.Element.{Element}
-use Rattle.sm_cc.specs.declared.log.Given.{Given}
-use Rattle.sm_cc.specs.declared.closure.Closure.{Closure}
-use Rattle.sm_cc.specs.Rows.{Board, PlacePairs, rows_pass, shapes_pass, one_head, equal_places}
-use Rattle.sm_cc.specs.Rows.{row_brings}
+use Rattle.sm_cc.specs.Rows.{Board, PlacePairs, rows_pass, shapes_pass, one_head, equal_places, row_brings, Element}
 use Rattle.sm_cc.specs.Log.{HasElement}
-use Rattle.sm_cc.specs.Closures.{Grows, are_together, board_of}
+use Rattle.sm_cc.specs.Closures.{Grows, are_together, board_of, Closure, Given}
 
 -- what the rules bring of two places is so
 abbrev pub IsSettledAt : ℕ → ℕ → Closure → Type 0

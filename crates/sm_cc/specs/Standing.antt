@@ -1,6 +1,5 @@
 -- Private: rows that stand for the terms of a list.
-use Rattle.std.specs.Prelude.{◌≡◌, ℕ, suc, ℤ, Bool, if◌then◌else◌}
-use Rattle.std.specs.Prelude.{slice_get, Option, Some, None, List, [], ◌∷◌, length, map}
+use Rattle.std.specs.Prelude.{◌≡◌, ℕ, suc, ℤ, Bool, if◌then◌else◌, slice_get, Option, Some, None, List, [], ◌∷◌, length, map}
 use Rattle.sm_syntax.specs.text.Sorts.{Sorts}
 use Rattle.sm_term.specs.Terms.{Tree, Read}
 use Rattle.sm_term.specs.SameTerms.{same_tree}
@@ -9,10 +8,8 @@ use Rattle.sm_theory.specs.Elements.{Written, written_in, read_in}
 use Rattle.sm_theory.specs.Arithmetic.{compared_forms}
 use Rattle.sm_term.specs.Assertions.{Assertion}
 use Rattle.sm_theory.specs.Lines.{followed, Sides, equal_sides, unequal_sides}
-use Rattle.sm_cc.specs.declared.row.Row.{Row}
-use Rattle.sm_cc.specs.declared.row.Element.{Element}
 use Rattle.sm_cc.specs.Classes.{Setting}
-use Rattle.sm_cc.specs.Rows.{one_head, shapes_pass, Board}
+use Rattle.sm_cc.specs.Rows.{one_head, shapes_pass, Board, Row, Element}
 
 -- the place of a term in a list, the list's length where it isn't there
 abbrev pub place_of : List Tree → Tree → ℕ

@@ -1,21 +1,10 @@
 -- Private: steps that explain why two places are equal, and how they are taken from a log.
-use Rattle.std.specs.Prelude.{◌≡◌, ℕ, ◌+◌, ◌<◌, ◌≤◌, ◌⊎◌, Bool, true, slice_get, length}
-use Rattle.std.specs.Prelude.{Option, Some, List, [], ◌∷◌, ◌++◌}
+use Rattle.std.specs.Prelude.{◌≡◌, ℕ, ◌+◌, ◌<◌, ◌≤◌, ◌⊎◌, Bool, true, slice_get, length, Option, Some, List, [], ◌∷◌, ◌++◌}
 use Rattle.std.specs.Option.{option_map}
-use Rattle.sm_cc.specs.declared.log.Known.{Known}
-use Rattle.sm_cc.specs.declared.log.Known.TheVariants.{Equal, Unequal}
-use Rattle.sm_cc.specs.declared.log.Rule.{Rule}
-use Rattle.sm_cc.specs.declared.log.Rule.TheVariants.{Refl, Sym, Trans, Subst, Alike, Apart, Cong}
-use Rattle.sm_cc.specs.declared.log.Rule.TheVariants.{Hit, Miss}
-use Rattle.sm_cc.specs.declared.log.Why.{Why}
-use Rattle.sm_cc.specs.declared.log.Why.TheVariants.{Given, By}
-use Rattle.sm_cc.specs.declared.log.Entry.{Entry}
 use Rattle.sm_cc.specs.declared.log.Step.{Step}
-use Rattle.sm_cc.specs.declared.log.Equation.{Equation}
-use Rattle.sm_cc.specs.declared.closure.Closure.{Closure}
 use Rattle.sm_cc.specs.declared.explain.StepsBuilder.{StepsBuilder}
-use Rattle.sm_cc.specs.Log.{Placed, IsGivenAs, Derives, known_at}
-use Rattle.sm_cc.specs.Closures.{placed_of}
+use Rattle.sm_cc.specs.Log.{Placed, IsGivenAs, Derives, known_at, Known, Equal, Unequal, Rule, Refl, Sym, Trans, Subst, Alike, Apart, Cong, Hit, Miss, Why, Given, By, Entry}
+use Rattle.sm_cc.specs.Closures.{placed_of, Closure, Equation}
 
 -- a fact was given under a number
 abbrev pub IsGiven : Placed → ℕ → Known → Type 0

@@ -1,12 +1,11 @@
 -- Cited by public clauses: what is seen of classes of terms.
-use Rattle.std.specs.Prelude.{◌≡◌, ℕ, ◌<◌, true, false, IsTrue, if◌then◌else◌, List, [], ◌∷◌, ◌++◌}
-use Rattle.std.specs.Prelude.{length, map, slice_get, Some}
-use Rattle.sm_term.specs.declared.term.TermId.{TermId}
+use Rattle.std.specs.Prelude.{◌≡◌, ℕ, ◌<◌, true, false, IsTrue, if◌then◌else◌, List, [], ◌∷◌, ◌++◌, length, map, slice_get, Some}
 use Rattle.sm_term.specs.Terms.{Tree}
 use Rattle.sm_term.specs.Assertions.{Assertion, Eq, Ne}
 use Rattle.sm_term.specs.Sorted.{tree_sort}
 use Rattle.sm_term.specs.Tables.{TableValue, trees_in, sorts_in, tree_at}
-use Rattle.sm_cc.specs.declared.classes.GivenFact.{GivenFact}
+use Rattle.sm_term.specs.declared.term.TermId.{TermId}
+pub use Rattle.sm_cc.specs.declared.classes.GivenFact.{GivenFact}
 use Rattle.sm_cc.specs.Classes.{Setting}
 use Rattle.sm_theory.specs.TermsOfFormulas.{is_among}
 

@@ -1,6 +1,5 @@
 // What terms behind those of a base are equal to, as far as one look at each tells.
-ghost use Rattle.std.specs.Prelude.{◌≡◌, ℕ, ◌+◌, ◌<◌, ℤ, true, IsTrue, Option, List};
-ghost use Rattle.std.specs.Prelude.{length, map, IfOk, OnOk};
+ghost use Rattle.std.specs.Prelude.{◌≡◌, ℕ, ◌+◌, ◌<◌, ℤ, true, IsTrue, Option, List, length, map, IfOk, OnOk};
 ghost use Rattle.sm_term.specs.Tables.{trees_in, AreBefore};
 ghost use Rattle.sm_term.specs.TableLaws.{AddsTerms};
 ghost use Rattle.sm_theory.specs.Standing.{AreLinearForms};

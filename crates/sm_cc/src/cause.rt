@@ -2,8 +2,7 @@
 ghost use Rattle.std.specs.Prelude.{◌≡◌, ◌<◌, false, length, MatchOption};
 ghost use Rattle.sm_cc.specs.Rows.{row_brings};
 ghost use Rattle.sm_cc.specs.Closures.{board_of, placed_of, are_together};
-ghost use Rattle.sm_cc.specs.Causes.{IsCause, IsCauseOf, IsElementCause, element_is};
-ghost use Rattle.sm_cc.specs.Causes.{element_brings, rows_bring, rows_pair};
+ghost use Rattle.sm_cc.specs.Causes.{IsCause, IsCauseOf, IsElementCause, element_is, element_brings, rows_bring, rows_pair};
 ghost use Rattle.sm_cc.specs.Settled.{pair_brings};
 
 use crate::closure::Closure;

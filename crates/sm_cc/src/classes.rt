@@ -1,12 +1,9 @@
 // Classes of equal terms, by what is given of them.
-ghost use Rattle.std.specs.Prelude.{◌≡◌, ◌<◌, IfOk, OnOk, OnErr};
-ghost use Rattle.std.specs.Prelude.{[], ◌∷◌, ◌++◌, length};
+ghost use Rattle.std.specs.Prelude.{◌≡◌, ◌<◌, IfOk, OnOk, OnErr, [], ◌∷◌, ◌++◌, length};
 ghost use Rattle.sm_term.specs.Tables.{trees_in, AreBefore};
 ghost use Rattle.sm_theory.specs.Standing.{AreLinearForms};
 ghost use Rattle.sm_cc.specs.BaseClasses.{AreBaseClasses, IsLedBy};
-ghost use Rattle.sm_cc.specs.Views.{ClassesValue, IsTermOf};
-ghost use Rattle.sm_cc.specs.Views.{HaveOneSort, AreOfTwoTerms, with_given, no_terms};
-ghost use Rattle.sm_cc.specs.Views.{equation_under, contrary_under};
+ghost use Rattle.sm_cc.specs.Views.{ClassesValue, IsTermOf, HaveOneSort, AreOfTwoTerms, with_given, no_terms, equation_under, contrary_under};
 ghost use Rattle.sm_cc.specs.Assumed.{with_fact};
 
 use crate::facts::{places_of, places_over};

@@ -1,8 +1,7 @@
 // The classes of places with the log of how they were found. Here entries are added to the log.
 ghost use Rattle.std.specs.Prelude.{◌≡◌, ◌<◌, [], IfOk, OnOk, length};
 ghost use Rattle.sm_cc.specs.Log.{Follows};
-ghost use Rattle.sm_cc.specs.Closures.{IsSound, IsNoted, IsContrary, placed_of, Noted};
-ghost use Rattle.sm_cc.specs.Closures.{Adds, AddsEquation, AddsContrary};
+ghost use Rattle.sm_cc.specs.Closures.{IsSound, IsNoted, IsContrary, placed_of, Noted, Adds, AddsEquation, AddsContrary};
 ghost use Rattle.sm_cc.specs.Exact.{IsExact, nothing_given};
 
 use crate::log::{Contrary, Entry, Equation, Given, Known, Rule, Why};

@@ -3,9 +3,7 @@ ghost use Rattle.std.specs.Prelude.{◌≡◌, ◌<◌, IfOk, OnOk, IsTrue, leng
 ghost use Rattle.sm_cc.specs.declared.log.Known.TheVariants.{Equal};
 ghost use Rattle.sm_cc.specs.Rows.{equal_places};
 ghost use Rattle.sm_cc.specs.Log.{AreIn, HasElement};
-ghost use Rattle.sm_cc.specs.Closures.{IsSound, IsNoted, IsContrary, placed_of, are_together};
-ghost use Rattle.sm_cc.specs.Closures.{Adds, AddsEquation, AddsContrary, AddsPremises};
-ghost use Rattle.sm_cc.specs.Closures.{HaveArguments, arguments_at, argument_at};
+ghost use Rattle.sm_cc.specs.Closures.{IsSound, IsNoted, IsContrary, placed_of, are_together, Adds, AddsEquation, AddsContrary, AddsPremises, HaveArguments, arguments_at, argument_at};
 ghost use Rattle.sm_cc.specs.Causes.{IsDifference, IsWitness, IsCauseOf};
 
 use crate::cause::Cause;

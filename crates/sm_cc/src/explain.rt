@@ -1,13 +1,8 @@
 // Steps that explain why two places are equal, taken from the log.
-ghost use Rattle.std.specs.Prelude.{◌≡◌, ◌+◌, ◌^◌, ◌<◌, [], ◌∷◌, IfOk, OnOk, IsTrue};
-ghost use Rattle.std.specs.Prelude.{length, slice_get};
+ghost use Rattle.std.specs.Prelude.{◌≡◌, ◌+◌, ◌^◌, ◌<◌, [], ◌∷◌, IfOk, OnOk, IsTrue, length, slice_get};
 ghost use Rattle.sm_cc.specs.Closures.{IsSound, placed_of, are_together};
 ghost use Rattle.sm_cc.specs.Merges.{IsLabel};
-ghost use Rattle.sm_cc.specs.Steps.{ExplainPlaces, AreBelow, AreClosedFrom, AreMarked};
-ghost use Rattle.sm_cc.specs.Steps.{AreNumbers, IsNumber, IsRenumbered, AddsStep};
-ghost use Rattle.sm_cc.specs.Steps.{NumbersEntry, IsDraft};
-ghost use Rattle.sm_cc.specs.Steps.{StepsFollow, RootHasNumber};
-ghost use Rattle.sm_cc.specs.Steps.{numbers_of, numbers_in};
+ghost use Rattle.sm_cc.specs.Steps.{ExplainPlaces, AreBelow, AreClosedFrom, AreMarked, AreNumbers, IsNumber, IsRenumbered, AddsStep, NumbersEntry, IsDraft, StepsFollow, RootHasNumber, numbers_of, numbers_in};
 
 use crate::closure::Closure;
 use crate::log::{Entry, Known, Rule, Step, Why};

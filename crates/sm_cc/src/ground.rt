@@ -7,8 +7,7 @@ ghost use Rattle.sm_cc.specs.Assumed.{AreClasses, placed_equations, placed_contr
 ghost use Rattle.sm_cc.specs.Closures.{placed_of, are_together};
 ghost use Rattle.sm_cc.specs.Exact.{IsExact, placed_with};
 ghost use Rattle.sm_cc.specs.Firsts.{AreFirsts, met_at, alike_at, headed_at};
-ghost use Rattle.sm_cc.specs.BaseClasses.{AreBaseClasses, AreInside, AreNumberedBy};
-ghost use Rattle.sm_cc.specs.BaseClasses.{AreBelow, IsElementBelow, IsRowBelow};
+ghost use Rattle.sm_cc.specs.BaseClasses.{AreBaseClasses, AreInside, AreNumberedBy, AreBelow, IsElementBelow, IsRowBelow};
 ghost use Rattle.sm_cc.specs.Positions.{ArePositions};
 ghost use Rattle.sm_cc.specs.RowOf.{IsFurther, AreRowsFrom};
 ghost use Rattle.sm_cc.specs.Views.{ClassesValue, AreOfTwoTerms, trees_of};

@@ -4,8 +4,7 @@ ghost use Rattle.sm_cc.specs.Log.{AllFollow};
 ghost use Rattle.sm_cc.specs.Closures.{IsSound, AllRooted, placed_of};
 ghost use Rattle.sm_cc.specs.Exact.{placed_with};
 ghost use Rattle.sm_cc.specs.BaseClasses.{AreAllGiven};
-ghost use Rattle.sm_cc.specs.Growing.{AreGrown, IsCopy, AreKept, IsSameRule, IsSameWhy};
-ghost use Rattle.sm_cc.specs.Growing.{IsEntryCopy, AreEntriesKept};
+ghost use Rattle.sm_cc.specs.Growing.{AreGrown, IsCopy, AreKept, IsSameRule, IsSameWhy, IsEntryCopy, AreEntriesKept};
 
 use crate::closure::Closure;
 use crate::log::{Entry, Equation, Given, Known, Rule, Why};

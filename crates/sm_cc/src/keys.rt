@@ -1,9 +1,6 @@
 // Keys by which places are found that are equal by their forms or by their arguments.
 ghost use Rattle.std.specs.Prelude.{◌≡◌, ◌<◌, ℕ, Some, IfOk, OnOk, length, slice_get};
-ghost use Rattle.sm_cc.specs.Firsts.{Key as Told};
-ghost use Rattle.sm_cc.specs.Firsts.{met_at, first_met, key_told, alike_at, headed_at};
-ghost use Rattle.sm_cc.specs.Firsts.{shape_key, row_key};
-ghost use Rattle.sm_cc.specs.Firsts.{label_at, labels_of, with_labels};
+ghost use Rattle.sm_cc.specs.Firsts.{Key as Told, met_at, first_met, key_told, alike_at, headed_at, shape_key, row_key, label_at, labels_of, with_labels};
 
 use crate::closure::Closure;
 use crate::log::Equation;

@@ -4,8 +4,7 @@ ghost use Rattle.sm_term.specs.Terms.{Tree};
 ghost use Rattle.sm_term.specs.Tables.{tree_at};
 ghost use Rattle.sm_theory.specs.Views.{line_in};
 ghost use Rattle.sm_cc.specs.Views.{trees_of};
-ghost use Rattle.sm_cc.specs.Explaining.{left_of, right_of, congruence_line, step_line};
-ghost use Rattle.sm_cc.specs.Explaining.{AreStepsIn};
+ghost use Rattle.sm_cc.specs.Explaining.{left_of, right_of, congruence_line, step_line, AreStepsIn};
 ghost use Rattle.sm_cc.specs.Explained.{IsListed, IsLineOf, AreLinesOf};
 
 use crate::log::{Known, Rule, Step};

@@ -1,8 +1,7 @@
 // Marks at the entries that an explanation needs.
 ghost use Rattle.std.specs.Prelude.{◌≡◌, ◌+◌, ◌<◌, [], ◌∷◌, ◌++◌, IfOk, length, take};
 ghost use Rattle.sm_cc.specs.Closures.{IsSound};
-ghost use Rattle.sm_cc.specs.Steps.{Marks, MarksMore, AreMarked, AreBelow, AreClosedFrom};
-ghost use Rattle.sm_cc.specs.Steps.{numbers_of, numbers_in};
+ghost use Rattle.sm_cc.specs.Steps.{Marks, MarksMore, AreMarked, AreBelow, AreClosedFrom, numbers_of, numbers_in};
 
 use crate::closure::Closure;
 use crate::log::{Rule, Why};

@@ -2,8 +2,7 @@
 ghost use Rattle.std.specs.Prelude.{◌≡◌, ◌<◌, OnOk, IfOk, IsTrue, length, slice_set};
 ghost use Rattle.sm_cc.specs.Log.{AreIn};
 ghost use Rattle.sm_cc.specs.Closures.{IsSound, IsNoted, Grows, are_together};
-ghost use Rattle.sm_cc.specs.Merges.{AddsSome, Bridges, Orients, Crosses, MovesRoot, MovesRoots};
-ghost use Rattle.sm_cc.specs.Merges.{IsCoarser};
+ghost use Rattle.sm_cc.specs.Merges.{AddsSome, Bridges, Orients, Crosses, MovesRoot, MovesRoots, IsCoarser};
 
 use crate::closure::{Closure, chained, turned};
 use crate::log::Equation;

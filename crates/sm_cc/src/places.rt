@@ -1,6 +1,5 @@
 // Classes of equal places, by what is given of them.
-ghost use Rattle.std.specs.Prelude.{◌≡◌, ◌↔◌, ◌<◌, ◌^◌, List, [], IsTrue, IfOk, OnOk, OnErr};
-ghost use Rattle.std.specs.Prelude.{length, map};
+ghost use Rattle.std.specs.Prelude.{◌≡◌, ◌↔◌, ◌<◌, ◌^◌, List, [], IsTrue, IfOk, OnOk, OnErr, length, map};
 ghost use Rattle.sm_cc.specs.Rows.{SamePlaces, ApartPlaces};
 ghost use Rattle.sm_cc.specs.Log.{Placed};
 ghost use Rattle.sm_cc.specs.Steps.{ExplainPlaces};

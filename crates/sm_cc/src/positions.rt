@@ -1,6 +1,5 @@
 // Where terms stand in a list, by their numbers.
-ghost use Rattle.std.specs.Prelude.{◌≡◌, ◌<◌, ◌≤◌, ℕ, List, [], length, map, take, get_or};
-ghost use Rattle.std.specs.Prelude.{None, nat_eq, IfOk, OnOk};
+ghost use Rattle.std.specs.Prelude.{◌≡◌, ◌<◌, ◌≤◌, ℕ, List, [], length, map, take, get_or, None, nat_eq, IfOk, OnOk};
 ghost use Rattle.std.specs.HashMap.{get};
 ghost use Rattle.sm_term.specs.Terms.{Tree};
 ghost use Rattle.sm_term.specs.Tables.{trees_in, tree_at, AreBefore};
@@ -8,8 +7,7 @@ ghost use Rattle.sm_euf.specs.Arguments.{argument_numbers};
 ghost use Rattle.sm_pairs.specs.Longer.{IsLonger};
 ghost use Rattle.sm_cc.specs.Standing.{element_of};
 ghost use Rattle.sm_cc.specs.Views.{trees_of};
-ghost use Rattle.sm_cc.specs.Positions.{place_at, read_at, ArePositions};
-ghost use Rattle.sm_cc.specs.Positions.{first_or, same_pair, is_read, written_element, AreNoted};
+ghost use Rattle.sm_cc.specs.Positions.{place_at, read_at, ArePositions, first_or, same_pair, is_read, written_element, AreNoted};
 
 use crate::row::Element;
 use sm_term::{Term, TermId, TermTable};

@@ -1,6 +1,5 @@
 // Whether terms that are added join no classes.
-ghost use Rattle.std.specs.Prelude.{◌≡◌, ℕ, ◌<◌, true, IsTrue, Option};
-ghost use Rattle.std.specs.Prelude.{slice_get};
+ghost use Rattle.std.specs.Prelude.{◌≡◌, ℕ, ◌<◌, true, IsTrue, Option, slice_get};
 ghost use Rattle.sm_cc.specs.Closures.{are_together};
 ghost use Rattle.sm_cc.specs.Scanned.{has_labels, are_parted, IsQuiet, IsQuietBehind, AreQuiet};
 

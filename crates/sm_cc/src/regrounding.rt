@@ -1,15 +1,11 @@
 // The rules are applied to classes that begin with others, where these bring nothing more among
 // themselves.
-ghost use Rattle.std.specs.Prelude.{◌≡◌, ◌<◌, ℕ, ℤ, Bool, IsTrue, Option, Some, List};
-ghost use Rattle.std.specs.Prelude.{OnOk, IfOk, length, slice_get};
+ghost use Rattle.std.specs.Prelude.{◌≡◌, ◌<◌, ℕ, ℤ, Bool, IsTrue, Option, Some, List, OnOk, IfOk, length, slice_get};
 ghost use Rattle.sm_cc.specs.Rows.{ArePlacesClosed};
 ghost use Rattle.sm_cc.specs.Closures.{IsSound, Grows, board_of, are_together};
 ghost use Rattle.sm_cc.specs.Exact.{IsExact};
 ghost use Rattle.sm_cc.specs.Settled.{AreSettled, Tries};
-ghost use Rattle.sm_cc.specs.Firsts.{Key as Told};
-ghost use Rattle.sm_cc.specs.Firsts.{AreFirsts, met_at, first_met, key_told, alike_at, headed_at};
-ghost use Rattle.sm_cc.specs.Firsts.{label_at, KeysBring, TriesFirst};
-ghost use Rattle.sm_cc.specs.Firsts.{AreAlikeSettled, AreHeadedSettled};
+ghost use Rattle.sm_cc.specs.Firsts.{Key as Told, AreFirsts, met_at, first_met, key_told, alike_at, headed_at, label_at, KeysBring, TriesFirst, AreAlikeSettled, AreHeadedSettled};
 ghost use Rattle.sm_cc.specs.BaseClasses.{AreInside, AreKeyed};
 ghost use Rattle.sm_cc.specs.Growing.{AreKept};
 ghost use Rattle.sm_cc.specs.Regrounding.{over_at, KeysMeet, MeetsFirst, AreLabelsKept, IsOver};

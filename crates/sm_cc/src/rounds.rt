@@ -2,12 +2,8 @@
 ghost use Rattle.std.specs.Prelude.{◌≡◌, ◌<◌, ℕ, ℤ, Option, List, OnOk, length};
 ghost use Rattle.sm_cc.specs.Rows.{ArePlacesClosed};
 ghost use Rattle.sm_cc.specs.Closures.{IsSound, Grows, board_of, placed_of, are_together};
-ghost use Rattle.sm_cc.specs.Settled.{IsSettledAt, IsSettledThere, AreGivenSettled, IsReadSettled};
-ghost use Rattle.sm_cc.specs.Settled.{IsElementSettled, AreElementsSettled, AreSinglesSettled};
-ghost use Rattle.sm_cc.specs.Settled.{ArePairSettled, AllPairsSettled, AreSettled};
-ghost use Rattle.sm_cc.specs.Settled.{Tries};
-ghost use Rattle.sm_cc.specs.Firsts.{met_at, key_told, KeysBring, TriesFirst, IsPairThere};
-ghost use Rattle.sm_cc.specs.Firsts.{AreAlikeSettled, AreHeadedSettled};
+ghost use Rattle.sm_cc.specs.Settled.{IsSettledAt, IsSettledThere, AreGivenSettled, IsReadSettled, IsElementSettled, AreElementsSettled, AreSinglesSettled, ArePairSettled, AllPairsSettled, AreSettled, Tries};
+ghost use Rattle.sm_cc.specs.Firsts.{met_at, key_told, KeysBring, TriesFirst, IsPairThere, AreAlikeSettled, AreHeadedSettled};
 ghost use Rattle.sm_cc.specs.Causes.{IsCauseOf};
 
 use crate::cause::{Cause, cause_of, pair_cause};

@@ -1,14 +1,12 @@
 // What the classes of equal terms tell.
-ghost use Rattle.std.specs.Prelude.{◌≡◌, ◌↔◌, ◌<◌, ◌^◌, IsTrue, IfOk};
-ghost use Rattle.std.specs.Prelude.{length, map};
+ghost use Rattle.std.specs.Prelude.{◌≡◌, ◌↔◌, ◌<◌, ◌^◌, IsTrue, IfOk, length, map};
 ghost use Rattle.sm_term.specs.Tables.{trees_in, sorts_in, tree_at, AreBefore};
 ghost use Rattle.sm_theory.specs.Views.{line_in};
 ghost use Rattle.sm_cc.specs.Classes.{Same, Apart};
 ghost use Rattle.sm_cc.specs.Labels.{AreTermLabels};
 ghost use Rattle.sm_cc.specs.LabelsAt.{label_at};
 ghost use Rattle.sm_cc.specs.Positions.{place_at};
-ghost use Rattle.sm_cc.specs.Views.{setting_of};
-ghost use Rattle.sm_cc.specs.Views.{equation_of, numbers_of};
+ghost use Rattle.sm_cc.specs.Views.{setting_of, equation_of, numbers_of};
 ghost use Rattle.sm_cc.specs.Explained.{Explain, AreLinesOf};
 
 use crate::classes::Classes;

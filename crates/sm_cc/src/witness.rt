@@ -2,10 +2,7 @@
 ghost use Rattle.std.specs.Prelude.{◌≡◌, ◌<◌, ◌&&◌, false, length, MatchOption};
 ghost use Rattle.sm_cc.specs.Rows.{places_differ, places_apart};
 ghost use Rattle.sm_cc.specs.Closures.{board_of, placed_of, are_together};
-ghost use Rattle.sm_cc.specs.Causes.{IsDifference, IsWitness, IsHalfWitness};
-ghost use Rattle.sm_cc.specs.Causes.{differ_otherwise, differ_in_form, any_differs};
-ghost use Rattle.sm_cc.specs.Causes.{is_between, are_given_apart, has_constant, is_constant_of};
-ghost use Rattle.sm_cc.specs.Causes.{have_constant, may_be_apart};
+ghost use Rattle.sm_cc.specs.Causes.{IsDifference, IsWitness, IsHalfWitness, differ_otherwise, differ_in_form, any_differs, is_between, are_given_apart, has_constant, is_constant_of, have_constant, may_be_apart};
 
 use crate::closure::Closure;
 use crate::compare::{given, shifted, together};

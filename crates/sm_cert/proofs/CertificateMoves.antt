@@ -1,47 +1,20 @@
 -- A certificate closes each other branch on which the facts of its own stand.
-use Rattle.std.proofs.Common.{◌≡◌, ◌⊎◌, ◌<◌, ℕ, zero, suc, ◌+◌, ◌-◌, Bool, true, false, nat_lt, if◌then◌else◌, slice_get, Option, Some}
-use Rattle.std.proofs.Common.{None, List, [], ◌∷◌, ◌++◌, length, inl, inr, refl, ap, sym, ◌∙◌, subst, arith}
+use Rattle.std.proofs.Common.{◌≡◌, ◌⊎◌, ◌<◌, ℕ, suc, ◌+◌, ◌-◌, Bool, true, false, nat_lt, if◌then◌else◌, slice_get, Option, Some, None, List, [], ◌∷◌, ◌++◌, length, inl, inr, refl, ap, sym, ◌∙◌, subst, arith}
 use Rattle.std.proofs.lemmas.Option.{slice_get_within}
 use Rattle.std.proofs.lemmas.List.{length-append}
 use Rattle.std.proofs.lemmas.Bool.{ltb-true, lt-ltb}
 use Rattle.sm_syntax.specs.text.Sorts.{Sorts}
 use Rattle.sm_theory.specs.Facts.{BranchFact}
-use Rattle.sm_theory.specs.Lines.{CertificateLine, Both, Either, Cases, Order, Refl, Sym, Trans, Subst, Cong, Same, Apart, Hit, Miss, Lin, Elim}
-use Rattle.sm_theory.specs.Lines.{Tight, Exact, Close, Clash}
+use Rattle.sm_theory.specs.Lines.{CertificateLine, Both, Either, Cases, Order, Refl, Sym, Trans, Subst, Cong, Same, Apart, Hit, Miss, Lin, Elim, Tight, Exact, Close, Clash}
 use Rattle.sm_theory.specs.Equality.{or_other}
 use Rattle.sm_theory.specs.Ways.{Ways, ways_with}
 use Rattle.sm_theory.specs.Named.{reads_all}
 use Rattle.sm_theory.specs.Moved.{moved_line, StandAmong, ReadsAlike}
 use Rattle.sm_theory.proofs.FactsLemmas.{among_alike}
 use Rattle.sm_theory.proofs.WaysLemmas.{ways_with_move}
-use Rattle.sm_cert.specs.Certificates.{Certificate, Next, Closed, Split, lines_in, splits_above, in_one_way, in_no_way, in_two_ways}
-use Rattle.sm_cert.specs.Certificates.{Theories, first_bad, TooManySplits, bad_line, refused}
+use Rattle.sm_cert.specs.Certificates.{Certificate, Next, Closed, Split, lines_in, splits_above, in_one_way, in_no_way, in_two_ways, Theories, first_bad, TooManySplits, bad_line, refused}
 use Rattle.sm_cert.specs.MovedTrees.{moved_certificate, NamesWhatItReads, moved_past}
-
--- an element of the first of two lists
-in_first : {X : Type 0} (xs ys : List X) (n : ℕ) (x : X) → slice_get xs n ≡ Some x → slice_get (xs ++ ys) n ≡ Some x
-in_first [] ys n x e = absurd cc
-in_first (y ∷ xs) ys zero x e = e
-in_first (y ∷ xs) ys (suc n) x e = in_first xs ys n x e
-
--- an element of the second
-in_second : {X : Type 0} (xs ys : List X) (j : ℕ) → slice_get (xs ++ ys) (length xs + j) ≡ slice_get ys j
-in_second [] ys j = ap (λ (i : ℕ). slice_get ys i) (let none : 0 + j ≡ j = omega arith in none)
-in_second (x ∷ xs) ys j =
-    ap (λ (i : ℕ). slice_get ((x ∷ xs) ++ ys) i) (let one : suc (length xs) + j ≡ suc (length xs + j) = omega arith in one)
-    ∙ in_second xs ys j
-
--- an element of either
-in_either : {X : Type 0} (xs ys : List X) (n : ℕ) (x : X) → slice_get (xs ++ ys) n ≡ Some x →
-    (slice_get xs n ≡ Some x) ⊎ ((j : ℕ) × (n ≡ length xs + j) × (slice_get ys j ≡ Some x))
-in_either [] ys n x e = inr (n, (let none : n ≡ 0 + n = omega arith in none), e)
-in_either (y ∷ xs) ys zero x e = inl e
-in_either (y ∷ xs) ys (suc n) x e = of (in_either xs ys n x e)
-  where
-    of : (slice_get xs n ≡ Some x) ⊎ ((j : ℕ) × (n ≡ length xs + j) × (slice_get ys j ≡ Some x)) →
-        (slice_get xs n ≡ Some x) ⊎ ((j : ℕ) × (suc n ≡ suc (length xs) + j) × (slice_get ys j ≡ Some x))
-    of (inl h) = inl h
-    of (inr h) = inr (h.0, (let same = h.1 in omega arith), h.2)
+use Rattle.sm_lemmas.proofs.Lists.{get_in_first, get_in_either, get_in_second}
 
 -- numbers move so that facts stand on the other branch, and those after them after its facts
 pub record MovesPast (move : ℕ → ℕ) (facts others : List BranchFact) : Type 0 where
@@ -52,7 +25,7 @@ pub record MovesPast (move : ℕ → ℕ) (facts others : List BranchFact) : Typ
 later_facts : (move : ℕ → ℕ) (facts others way : List BranchFact) → MovesPast move facts others →
     MovesPast move (facts ++ way) (others ++ way)
 later_facts move facts others way moves = record {
-  stand = λ (n : ℕ) (k : BranchFact) (e : slice_get (facts ++ way) n ≡ Some k). of n k (in_either facts way n k e);
+  stand = λ (n : ℕ) (k : BranchFact) (e : slice_get (facts ++ way) n ≡ Some k). of n k (get_in_either facts way n k e);
   past = λ (j : ℕ).
       let all : length (facts ++ way) + j ≡ length facts + (length way + j) = let l = length-append facts way in omega arith in
       let there : length others + (length way + j) ≡ length (others ++ way) + j = let l = length-append others way in omega arith in
@@ -61,8 +34,8 @@ later_facts move facts others way moves = record {
   where
     of : (n : ℕ) (k : BranchFact) → (slice_get facts n ≡ Some k) ⊎ ((j : ℕ) × (n ≡ length facts + j) × (slice_get way j ≡ Some k)) →
         slice_get (others ++ way) (move n) ≡ Some k
-    of n k (inl h) = in_first others way (move n) k (moves.stand n k h)
-    of n k (inr h) = ap (λ (i : ℕ). slice_get (others ++ way) i) (ap move h.1 ∙ moves.past h.0) ∙ in_second others way h.0 ∙ h.2
+    of n k (inl h) = get_in_first others way (move n) k (moves.stand n k h)
+    of n k (inr h) = ap (λ (i : ℕ). slice_get (others ++ way) i) (ap move h.1 ∙ moves.past h.0) ∙ get_in_second others way h.0 ∙ h.2
 
 -- the facts of the branch, and those after them
 pub moves_past : (move : ℕ → ℕ) (facts others : List BranchFact) → StandAmong move facts others →
@@ -158,12 +131,12 @@ AddAnywhere added =
     added facts line ≡ Some k → added others (moved_line move line) ≡ Some k
 
 -- no line of two parts is bad
-both_none : (o p : Option ℕ) → o ≡ None → p ≡ None → or_other o p ≡ None
+pub both_none : (o p : Option ℕ) → o ≡ None → p ≡ None → or_other o p ≡ None
 both_none None p e f = f
 both_none (Some n) p e f = absurd cc
 
 -- the parts have no bad line
-parts_none : (o p : Option ℕ) → or_other o p ≡ None → (o ≡ None) × (p ≡ None)
+pub parts_none : (o p : Option ℕ) → or_other o p ≡ None → (o ≡ None) × (p ≡ None)
 parts_none None p e = (refl, e)
 parts_none (Some n) p e = absurd cc
 

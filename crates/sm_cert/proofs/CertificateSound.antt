@@ -10,9 +10,9 @@ use Rattle.sm_theory.specs.SortedFacts.{IsFactSorted, AreFactsSorted, IsLineSort
 use Rattle.sm_theory.specs.Laws.{NoWayHolds, EachWay}
 use Rattle.sm_theory.proofs.WaysSound.{some_way_with_holds}
 use Rattle.sm_theory.proofs.WaysLemmas.{ways_with_sorted}
-use Rattle.sm_cert.specs.Certificates.{Certificate, Next, Closed, Split, lines_in, splits_above, in_one_way, in_no_way, in_two_ways}
-use Rattle.sm_cert.specs.Certificates.{Theories, first_bad, TooManySplits, bad_line, refused}
+use Rattle.sm_cert.specs.Certificates.{Certificate, Next, Closed, Split, lines_in, splits_above, in_one_way, in_no_way, in_two_ways, Theories, first_bad, TooManySplits, bad_line, refused}
 use Rattle.sm_cert.specs.NamedTerms.{IsCertificateSorted}
+use Rattle.sm_cert.proofs.CertificateMoves.{parts_none}
 
 -- facts of which both parts hold
 pub facts_append : (m : Structure) (facts more : List BranchFact) → AreFacts m facts → AreFacts m more → AreFacts m (facts ++ more)
@@ -33,11 +33,6 @@ pub record AreSound (sorts : Sorts) (added : Theories) : Type 0 where
   pub sorted :
       (facts : List BranchFact) (line : CertificateLine) (k : BranchFact) → AreFactsSorted sorts facts → IsLineSorted sorts line →
       added facts line ≡ Some k → IsFactSorted sorts k
-
--- a first bad line of two parts: none of either
-neither : (o p : Option ℕ) → or_other o p ≡ None → (o ≡ None) × (p ≡ None)
-neither None p e = (refl, e)
-neither (Some n) p e = absurd cc
 
 -- one way that fails
 one_fails : (sorts : Sorts) (m : Structure) (w : Ways) (n : ℕ) (next : List BranchFact → Option ℕ) → in_one_way w n next ≡ None →
@@ -105,7 +100,7 @@ refutes sorts added facts n (Split line c d) sound good terms e m held =
     ways_with_sorted sorts facts (added facts line) line to good terms.0
     (λ (k : BranchFact) (g : added facts line ≡ Some k). sound.sorted facts line k good terms.0 g) h)
     (λ (way other : List BranchFact) (later : or_other (first_bad added sorts (facts ++ way) (suc n) c) (first_bad added sorts (facts ++ other) (suc n + lines_in c) d) ≡ None) (fine : AreFactsSorted sorts way) (fine_too : AreFactsSorted sorts other).
-    let parts = neither (first_bad added sorts (facts ++ way) (suc n) c) (first_bad added sorts (facts ++ other) (suc n + lines_in c) d)
+    let parts = parts_none (first_bad added sorts (facts ++ way) (suc n) c) (first_bad added sorts (facts ++ other) (suc n + lines_in c) d)
     later in (
       λ (h : AreFacts m way). refutes sorts added (facts ++ way) (suc n) c sound (sorted_append sorts facts way good fine) terms.1 parts.0 m
           (facts_append m facts way held h),

@@ -5,3 +5,4 @@ pub mod WaysLemmas
 pub mod CheckLemmas
 pub mod TreeLemmas
 pub mod NamedLemmas
+pub mod WaysTaken

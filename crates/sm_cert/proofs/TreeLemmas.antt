@@ -1,30 +1,28 @@
 -- Where the lines of a tree have led, and how its end goes on from there.
-use Rattle.std.proofs.Common.{◌≡◌, ◌<◌, ◌+◌, ℕ, suc, nat_lt, if◌then◌else◌, Bool, true, false, Option, Some, None, List, [], ◌∷◌, ◌++◌}
-use Rattle.std.proofs.Common.{length, Result, Ok, Err, IfErr, IsErrAnd, refl, ap, sym, ◌∙◌, subst, arith}
+use Rattle.std.proofs.Common.{◌≡◌, ◌<◌, ◌+◌, ℕ, suc, nat_lt, if◌then◌else◌, Bool, true, false, Option, Some, None, List, [], ◌∷◌, ◌++◌, length, Result, Ok, Err, IfErr, IsErrAnd, refl, ap, sym, ◌∙◌, subst, arith}
 use Rattle.sm_syntax.specs.text.Sorts.{Sorts}
 use Rattle.sm_term.specs.Terms.{Tree}
-use Rattle.sm_theory.specs.declared.fact.Fact.{Fact}
-use Rattle.sm_theory.specs.declared.line.CertLine.{CertLine}
 use Rattle.sm_theory.specs.Facts.{BranchFact}
 use Rattle.sm_theory.specs.Equality.{or_other}
 use Rattle.sm_theory.specs.SortedFacts.{AreFactsSorted, IsLineSorted}
 use Rattle.sm_theory.specs.Views.{line_in, IsLineWithin, AllStand}
+use Rattle.sm_theory.specs.declared.line.CertLine.{CertLine}
+use Rattle.sm_theory.specs.declared.fact.Fact.{Fact}
 use Rattle.sm_theory.specs.Ways.{Ways, ways_with}
 use Rattle.sm_theory.proofs.WaysLemmas.{ways_with_sorted}
 use Rattle.std.proofs.lemmas.List.{length-append}
 use Rattle.std.specs.Prelude.{Box}
 use Rattle.std.specs.declared.alloc.Global.{Global}
-use Rattle.sm_cert.specs.declared.tree.CertTree.{CertTree}
 use Rattle.sm_cert.specs.declared.tree.CertEnd.TheVariants as ends
 use Rattle.sm_cert.specs.declared.error.CertFault.{CertFault}
 use Rattle.sm_cert.specs.declared.error.CertFault.TheVariants as fault
-use Rattle.sm_cert.specs.Certificates.{Certificate, Closed, Split, lines_in, in_no_way, in_two_ways, Theories, first_bad, splits_above}
-use Rattle.sm_cert.specs.Certificates.{TooManySplits, bad_line, refused}
-use Rattle.sm_cert.specs.Views.{lines_before, lines_of, AreLinesWithin, FaultTells}
+use Rattle.sm_cert.specs.Certificates.{Certificate, Closed, Split, lines_in, in_no_way, in_two_ways, Theories, first_bad, splits_above, TooManySplits, bad_line, refused}
+use Rattle.sm_cert.specs.Views.{lines_before, lines_of, AreLinesWithin, FaultTells, CertTree}
 use Rattle.sm_cert.specs.Ways.{is_closed, SplitsInto}
 use Rattle.sm_cert.specs.Check.{line_number, Arrives, Passes}
 use Rattle.sm_cert.proofs.CertificateSound.{AreSound, sorted_append}
 use Rattle.sm_cert.proofs.CheckLemmas.{counted_more, within_parts, lines_split, lines_are, lines_of_end}
+use Rattle.sm_cert.proofs.CertificateMoves.{both_none}
 
 -- lines and those of a certificate under them
 pub lines_counted : (trees : List Tree) (ls : List CertLine) (c : Certificate) → lines_in (lines_before trees ls c) ≡ length ls + lines_in c
@@ -161,11 +159,6 @@ pub second_tells : (e : CertFault) (o p : Option ℕ) → o ≡ None → FaultTe
 second_tells e None p none h = h
 second_tells e (Some n) p none h = absurd cc
 
--- both pass
-pub both_pass : (o p : Option ℕ) → o ≡ None → p ≡ None → or_other o p ≡ None
-both_pass None p e f = f
-both_pass (Some n) p e f = absurd cc
-
 -- a fault that is handed on
 pub err_is : {T E : Type 0} (P : E → Type 0) (r : Result T E) (x : E) → IsErrAnd r (λ (e : E). e ≡ x) → P x → IfErr r P
 err_is P (Ok t) x h p = tt
@@ -194,7 +187,7 @@ pub split_passes : (theories : Theories) (sorts : Sorts) (trees : List Tree) (fa
 split_passes theories sorts trees facts m ls path f g l c d next last h one two =
     let count : (suc (m + length ls) + lines_in c) + lines_in d ≡ m + lines_in (lines_before trees ls (Split (line_in trees l) c d)) =
     let p = lines_counted trees ls (Split (line_in trees l) c d) in omega arith in (
-      h.bad ∙ both_pass (first_bad theories sorts (h.later ++ h.way) (suc (m + length ls)) c)
+      h.bad ∙ both_none (first_bad theories sorts (h.later ++ h.way) (suc (m + length ls)) c)
           (first_bad theories sorts (h.later ++ h.other) (suc (m + length ls) + lines_in c) d) one.0 two.0,
       two.1 ∙ ap line_number count,
     )

@@ -1,33 +1,30 @@
 -- What is found on a branch of the program, by the ways in which the branch that it stands for goes on.
-use Rattle.std.proofs.Common.{◌≡◌, ◌<◌, ◌+◌, ℕ, Bool, true, false, slice_get, get_or, Option, Some, None, List, [], ◌∷◌, ◌++◌, length, drop}
-use Rattle.std.proofs.Common.{take, refl, ap, sym, ◌∙◌, subst}
-use Rattle.std.specs.Prelude.{pos}
-use Rattle.std.proofs.lemmas.Option.{slice_get_within, get_or_from_slice_get}
+use Rattle.std.proofs.Common.{◌≡◌, ◌<◌, ◌+◌, ℕ, Bool, true, false, slice_get, get_or, Option, Some, None, List, [], ◌∷◌, ◌++◌, length, drop, take, refl, ap, sym, ◌∙◌, subst}
 use Rattle.std.proofs.lemmas.List.{drop_more}
 use Rattle.sm_syntax.specs.text.Sorts.{Sorts}
-use Rattle.sm_term.specs.Terms.{Tree, Lit}
-use Rattle.sm_term.specs.declared.formula.Formula.{Formula}
-use Rattle.sm_term.specs.declared.term.TermId.{TermId}
+use Rattle.sm_term.specs.Terms.{Tree}
 use Rattle.sm_term.specs.Tables.{tree_at}
+use Rattle.sm_term.specs.declared.term.TermId.{TermId}
 use Rattle.sm_term.specs.TableLaws.{AreApart}
 use Rattle.sm_term.specs.Formulas.{NumberedFormula, And, numbered, assertion_in, IsFormulaWithin}
+use Rattle.sm_term.specs.declared.formula.Formula.{Formula}
 use Rattle.sm_term.specs.Assertions as plain
 use Rattle.sm_term.specs.Assertions.{Assertion}
 use Rattle.sm_num.specs.Forms.{Linear}
 use Rattle.sm_num.specs.Tightening.{is_contradictory}
-use Rattle.sm_theory.specs.declared.fact.Fact.{Fact}
 use Rattle.sm_theory.specs.declared.fact.Fact.TheVariants as fact
-use Rattle.sm_theory.specs.declared.line.CertLine.{CertLine}
 use Rattle.sm_theory.specs.declared.line.CertLine.TheVariants as line
 use Rattle.sm_theory.specs.Facts.{BranchFact, Formal, Sum}
 use Rattle.sm_theory.specs.Lines.{Sides, followed, formula_at, equation_at, contrary_at}
 use Rattle.sm_theory.specs.Equality.{says_equal}
-use Rattle.sm_theory.specs.Standing.{HaveOnePlace}
 use Rattle.sm_theory.specs.Sides.{OptionStands, FormulaStands, SidesStand}
 use Rattle.sm_theory.specs.Views.{line_in, FactStands, AllStand, StandsIf}
+use Rattle.sm_theory.specs.declared.line.CertLine.{CertLine}
+use Rattle.sm_theory.specs.declared.fact.Fact.{Fact}
 use Rattle.sm_theory.specs.Ways.{ways_with, adding, cannot_hold, closing_if, is_absurd, both_parts}
 use Rattle.sm_theory.proofs.LinearStanding.{contradictory_stands}
 use Rattle.sm_cert.specs.Ways.{GoesOn, is_closed, SplitsInto}
+use Rattle.sm_theory.proofs.FormsOfTermsLemmas.{one_place}
 
 -- facts behind facts
 pub stand_append : (sorts : Sorts) (trees : List Tree) (path more : List Fact) (facts way : List BranchFact) →
@@ -56,14 +53,6 @@ pub copied_more : (sorts : Sorts) (trees : List Tree) (path : List Fact) (i : �
 copied_more sorts trees path i copied g facts d within all same =
     stand_replaced sorts trees copied (get_or path i d) g (drop (i + 1) path) facts
     (subst (λ (rest : List Fact). AllStand sorts trees (copied ++ rest) facts) (drop_more path i d within) all) same
-
--- the trees of a table have one place each
-pub one_place : (trees : List Tree) → AreApart trees → HaveOnePlace trees
-one_place trees apart i j t first second =
-    apart i j (slice_get_within trees i t first) (slice_get_within trees j t second) (read i first ∙ sym (read j second))
-  where
-    read : (n : ℕ) → slice_get trees n ≡ Some t → tree_at trees n ≡ t
-    read n e = get_or_from_slice_get trees n t (Lit (pos 0)) e
 
 -- two facts one after the other
 append_two : (ks : List BranchFact) (k l : BranchFact) → (ks ++ (k ∷ [])) ++ (l ∷ []) ≡ ks ++ (k ∷ l ∷ [])

@@ -2,11 +2,11 @@
 use Rattle.std.specs.Prelude.{◌≡◌, ℕ, ◌+◌, ◌-◌, ◌^◌, min, None, List, length}
 use Rattle.sm_syntax.specs.text.Sorts.{Sorts}
 use Rattle.sm_term.specs.Terms.{Tree}
-use Rattle.sm_theory.specs.declared.fact.Fact.{Fact}
-use Rattle.sm_theory.specs.declared.line.CertLine.{CertLine}
 use Rattle.sm_theory.specs.Facts.{BranchFact}
 use Rattle.sm_theory.specs.SortedFacts.{AreFactsSorted}
 use Rattle.sm_theory.specs.Views.{AllStand}
+use Rattle.sm_theory.specs.declared.line.CertLine.{CertLine}
+use Rattle.sm_theory.specs.declared.fact.Fact.{Fact}
 use Rattle.sm_cert.specs.Certificates.{Certificate, Theories, first_bad, lines_in}
 use Rattle.sm_cert.specs.Views.{lines_before}
 

@@ -2,14 +2,16 @@
 -- tell why one is refused.
 use Rattle.std.specs.Prelude.{◌≡◌, ℕ, ◌-◌, ◌^◌, min, Option, Some, List, [], ◌∷◌, ◌++◌}
 use Rattle.sm_term.specs.Terms.{Tree}
-use Rattle.sm_theory.specs.declared.line.CertLine.{CertLine}
 use Rattle.sm_theory.specs.Views.{line_in, IsLineWithin}
-use Rattle.sm_cert.specs.declared.tree.CertTree.{CertTree, CertTree-F, fold-CertTree}
-use Rattle.sm_cert.specs.declared.tree.CertEnd.{CertEnd-F}
+use Rattle.sm_theory.specs.declared.line.CertLine.{CertLine}
+use Rattle.sm_cert.specs.declared.tree.CertTree.{fold-CertTree}
+pub use Rattle.sm_cert.specs.declared.tree.CertTree.{CertTree, fold-roll-CertTree, fold_out-CertTree, ind-CertTree, map-CertTree, roll-CertTree, CertTree-F}
+pub use Rattle.sm_cert.specs.declared.tree.CertEnd.{CertEnd, fold-CertEnd, fold-roll-CertEnd, map-CertEnd, roll-CertEnd, CertEnd-F}
 use Rattle.sm_cert.specs.declared.tree.CertEnd.TheOpen as layer
 use Rattle.sm_cert.specs.declared.error.CertFault.{CertFault}
 use Rattle.sm_cert.specs.declared.error.CertFault.TheVariants as fault
 use Rattle.sm_cert.specs.Certificates.{Certificate, Next, Closed, Split, Refused, Bad, TooManySplits}
+pub use Rattle.sm_cert.specs.declared.tree.CertEnd.TheVariants.{rolls-Close, rolls-Split}
 
 -- lines one under another, and then a certificate
 abbrev pub lines_before : List Tree → List CertLine → Certificate → Certificate

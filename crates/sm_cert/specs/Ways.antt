@@ -3,10 +3,10 @@
 use Rattle.std.specs.Prelude.{Bool, true, false, Option, Some, None, List, [], ◌∷◌, ◌++◌}
 use Rattle.sm_syntax.specs.text.Sorts.{Sorts}
 use Rattle.sm_term.specs.Terms.{Tree}
-use Rattle.sm_theory.specs.declared.fact.Fact.{Fact}
 use Rattle.sm_theory.specs.Facts.{BranchFact}
 use Rattle.sm_theory.specs.Ways.{Ways}
 use Rattle.sm_theory.specs.Views.{AllStand}
+use Rattle.sm_theory.specs.declared.fact.Fact.{Fact}
 
 -- a branch stands for the facts with those of the one way behind them, or there isn't one way
 abbrev pub GoesOn : Sorts → List Tree → Bool → List Fact → List BranchFact → Ways → Type 0

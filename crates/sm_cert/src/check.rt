@@ -1,6 +1,5 @@
 // Certificates checked on a branch.
-ghost use Rattle.std.specs.Prelude.{◌≡◌, ℕ, false, List, [], ◌∷◌, ◌++◌, length, take, nat_lt};
-ghost use Rattle.std.specs.Prelude.{IfOk, OnOk, IfErr, None};
+ghost use Rattle.std.specs.Prelude.{◌≡◌, ℕ, false, List, [], ◌∷◌, ◌++◌, length, take, nat_lt, IfOk, OnOk, IfErr, None};
 ghost use Rattle.sm_syntax.specs.text.Sorts.{Sorts};
 ghost use Rattle.sm_term.specs.Tables.{trees_in, sorts_in};
 ghost use Rattle.sm_term.specs.Terms.{Tree};
@@ -8,10 +7,8 @@ ghost use Rattle.sm_term.specs.TableLaws.{AreTreesSorted};
 ghost use Rattle.sm_theory.specs.Facts.{BranchFact, IsContradictory};
 ghost use Rattle.sm_theory.specs.SortedFacts.{AreFactsSorted};
 ghost use Rattle.sm_theory.specs.Views.{AllStand};
-ghost use Rattle.sm_cert.specs.Certificates.{Certificate, first_of_three, first_bad, lines_in};
-ghost use Rattle.sm_cert.specs.Certificates.{splits_above, bad_line, refused};
-ghost use Rattle.sm_cert.specs.Views.{lines_before, certificate_in, lines_of};
-ghost use Rattle.sm_cert.specs.Views.{AreLinesWithin, FaultTells};
+ghost use Rattle.sm_cert.specs.Certificates.{Certificate, first_of_three, first_bad, lines_in, splits_above, bad_line, refused};
+ghost use Rattle.sm_cert.specs.Views.{lines_before, certificate_in, lines_of, AreLinesWithin, FaultTells};
 ghost use Rattle.sm_cert.specs.NamedTerms.{IsCertificateSorted};
 ghost use Rattle.sm_cert.specs.Check.{line_number, Arrives, Passes};
 

@@ -1,37 +1,18 @@
 -- Lines that each add a fact, one after the other, and what is bad of a certificate under them.
-use Rattle.std.proofs.Common.{◌≡◌, ℕ, suc, ◌+◌, List, [], ◌∷◌, ◌++◌, map, length, refl, sym, ap, ◌∙◌, arith}
-use Rattle.std.proofs.Common.{Option, Some, None}
+use Rattle.std.proofs.Common.{◌≡◌, ℕ, suc, ◌+◌, List, [], ◌∷◌, ◌++◌, map, length, sym, ap, ◌∙◌, arith, Option, Some}
 use Rattle.std.proofs.lemmas.List.{append-nil}
 use Rattle.sm_syntax.specs.text.Sorts.{Sorts}
 use Rattle.sm_term.specs.Terms.{Tree}
-use Rattle.sm_theory.specs.declared.line.CertLine.{CertLine}
 use Rattle.sm_theory.specs.Facts.{BranchFact}
-use Rattle.sm_theory.specs.Lines.{CertificateLine, Both, Either, Cases, Order, Refl, Sym, Trans, followed}
-use Rattle.sm_theory.specs.Lines.{Subst, Cong, Same, Apart, Hit, Miss, Lin, Elim, Tight, Exact, Close, Clash}
+use Rattle.sm_theory.specs.Lines.{CertificateLine, Both, Either, Cases, Order, Refl, Sym, Trans, followed, Subst, Cong, Same, Apart, Hit, Miss, Lin, Elim, Tight, Exact, Close, Clash}
 use Rattle.sm_theory.specs.Ways.{adds, Ways, ways_with, goes_on_with, adding}
 use Rattle.sm_theory.specs.Views.{line_in}
+use Rattle.sm_theory.specs.declared.line.CertLine.{CertLine}
 use Rattle.sm_cc.specs.Explained.{added_by}
 use Rattle.sm_cert.specs.Certificates.{Certificate, first_bad, in_one_way}
 use Rattle.sm_cert.specs.Views.{lines_before}
-
--- lists one behind the other
-together : {A : Type 0} (xs ys zs : List A) → (xs ++ ys) ++ zs ≡ xs ++ (ys ++ zs)
-together [] ys zs = refl
-together {A} (x ∷ xs) ys zs = ap (λ (l : List A). x ∷ l) (together xs ys zs)
-
--- what goes on to something has something
-pub followed_by : {S T : Type 0} (o : Option S) (next : S → Option T) (t : T) → followed o next ≡ Some t →
-    (s : S) × (o ≡ Some s) × (next s ≡ Some t)
-followed_by None next t e = absurd cc
-followed_by (Some s) next t e = (s, refl, e)
-
--- what is in an option
-pub one_thing : {A : Type 0} (x y : A) → Some x ≡ Some y → x ≡ y
-one_thing {A} x y e = ap (λ (o : Option A). or x o) e
-  where
-    or : {A : Type 0} → A → Option A → A
-    or x None = x
-    or x (Some y) = y
+use Rattle.sm_theory.proofs.FactsLemmas.{followed_from}
+use Rattle.sm_lemmas.proofs.Lists.{one_thing, together}
 
 module _ (sorts : Sorts) where
   -- a line that adds a fact goes on in one way
@@ -63,8 +44,8 @@ module _ (sorts : Sorts) where
       (k : BranchFact) × (ks : List BranchFact) × (adds sorts facts line ≡ Some k)
       × (added_by sorts (facts ++ k ∷ []) lines ≡ Some ks) × (more ≡ k ∷ ks)
   added_first facts line lines more e =
-      let one = followed_by (adds sorts facts line) _ more e in
-      let rest = followed_by (added_by sorts (facts ++ one.0 ∷ []) lines) _ more one.2 in
+      let one = followed_from (adds sorts facts line) _ more e in
+      let rest = followed_from (added_by sorts (facts ++ one.0 ∷ []) lines) _ more one.2 in
       (one.0, rest.0, one.1, rest.1, one_thing more (one.0 ∷ rest.0) (sym rest.2))
 
   -- what a line and others add

@@ -1,39 +1,38 @@
 -- What is written for the branch of facts of the program leads to a contradiction, step by step.
-use Rattle.std.proofs.Common.{Bool, false, IsTrue}
-use Rattle.std.proofs.Common.{◌≡◌, ℕ, ◌<◌, ◌+◌, ◌-◌, List, [], ◌∷◌, ◌++◌, map, length, slice_get}
-use Rattle.std.proofs.Common.{refl, sym, ap, ◌∙◌, subst, Some, drop, get_or}
+use Rattle.std.proofs.Common.{Bool, false, IsTrue, ◌≡◌, ℕ, ◌<◌, ◌+◌, ◌-◌, List, [], ◌∷◌, ◌++◌, map, length, slice_get, refl, sym, ap, ◌∙◌, subst, Some, drop, get_or}
 use Rattle.std.proofs.lemmas.List.{length-map, drop_more}
 use Rattle.sm_num.specs.Forms.{Linear}
-use Rattle.sm_term.specs.declared.term.TermId.{TermId}
-use Rattle.sm_term.specs.declared.formula.Formula.{Formula}
 use Rattle.sm_term.specs.Terms.{Tree}
 use Rattle.sm_term.specs.TableLaws.{AreApart}
 use Rattle.sm_term.specs.Formulas.{numbered, assertion_in}
+use Rattle.sm_term.specs.declared.formula.Formula.{Formula}
 use Rattle.sm_term.specs.Tables.{TableValue, trees_in, sorts_in}
-use Rattle.sm_theory.specs.declared.line.CertLine.{CertLine}
+use Rattle.sm_term.specs.declared.term.TermId.{TermId}
 use Rattle.sm_theory.specs.declared.line.CertLine.TheVariants as line
 use Rattle.sm_theory.specs.Views.{line_in}
+use Rattle.sm_theory.specs.declared.line.CertLine.{CertLine}
 use Rattle.sm_cc.specs.Explained.{Explain}
 use Rattle.sm_cc.specs.Views.{ClassesValue, setting_of, equation_of, numbers_of}
 use Rattle.sm_theory.specs.Facts.{as_facts}
 use Rattle.sm_theory.specs.Lines.{Close}
 use Rattle.sm_cert.specs.Certificates.{Closed}
 use Rattle.sm_cert.specs.Views.{lines_before, AreLinesWithin}
-use Rattle.sm_cert.proofs.WaysLemmas.{one_place}
 use Rattle.sm_judge.specs.declared.eliminating.ElimLine.{ElimLine}
-use Rattle.sm_judge.specs.declared.forms.Source.{Source}
 use Rattle.sm_judge.specs.declared.forms.Source.TheVariants as source
 use Rattle.sm_certify.specs.Refutes.{Refutes}
 use Rattle.sm_certify.specs.Given.{IsWhole, classes_by, branch_of}
 use Rattle.sm_judge.specs.Holding.{Seen}
 use Rattle.sm_list.specs.Parts.{all_numbered, AreFormulasWithin}
 use Rattle.sm_judge.specs.Refutations.{IsSource}
+use Rattle.sm_judge.specs.declared.forms.Source.{Source}
 use Rattle.sm_judge.specs.Places.{HavePlaces}
 use Rattle.sm_certify.specs.Refuting.{AreWritten, Leads, AddsEquation, AddsSource}
 use Rattle.sm_certify.proofs.EquationLemmas.{written_equation, branch_stand}
 use Rattle.sm_certify.proofs.LeadsLemmas.{leads_next, leads_skip, leads_sum, leads_skip_sum, leads_closed, leads_places}
 use Rattle.sm_certify.proofs.SourcesLemmas.{fact_makes}
-use Rattle.sm_certify.proofs.WrittenLemmas.{written_lin, within_both}
+use Rattle.sm_certify.proofs.WrittenLemmas.{written_lin}
+use Rattle.sm_theory.proofs.FormsOfTermsLemmas.{one_place}
+use Rattle.sm_list.proofs.RenumberLemmas.{within-append}
 
 -- the first that is left of a list
 pub item_left : {X : Type 0} (P : List X → Type 0) (xs ys : List X) (i : ℕ) (d : X) → xs ≡ ys → i < length xs → P (drop i ys) →
@@ -114,7 +113,7 @@ module _ (table : TableValue) (fs : List Formula) (mark : ℕ → Bool) where
   -- its line is within the table too
   pub closed_within : (lines : List CertLine) (numbers : List ℕ) (bad k : ℕ) → Leads b mark lines numbers [] [] bad →
       AreLinesWithin (length trees) (lines ++ line.Close k ∷ [])
-  closed_within lines numbers bad k d = within_both (length trees) lines (line.Close k ∷ []) d.written.within (tt, tt)
+  closed_within lines numbers bad k d = within-append (length trees) lines (line.Close k ∷ []) d.written.within (tt, tt)
 
   module _ (apart : AreApart trees) (placed : HavePlaces trees) (within : AreFormulasWithin (length trees) (all_numbered fs)) where
     -- the form of a fact is made

@@ -1,18 +1,18 @@
 -- Facts that are given before but for their numbers, and the pairs of those that say that terms aren't equal.
-use Rattle.std.proofs.Common.{◌≡◌, ◌⊎◌, inl, inr, ℕ, zero, suc, ◌+◌, ◌-◌, ◌<◌, Bool, true, false, not, ◌&&◌, Some, List, [], ◌∷◌, ◌++◌, map, length, take, drop, get_or}
-use Rattle.std.proofs.Common.{slice_get, slice_set, refl, sym, ap, ◌∙◌, subst, arith, append_assoc}
+use Rattle.std.proofs.Common.{◌≡◌, ◌⊎◌, inl, inr, ℕ, zero, suc, ◌+◌, ◌-◌, ◌<◌, Bool, true, not, ◌&&◌, Some, List, [], ◌∷◌, ◌++◌, map, length, take, drop, get_or, slice_get, slice_set, refl, sym, ap, ◌∙◌, subst, arith, append_assoc}
 use Rattle.std.specs.List.{list_all}
-use Rattle.std.proofs.lemmas.List.{map-append, length-drop, drop_more}
+use Rattle.std.proofs.lemmas.List.{map-append, length-drop}
 use Rattle.std.proofs.Math.Seq.{take-length}
 use Rattle.std.proofs.lemmas.Option.{same_Some}
 use Rattle.sm_term.specs.declared.term.TermId.{TermId}
 use Rattle.sm_term.specs.declared.formula.Formula.{Formula}
 use Rattle.sm_term.specs.declared.formula.Formula.TheVariants as tree
-use Rattle.sm_cc.specs.declared.classes.GivenFact.{GivenFact}
 use Rattle.sm_cc.specs.AddedTerms.{IsGivenBefore, IsContraryOf, AddsOnly}
 use Rattle.sm_cc.specs.Views.{equation_under, contrary_under}
+use Rattle.sm_cc.specs.declared.classes.GivenFact.{GivenFact}
 use Rattle.sm_certify.specs.Given.{given_from}
-use Rattle.sm_certify.proofs.GivenLemmas.{given_from-cons}
+use Rattle.sm_certify.proofs.GivenLemmas.{given_from-cons, left_step}
+use Rattle.sm_lemmas.proofs.Tests.{not_true, both_pass}
 
 -- whether no fact is an equation, and the two terms of each
 abbrev pub are_contraries : List GivenFact → Bool
@@ -63,10 +63,6 @@ sides-cons f fs =
     ∙ map-append (λ (g : GivenFact). (g.left, g.right)) (given_from 0 (f ∷ [])) (given_from 1 fs)
     ∙ ap (λ (ps : List (TermId × TermId)). sides_of (given_from 0 (f ∷ [])) ++ ps) (sides_alike 1 0 fs)
 
--- one more formula is looked at
-left_step : (fs : List Formula) (i : ℕ) (f : Formula) → i < length fs → f ≡ get_or fs i f → drop i fs ≡ f ∷ drop (i + 1) fs
-left_step fs i f h is = drop_more fs i f h ∙ ap (λ (g : Formula). g ∷ drop (i + 1) fs) (sym is)
-
 pub none_step : (fs : List Formula) (i : ℕ) (f : Formula) (b : Bool) → i < length fs → f ≡ get_or fs i f →
     b ≡ true → b ≡ are_contraries (given_from 0 (f ∷ [])) → are_contraries (given_from 0 (drop i fs)) ≡ are_contraries (given_from 0 fs) →
     are_contraries (given_from 0 (drop (i + 1) fs)) ≡ are_contraries (given_from 0 fs)
@@ -90,22 +86,14 @@ sides_step before after all fs i f h is made old =
 abbrev AreSaid : List (TermId × TermId) → List GivenFact → Type 0
 AreSaid ps gs = (n : ℕ) (g : GivenFact) → slice_get gs n ≡ Some g → IsContraryOf ps g
 
-is_false : (b : Bool) → not b ≡ true → b ≡ false
-is_false true h = absurd cc
-is_false false h = refl
-
-both_true : (a b : Bool) → (a && b) ≡ true → (a ≡ true) × (b ≡ true)
-both_true true b h = (refl, h)
-both_true false b h = absurd cc
-
 said : (gs : List GivenFact) → are_contraries gs ≡ true → AreSaid (sides_of gs) gs
 said [] h n g is = absurd cc
 said (f ∷ gs) h zero g is =
     let e = same_Some f g is in
     subst (IsContraryOf (sides_of (f ∷ gs))) e
-    (is_false f.are_equal (both_true (not f.are_equal) (are_contraries gs) h).0, (0, refl))
+    (not_true f.are_equal (both_pass (not f.are_equal) (are_contraries gs) h).0, (0, refl))
 said (f ∷ gs) h (suc n) g is =
-    let rest = said gs (both_true (not f.are_equal) (are_contraries gs) h).1 n g is in (rest.0, (suc rest.1.0, rest.1.1))
+    let rest = said gs (both_pass (not f.are_equal) (are_contraries gs) h).1 n g is in (rest.0, (suc rest.1.0, rest.1.1))
 
 -- an element of one of two lists is one of both
 in_first : {A : Type 0} (xs ys : List A) (n : ℕ) (x : A) → slice_get xs n ≡ Some x → (m : ℕ) × (slice_get (xs ++ ys) m ≡ Some x)

@@ -1,32 +1,32 @@
 -- Each line of an explanation adds a formula whose terms are those of the table.
-use Rattle.std.proofs.Common.{◌≡◌, ℕ, zero, suc, Bool, true, false, ◌&&◌, not, ℤ, List, [], ◌∷◌, ◌++◌, map, Option, Some, None}
-use Rattle.std.proofs.Common.{refl, sym, subst}
+use Rattle.std.proofs.Common.{◌≡◌, ℕ, zero, suc, Bool, true, false, ◌&&◌, not, ℤ, List, [], ◌∷◌, ◌++◌, map, Option, Some, None, refl, sym, subst}
 use Rattle.std.specs.Ordering.{int_eq}
 use Rattle.std.specs.List.{filter_map}
-use Rattle.sm_syntax.specs.declared.tree.Sort.TheVariants.{Num}
 use Rattle.sm_syntax.specs.text.Sorts.{Sorts}
-use Rattle.sm_term.specs.declared.term.TermId.{TermId}
+use Rattle.sm_syntax.specs.declared.tree.Sort.TheVariants.{Num}
 use Rattle.sm_term.specs.Assertions.{Assertion, Yes, No, Eq, Ne, Le, Lt, And, Or}
 use Rattle.sm_term.specs.Heads.{arguments_of, same_head}
 use Rattle.sm_term.specs.SameTerms.{same_tree}
 use Rattle.sm_term.specs.Sorted.{tree_sort}
 use Rattle.sm_term.specs.Tables.{tree_at}
+use Rattle.sm_term.specs.declared.term.TermId.{TermId}
 use Rattle.sm_term.specs.Terms.{Tree, Read, Write}
-use Rattle.sm_theory.specs.declared.line.CertLine.{CertLine}
 use Rattle.sm_theory.specs.declared.line.CertLine.TheVariants as line
 use Rattle.sm_theory.specs.Arithmetic.{compared_forms}
 use Rattle.sm_theory.specs.Elements.{Written, read_of_written}
-use Rattle.sm_theory.specs.Equality.{formula_if, turned_equation, turned_contrary, or_other, chained, substituted}
-use Rattle.sm_theory.specs.Equality.{is_inhabited_list, say_equal, says_equal}
+use Rattle.sm_theory.specs.Equality.{formula_if, turned_equation, turned_contrary, or_other, chained, substituted, is_inhabited_list, say_equal, says_equal}
 use Rattle.sm_theory.specs.Facts.{BranchFact, Formal, Sum}
 use Rattle.sm_theory.specs.Lines.{followed, formula_in, form_in, formula_at, Sides, equal_sides, unequal_sides, equation_at, contrary_at}
 use Rattle.sm_theory.specs.TermsOfFormulas.{is_among}
 use Rattle.sm_theory.specs.Views.{line_in}
+use Rattle.sm_theory.specs.declared.line.CertLine.{CertLine}
 use Rattle.sm_theory.specs.Ways.{adds}
 use Rattle.sm_cc.specs.Explained.{added_by, IsListed, IsLineOf, AreLinesOf}
 use Rattle.sm_terms.specs.Listing.{IsClosed}
 use Rattle.sm_list.proofs.BuiltLemmas.{FormulaAmong, FormulasAmong}
-use Rattle.sm_certify.proofs.AddingLemmas.{followed_by, added_first, one_thing}
+use Rattle.sm_certify.proofs.AddingLemmas.{added_first}
+use Rattle.sm_theory.proofs.FactsLemmas.{followed_from}
+use Rattle.sm_lemmas.proofs.Lists.{one_thing}
 
 -- where a fact is a formula, its terms are among these
 abbrev pub NamesAmong : List Tree → BranchFact → Type 0
@@ -115,11 +115,11 @@ module _ (seen : List Tree) where
 
   equation_there : (facts : List BranchFact) (n : ℕ) (s : Sides) → AllNameAmong seen facts → equation_at facts n ≡ Some s → SidesAmong seen s
   equation_there facts n s h e =
-      let f = followed_by (formula_at facts n) equal_sides s e in equal_among f.0 s (formula_there facts n f.0 h f.1) f.2
+      let f = followed_from (formula_at facts n) equal_sides s e in equal_among f.0 s (formula_there facts n f.0 h f.1) f.2
 
   contrary_there : (facts : List BranchFact) (n : ℕ) (s : Sides) → AllNameAmong seen facts → contrary_at facts n ≡ Some s → SidesAmong seen s
   contrary_there facts n s h e =
-      let f = followed_by (formula_at facts n) unequal_sides s e in unequal_among f.0 s (formula_there facts n f.0 h f.1) f.2
+      let f = followed_from (formula_at facts n) unequal_sides s e in unequal_among f.0 s (formula_there facts n f.0 h f.1) f.2
 
   -- what is made where a test is passed
   made_if : (test : Bool) (f : Assertion) (k : BranchFact) → FormulaAmong seen f → formula_if test f ≡ Some k → IsFormulaAmong seen k
@@ -168,14 +168,14 @@ module _ (seen : List Tree) where
         (no_other (or_other (followed (equation_at facts n) turned_equation) (followed (contrary_at facts n) turned_contrary)) k e)
     line_adds facts (line.Trans m n) k all of e =
         let made = no_other (followed (equation_at facts m) (λ (s : Sides). followed (equation_at facts n) (chained s))) k e in
-        let one = followed_by (equation_at facts m) (λ (s : Sides). followed (equation_at facts n) (chained s)) k made in
-        let other = followed_by (equation_at facts n) (chained one.0) k one.2 in
+        let one = followed_from (equation_at facts m) (λ (s : Sides). followed (equation_at facts n) (chained s)) k made in
+        let other = followed_from (equation_at facts n) (chained one.0) k one.2 in
         made_if (same_tree one.0.right other.0.left) (Eq one.0.sort one.0.left other.0.right) k
         ((equation_there facts m one.0 all one.1).0, (equation_there facts n other.0 all other.1).1) other.2
     line_adds facts (line.Subst m n) k all of e =
         let made = no_other (followed (contrary_at facts m) (λ (s : Sides). followed (equation_at facts n) (substituted s))) k e in
-        let one = followed_by (contrary_at facts m) (λ (s : Sides). followed (equation_at facts n) (substituted s)) k made in
-        let other = followed_by (equation_at facts n) (substituted one.0) k one.2 in
+        let one = followed_from (contrary_at facts m) (λ (s : Sides). followed (equation_at facts n) (substituted s)) k made in
+        let other = followed_from (equation_at facts n) (substituted one.0) k one.2 in
         made_if (same_tree one.0.left other.0.left) (Ne one.0.sort other.0.right one.0.right) k
         ((equation_there facts n other.0 all other.1).1, (contrary_there facts m one.0 all one.1).1) other.2
     line_adds facts (line.Cong t u ns) k all of e =

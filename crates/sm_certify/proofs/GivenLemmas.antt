@@ -1,12 +1,10 @@
 -- The classes of a table's terms by the equations and contraries among facts are those of the facts.
-use Rattle.std.proofs.Common.{◌≡◌, ℕ, zero, suc, ◌+◌, ◌<◌, ◌≤◌, pos, Bool, true, ◌&&◌, ◌||◌, List, [], ◌∷◌, ◌++◌, map, length, drop, get_or}
-use Rattle.std.proofs.Common.{slice_get, Some, refl, sym, ap, subst, ◌∙◌, arith, append_assoc}
+use Rattle.std.proofs.Common.{◌≡◌, ℕ, zero, suc, ◌+◌, ◌<◌, ◌≤◌, pos, Bool, true, ◌&&◌, ◌||◌, List, [], ◌∷◌, ◌++◌, map, length, drop, get_or, slice_get, Some, refl, sym, ap, subst, ◌∙◌, arith, append_assoc}
 use Rattle.std.specs.List.{list_any, range_with_len}
 use Rattle.std.proofs.lemmas.Bool.{or_left, or_right}
 use Rattle.std.proofs.lemmas.List.{append-nil, map-append, drop_more}
 use Rattle.std.proofs.lemmas.List.FromFn.{fill_by_all}
 use Rattle.std.proofs.lemmas.Option.{same_Some}
-use Rattle.sm_term.specs.declared.term.TermId.{TermId}
 use Rattle.sm_term.specs.declared.formula.Formula.{Formula}
 use Rattle.sm_term.specs.declared.formula.Formula.TheVariants as tree
 use Rattle.sm_term.specs.Terms.{Tree, Lit}
@@ -14,22 +12,23 @@ use Rattle.sm_term.specs.Assertions.{Assertion}
 use Rattle.sm_term.specs.SameTerms.{same_tree}
 use Rattle.sm_term.specs.Sorted.{AreFormsSorted}
 use Rattle.sm_term.specs.Tables.{TableValue, trees_in, sorts_in, tree_at, AreBefore}
+use Rattle.sm_term.specs.declared.term.TermId.{TermId}
 use Rattle.sm_term.proofs.SameTermsLemmas.{same_tree_is}
 use Rattle.sm_theory.specs.Lines.{equal_sides, unequal_sides}
 use Rattle.sm_theory.specs.Equality.{says_equal}
-use Rattle.sm_cc.specs.declared.classes.GivenFact.{GivenFact}
 use Rattle.sm_theory.specs.TermsOfFormulas.{is_among}
 use Rattle.sm_pairs.specs.Pairs.{Pairs}
 use Rattle.sm_cc.specs.Classes.{Setting, are_apart}
 use Rattle.sm_cc.specs.Rounds.{are_equal}
-use Rattle.sm_cc.specs.Views.{ClassesValue, setting_of, trees_of, assertion_given, equation_under, contrary_under}
-use Rattle.sm_cc.specs.Views.{IsTermOf, IsOfTwoTerms, AreOfTwoTerms}
+use Rattle.sm_cc.specs.Views.{ClassesValue, setting_of, trees_of, assertion_given, equation_under, contrary_under, IsTermOf, IsOfTwoTerms, AreOfTwoTerms}
+use Rattle.sm_cc.specs.declared.classes.GivenFact.{GivenFact}
 use Rattle.sm_certify.specs.Given.{IsWhole, given_from, classes_by, branch_of}
 use Rattle.sm_terms.specs.Listing.{trees_at, numbers_of, AreBelow}
 use Rattle.sm_list.specs.Parts.{all_numbered, assertions_in, AreFormulasWithin}
 use Rattle.sm_judge.specs.Seeing.{seen_in}
 use Rattle.sm_cc.proofs.BringsLemmas.{GivesMore}
 use Rattle.sm_cc.proofs.LeastLemmas.{equal_alike, apart_alike}
+use Rattle.sm_lemmas.proofs.Lists.{range_more}
 
 -- the trees of a list that has all terms
 trees_alike : (trees : List Tree) (ts : List TermId) → trees_of trees ts ≡ trees_at trees (numbers_of ts)
@@ -60,13 +59,6 @@ term_of v whole t h = (
   subst (λ (ts : List Tree). is_among ts (tree_at (trees_in v.table) t.0) ≡ true) (sym (whole_trees (trees_in v.table) v.terms whole))
       (among_trees (trees_in v.table) t.0 h),
 )
-
--- the numbers from one on, one more
-range_more : (a n : ℕ) → range_with_len a (suc n) ≡ range_with_len a n ++ (a + n) ∷ []
-range_more a zero = ap (λ (k : ℕ). k ∷ []) (let e : a ≡ a + 0 = omega arith in e)
-range_more a (suc n) =
-    let last : (a + 1) + n ≡ a + suc n = omega arith in
-    ap (λ (ks : List ℕ). a ∷ ks) (range_more (a + 1) n ∙ ap (λ (k : ℕ). range_with_len (a + 1) n ++ k ∷ []) last)
 
 -- one more term is listed
 pub numbered_more : (ts new : List TermId) (t : TermId) (n : ℕ) → numbers_of ts ≡ range_with_len 0 n → t.0 ≡ n → new ≡ ts ++ t ∷ [] →
@@ -104,7 +96,7 @@ given_from-cons n (tree.And' a p b q) fs = refl
 given_from-cons n (tree.Or' a p b q) fs = refl
 
 -- one of the formulas that are left, and the others
-left_step : (fs : List Formula) (i : ℕ) (f : Formula) → i < length fs → f ≡ get_or fs i f → drop i fs ≡ f ∷ drop (i + 1) fs
+pub left_step : (fs : List Formula) (i : ℕ) (f : Formula) → i < length fs → f ≡ get_or fs i f → drop i fs ≡ f ∷ drop (i + 1) fs
 left_step fs i f h is = drop_more fs i f h ∙ ap (λ (g : Formula). g ∷ drop (i + 1) fs) (sym is)
 
 -- one more formula is given

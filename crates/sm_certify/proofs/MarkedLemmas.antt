@@ -1,6 +1,5 @@
 -- Marks go from a sum to the forms of which it is made, the last sum first.
-use Rattle.std.proofs.Common.{◌≡◌, ℕ, zero, suc, ◌<◌, ◌≤◌, ◌+◌, ◌-◌, Bool, IsTrue, List, [], ◌∷◌, length}
-use Rattle.std.proofs.Common.{drop, get_or, sym, subst, ◌∙◌, arith}
+use Rattle.std.proofs.Common.{◌≡◌, ℕ, zero, suc, ◌<◌, ◌≤◌, ◌+◌, ◌-◌, Bool, IsTrue, List, [], ◌∷◌, length, drop, get_or, sym, subst, ◌∙◌, arith}
 use Rattle.std.proofs.lemmas.List.{drop_more}
 use Rattle.sm_judge.specs.declared.eliminating.ElimLine.{ElimLine}
 use Rattle.sm_certify.specs.Refuting.{mark_at, AreMarked, ArePlaces, MarksSum}

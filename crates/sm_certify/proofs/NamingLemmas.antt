@@ -1,17 +1,16 @@
 -- Which terms formulas name: those of more formulas behind them, and a term that is equal to itself.
-use Rattle.std.proofs.Common.{◌≡◌, ℕ, suc, ◌+◌, ◌<◌, Bool, true, false, ◌||◌, List, [], ◌∷◌, ◌++◌, length, take}
-use Rattle.std.proofs.Common.{Some, slice_get, refl, sym, ap, ◌∙◌, arith, ⊎_elim, pos}
+use Rattle.std.proofs.Common.{◌≡◌, ℕ, suc, ◌+◌, ◌<◌, Bool, true, false, ◌||◌, List, [], ◌∷◌, ◌++◌, length, take, Some, slice_get, refl, sym, ap, ◌∙◌, arith, ⊎_elim, pos}
 use Rattle.std.specs.List.{list_any}
 use Rattle.std.proofs.lemmas.Bool.{cases_Bool}
 use Rattle.std.proofs.lemmas.List.{take_more, length-take-le, get_or-take}
 use Rattle.std.proofs.lemmas.Option.{slice_get_within, slice_get-get_or, get_or_from_slice_get}
 use Rattle.sm_syntax.specs.declared.tree.Sort.{Sort}
-use Rattle.sm_term.specs.declared.term.TermId.{TermId}
 use Rattle.sm_term.specs.Assertions.{Assertion, Yes, No, Eq, Ne, Le, Lt, And, Or}
 use Rattle.sm_term.specs.Heads.{arguments_of}
 use Rattle.sm_term.specs.SameTerms.{same_tree}
 use Rattle.sm_term.specs.TableLaws.{AreApart}
 use Rattle.sm_term.specs.Tables.{tree_at, AreBefore}
+use Rattle.sm_term.specs.declared.term.TermId.{TermId}
 use Rattle.sm_term.specs.Terms.{Tree, Lit}
 use Rattle.sm_term.proofs.SameTermsLemmas.{same_tree_is}
 use Rattle.sm_theory.specs.TermsOfFormulas.{is_among, put, with_term, with_formula, with_formulas}
@@ -27,12 +26,12 @@ with_formulas-append [] gs seen = refl
 with_formulas-append (f ∷ fs) gs seen = with_formulas-append fs gs (with_formula f seen)
 
 -- two terms that are there
-same_with_two : (t u : Tree) (seen : List Tree) → IsClosed seen → is_among seen t ≡ true → is_among seen u ≡ true →
+pub same_with_two : (t u : Tree) (seen : List Tree) → IsClosed seen → is_among seen t ≡ true → is_among seen u ≡ true →
     with_term u (with_term t seen) ≡ seen
 same_with_two t u seen closed one other = ap (with_term u) (same_with_term t seen closed one) ∙ same_with_term u seen closed other
 
 -- a formula whose terms are there
-same_with_formula : (f : Assertion) (seen : List Tree) → IsClosed seen → FormulaAmong seen f → with_formula f seen ≡ seen
+pub same_with_formula : (f : Assertion) (seen : List Tree) → IsClosed seen → FormulaAmong seen f → with_formula f seen ≡ seen
 same_with_formula Yes seen closed h = refl
 same_with_formula No seen closed h = refl
 same_with_formula (Eq sort t u) seen closed h = same_with_two t u seen closed h.0 h.1

@@ -6,13 +6,13 @@ use Rattle.std.proofs.lemmas.List.Elements.{filter_map-append}
 use Rattle.sm_num.specs.Forms.{Linear}
 use Rattle.sm_term.specs.Assertions.{Assertion}
 use Rattle.sm_term.specs.Terms.{Tree}
-use Rattle.sm_theory.specs.declared.line.CertLine.{CertLine}
 use Rattle.sm_theory.specs.ExactLine.{form_by_places, forms_by_places}
 use Rattle.sm_theory.specs.Facts.{BranchFact, Formal, Sum, as_facts}
 use Rattle.sm_theory.specs.Lines.{followed, formula_in, form_in}
 use Rattle.sm_theory.specs.Standing.{HaveOnePlace}
 use Rattle.sm_theory.specs.TermsOfFormulas.{with_formulas, all_terms}
 use Rattle.sm_theory.specs.Views.{line_in, IsLineWithin}
+use Rattle.sm_theory.specs.declared.line.CertLine.{CertLine}
 use Rattle.sm_theory.specs.Ways.{adds}
 use Rattle.sm_theory.proofs.PlacedForms.{placed_is}
 use Rattle.sm_cc.specs.Explained.{added_by}
@@ -22,10 +22,12 @@ use Rattle.sm_terms.specs.Listing.{IsClosed}
 use Rattle.sm_terms.proofs.WithTermLemmas.{closed_none, closed_with_formulas}
 use Rattle.sm_list.proofs.BuiltLemmas.{FormulasAmong, formulas_among}
 use Rattle.sm_certify.specs.Deciding.{StandInOrder}
-use Rattle.sm_certify.proofs.AddingLemmas.{added_both, added_count, added_then, followed_by, one_thing}
+use Rattle.sm_certify.proofs.AddingLemmas.{added_both, added_count, added_then}
 use Rattle.sm_certify.proofs.NamingLemmas.{with_formulas-append}
 use Rattle.sm_certify.proofs.SourcesLemmas.{MakesFor}
-use Rattle.sm_certify.proofs.WrittenLemmas.{within_both}
+use Rattle.sm_theory.proofs.FactsLemmas.{followed_from}
+use Rattle.sm_lemmas.proofs.Lists.{one_thing}
+use Rattle.sm_list.proofs.RenumberLemmas.{within-append}
 
 -- formulas as facts
 formulas_back : (fs : List Assertion) → filter_map formula_in (as_facts fs) ≡ fs
@@ -43,9 +45,9 @@ places-append : (trees : List Tree) (gs ks : List (Linear Tree)) (fs more : List
 places-append trees [] ks fs more e rest =
     rest ∙ ap (λ (hs : List (Linear ℕ)). Some (hs ++ more)) (one_thing [] fs e)
 places-append trees (g ∷ gs) ks fs more e rest =
-    let one = followed_by (form_by_places trees g)
+    let one = followed_from (form_by_places trees g)
     (λ (f : Linear ℕ). followed (forms_by_places trees gs) (λ (hs : List (Linear ℕ)). Some (f ∷ hs))) fs e in
-    let others = followed_by (forms_by_places trees gs) (λ (hs : List (Linear ℕ)). Some (one.0 ∷ hs)) fs one.2 in
+    let others = followed_from (forms_by_places trees gs) (λ (hs : List (Linear ℕ)). Some (one.0 ∷ hs)) fs one.2 in
     ap (λ (o : Option (Linear ℕ)). followed o (λ (f : Linear ℕ).
     followed (forms_by_places trees (gs ++ ks)) (λ (hs : List (Linear ℕ)). Some (f ∷ hs)))) one.1
     ∙ ap (λ (o : Option (List (Linear ℕ))). followed o (λ (hs : List (Linear ℕ)). Some (one.0 ∷ hs)))
@@ -97,7 +99,7 @@ module _ (b : Seen) (terms : List Tree) (lines : List CertLine) (forms : List (L
       forms_by_places b.terms (filter_map form_in so_far ++ filter_map form_in next) ≡ Some all →
       StandInOrder b later (lines ++ ls) all
   order_more ls next later all within e named placed = record {
-    within = within_both (length b.terms) lines ls w.within within;
+    within = within-append (length b.terms) lines ls w.within within;
     more = w.more ++ next;
     added =
         ap (added_by b.sorts (as_facts b.facts)) (map-append (line_in b.terms) lines ls)

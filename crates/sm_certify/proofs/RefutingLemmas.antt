@@ -1,34 +1,32 @@
 -- Lines that add facts, and then a line that closes the branch, refute it.
-use Rattle.std.proofs.Common.{◌≡◌, ℕ, zero, suc, ◌+◌, ◌<◌, Bool, true, not, ℤ, List, [], ◌∷◌, ◌++◌, map, length}
-use Rattle.std.proofs.Common.{Option, Some, None, slice_get, refl, sym, ap, subst, ◌∙◌, arith, append_assoc, length-append}
+use Rattle.std.proofs.Common.{◌≡◌, ℕ, zero, suc, ◌+◌, ◌<◌, Bool, true, not, ℤ, List, [], ◌∷◌, ◌++◌, map, length, Option, Some, None, slice_get, refl, sym, ap, subst, ◌∙◌, arith, append_assoc, length-append}
 use Rattle.std.specs.Ordering.{int_eq}
 use Rattle.std.proofs.lemmas.List.{append-nil, map-append}
+use Rattle.sm_syntax.specs.text.Sorts.{Sorts}
 use Rattle.sm_syntax.specs.declared.tree.Sort.{Sort}
 use Rattle.sm_syntax.specs.declared.tree.Sort.TheVariants.{Num}
-use Rattle.sm_syntax.specs.text.Sorts.{Sorts}
-use Rattle.sm_term.specs.declared.term.TermId.{TermId}
 use Rattle.sm_term.specs.Terms.{Tree}
 use Rattle.sm_term.specs.Tables.{tree_at}
+use Rattle.sm_term.specs.declared.term.TermId.{TermId}
 use Rattle.sm_term.specs.Assertions as plain
 use Rattle.sm_term.specs.Assertions.{Assertion}
 use Rattle.sm_term.proofs.SameTermsLemmas.{same_tree_is}
-use Rattle.sm_theory.specs.declared.line.CertLine.{CertLine}
 use Rattle.sm_theory.specs.declared.line.CertLine.TheVariants as line
 use Rattle.sm_theory.specs.Facts.{BranchFact, Formal}
-use Rattle.sm_theory.specs.Lines.{CertificateLine, Both, Either, Cases, Order, Refl, Sym, Trans, Subst, Cong, Same, Apart, Hit, Miss}
-use Rattle.sm_theory.specs.Lines.{Lin, Elim, Tight, Exact, Close, Clash, followed, formula_in, equal_sides, unequal_sides, equation_at, contrary_at}
-use Rattle.sm_theory.specs.Lines.{Sides}
+use Rattle.sm_theory.specs.Lines.{CertificateLine, Both, Either, Cases, Order, Refl, Sym, Trans, Subst, Cong, Same, Apart, Hit, Miss, Lin, Elim, Tight, Exact, Close, Clash, followed, formula_in, equal_sides, unequal_sides, equation_at}
+use Rattle.sm_theory.specs.Lines.{contrary_at, Sides}
 use Rattle.sm_theory.specs.Equality.{says_equal, formula_if, or_other}
 use Rattle.sm_theory.specs.Arithmetic.{compared_forms}
 use Rattle.sm_theory.specs.Ways.{Ways, ways, ways_with, adds, adding, closing_if}
 use Rattle.sm_theory.specs.Views.{line_in, IsLineWithin}
+use Rattle.sm_theory.specs.declared.line.CertLine.{CertLine}
 use Rattle.sm_cert.specs.Certificates.{Closed, splits_above, in_one_way, in_no_way, first_bad}
 use Rattle.sm_cert.specs.Views.{lines_before, AreLinesWithin}
 use Rattle.sm_cc.specs.Explained.{added_by, IsLineOf, AreLinesOf}
-use Rattle.sm_pairs.proofs.AmongLemmas.{one_thing}
 use Rattle.sm_cc.proofs.StandingLemmas.{both}
 use Rattle.sm_certify.specs.Refutes.{Refutes}
 use Rattle.sm_terms.specs.Listing.{numbers_of, AreBelow}
+use Rattle.sm_lemmas.proofs.Lists.{get_in_first, one_thing}
 
 -- a line that adds a fact goes on in one way
 pub one_way : (sorts : Sorts) (facts : List BranchFact) (l : CertificateLine) (k : BranchFact) → adds sorts facts l ≡ Some k →
@@ -171,12 +169,6 @@ pub within_more : (count : ℕ) (ls : List CertLine) (l : CertLine) → AreLines
 within_more count [] l h k = (k, tt)
 within_more count (m ∷ ls) l h k = (h.0, within_more count ls l h.1 k)
 
--- an element of the first of two lists, and the one behind it
-get_first : {T : Type 0} (xs ys : List T) (n : ℕ) (x : T) → slice_get xs n ≡ Some x → slice_get (xs ++ ys) n ≡ Some x
-get_first [] ys n x e = absurd cc
-get_first (y ∷ xs) ys zero x e = e
-get_first (y ∷ xs) ys (suc n) x e = get_first xs ys n x e
-
 get_here : {T : Type 0} (xs : List T) (x : T) (n : ℕ) → n ≡ length xs → slice_get (xs ++ x ∷ []) n ≡ Some x
 get_here [] x zero e = refl
 get_here [] x (suc n) e = absurd (omega (arith, e))
@@ -231,7 +223,7 @@ module _ (sorts : Sorts) (trees : List Tree) (facts : List BranchFact) (ls : Lis
   contrary_refuted m n other is at =
       refuted_by sorts trees ls (line.Clash m n) facts (before ++ goal ∷ []) added
       (clash_closes sorts (facts ++ (before ++ goal ∷ [])) m n one other t u (stands_last m is)
-      (get_first facts (before ++ goal ∷ []) n (Formal (plain.Ne other t u)) at))
+      (get_in_first facts (before ++ goal ∷ []) n (Formal (plain.Ne other t u)) at))
 
   -- lines that explain an equation of numbers whose forms differ in the constant alone
   pub torn_refuted : (m n : ℕ) (a b : TermId) → tree_at trees a.0 ≡ t → tree_at trees b.0 ≡ u → m + 1 ≡ length facts + length ls →
@@ -254,7 +246,7 @@ module _ (sorts : Sorts) (trees : List Tree) (facts : List BranchFact) (ls : Lis
       let here : n ≡ length (facts ++ first) = omega (arith, also, count, long, parts) in
       let whole : facts ++ (first ++ apart ∷ []) ≡ (facts ++ first) ++ apart ∷ [] = sym (append_assoc facts first (apart ∷ [])) in
       let equation : slice_get (facts ++ (first ++ apart ∷ [])) m ≡ Some goal =
-      ap (λ (gs : List BranchFact). slice_get gs m) whole ∙ get_first (facts ++ first) (apart ∷ []) m goal (stands_last m is) in
+      ap (λ (gs : List BranchFact). slice_get gs m) whole ∙ get_in_first (facts ++ first) (apart ∷ []) m goal (stands_last m is) in
       let contrary : slice_get (facts ++ (first ++ apart ∷ [])) n ≡ Some apart =
       ap (λ (gs : List BranchFact). slice_get gs n) whole ∙ get_here (facts ++ first) apart n here in
       refuted_by sorts trees (ls ++ line.Apart a b ∷ []) (line.Clash m n) facts (first ++ apart ∷ []) more

@@ -1,9 +1,9 @@
 -- Terms that are equal on a branch are of one class by its facts.
 use Rattle.std.proofs.Common.{◌≡◌, true, IsTrue, List, ap, ◌∙◌, subst, sym}
-use Rattle.sm_term.specs.declared.term.TermId.{TermId}
 use Rattle.sm_term.specs.declared.formula.Formula.{Formula}
 use Rattle.sm_term.specs.Terms.{Tree}
 use Rattle.sm_term.specs.Tables.{TableValue, trees_in, tree_at}
+use Rattle.sm_term.specs.declared.term.TermId.{TermId}
 use Rattle.sm_pairs.specs.Pairs.{Pairs}
 use Rattle.sm_cc.specs.Classes.{Setting, Same}
 use Rattle.sm_cc.specs.Rounds.{are_equal}

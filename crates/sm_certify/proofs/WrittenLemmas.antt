@@ -1,6 +1,5 @@
 -- Lines are written for sources and sums until one closes the branch.
-use Rattle.std.proofs.Common.{◌≡◌, ℕ, zero, suc, ◌+◌, true, false, IsTrue, List, [], ◌∷◌, ◌++◌, map, length, slice_get}
-use Rattle.std.proofs.Common.{Bool, refl, sym, ap, ◌∙◌, subst, Option, Some, None, ℤ, pos, if◌then◌else◌, ⊎_elim, not, ◌&&◌, ◌||◌}
+use Rattle.std.proofs.Common.{◌≡◌, ℕ, zero, suc, ◌+◌, true, false, IsTrue, List, [], ◌∷◌, ◌++◌, map, length, slice_get, Bool, refl, sym, ap, ◌∙◌, subst, Option, Some, None, ℤ, pos, if◌then◌else◌, ⊎_elim, not, ◌&&◌, ◌||◌}
 use Rattle.std.specs.Ordering.{int_eq}
 use Rattle.std.proofs.lemmas.List.{append_assoc, map-append, length-append, length-map}
 use Rattle.std.proofs.lemmas.Option.{get_or_from_slice_get, slice_get_within}
@@ -13,7 +12,6 @@ use Rattle.sm_term.specs.Terms.{Tree}
 use Rattle.sm_term.specs.Tables.{tree_at}
 use Rattle.sm_term.specs.SameTerms.{same_tree}
 use Rattle.sm_term.specs.Assertions.{Assertion}
-use Rattle.sm_theory.specs.declared.line.CertLine.{CertLine}
 use Rattle.sm_theory.specs.declared.line.CertLine.TheVariants as line
 use Rattle.sm_theory.specs.Facts.{BranchFact, Formal, Sum, as_facts}
 use Rattle.sm_theory.specs.Lines.{Lin, Elim, followed, formula_in, form_in, formula_at, form_at}
@@ -22,6 +20,7 @@ use Rattle.sm_theory.specs.Arithmetic.{form_of_comparison, form_fact, cancelled}
 use Rattle.sm_theory.specs.Standing.{StandsAt, HaveOnePlace, IsKeptFor}
 use Rattle.sm_theory.specs.Ways.{adds}
 use Rattle.sm_theory.specs.Views.{line_in, IsLineWithin}
+use Rattle.sm_theory.specs.declared.line.CertLine.{CertLine}
 use Rattle.sm_theory.proofs.LinearPlaces.{place_or_not}
 use Rattle.sm_theory.proofs.LinearStanding.{eliminated_stands, can_cancel_stands}
 use Rattle.sm_cc.specs.Explained.{added_by}
@@ -31,13 +30,10 @@ use Rattle.sm_cert.specs.Views.{AreLinesWithin}
 use Rattle.sm_judge.specs.declared.eliminating.ElimLine.{ElimLine}
 use Rattle.sm_judge.specs.Holding.{Seen}
 use Rattle.sm_certify.specs.Refuting.{IfMarked, IsFormAt, StandAsForms, AreWritten}
-use Rattle.sm_certify.proofs.AddingLemmas.{added_both, added_then, added_count, one_thing}
+use Rattle.sm_certify.proofs.AddingLemmas.{added_both, added_then, added_count}
 use Rattle.sm_certify.proofs.SourcesLemmas.{MakesFor, outcome_makes}
-
--- lines one behind the other are within a table
-pub within_both : (n : ℕ) (ls ms : List CertLine) → AreLinesWithin n ls → AreLinesWithin n ms → AreLinesWithin n (ls ++ ms)
-within_both n [] ms h g = g
-within_both n (l ∷ ls) ms h g = (h.0, within_both n ls ms h.1 g)
+use Rattle.sm_list.proofs.RenumberLemmas.{within-append}
+use Rattle.sm_lemmas.proofs.Lists.{one_thing}
 
 -- what is so is so where there is a mark
 pub if_marked : (m : Bool) (P : Type 0) → P → IfMarked m P
@@ -148,7 +144,7 @@ module _ (b : Seen) (mark : ℕ → Bool) where
     abbrev pub written_more : (ls : List CertLine) (next : List BranchFact) → AreLinesWithin (length b.terms) ls →
         added_by b.sorts so_far (map (line_in b.terms) ls) ≡ Some next → AreWritten b mark (lines ++ ls) numbers forms
     written_more ls next within e = record {
-      within = within_both (length b.terms) lines ls w.within within;
+      within = within-append (length b.terms) lines ls w.within within;
       more = w.more ++ next;
       added =
           ap (added_by b.sorts (as_facts b.facts)) (map-append (line_in b.terms) lines ls)

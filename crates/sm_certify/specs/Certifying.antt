@@ -1,13 +1,13 @@
 -- Private: certificates of branches that are closed at once.
 use Rattle.std.specs.Prelude.{◌≡◌, ℕ, Option, Some, None, List, length}
-use Rattle.sm_term.specs.declared.term.TermId.{TermId}
 use Rattle.sm_term.specs.Formulas.{NumberedFormula, Yes, No, Eq, Ne, Le, Lt, And, Or}
-use Rattle.sm_term.specs.Tables.{TableValue, trees_in, sorts_in}
 use Rattle.sm_term.specs.declared.formula.Formula.{Formula}
+use Rattle.sm_term.specs.Tables.{TableValue, trees_in, sorts_in}
+use Rattle.sm_term.specs.declared.term.TermId.{TermId}
 use Rattle.sm_theory.specs.Facts.{as_facts}
-use Rattle.sm_cert.specs.declared.tree.CertTree.{CertTree}
 use Rattle.sm_cert.specs.Certificates.{splits_above}
 use Rattle.sm_cert.specs.Views.{certificate_in, lines_of, AreLinesWithin}
+use Rattle.sm_cert.specs.declared.tree.CertTree.{CertTree}
 use Rattle.sm_certify.specs.Refutes.{Refutes}
 use Rattle.sm_list.specs.Parts.{all_numbered, assertions_in}
 

@@ -3,9 +3,9 @@ use Rattle.std.specs.Prelude.{◌≡◌, ℕ, ◌≤◌, None, List}
 use Rattle.sm_num.specs.Forms.{Linear}
 use Rattle.sm_omega.specs.Counting.{Done}
 use Rattle.sm_omega.specs.Exact.{exact}
-use Rattle.sm_judge.specs.declared.forms.Source.{Source}
 use Rattle.sm_judge.specs.Holding.{Seen}
 use Rattle.sm_judge.specs.Refutations.{AreSources}
+use Rattle.sm_judge.specs.declared.forms.Source.{Source}
 
 -- the forms of these sources have no solution, which takes so many steps of the exact decision to
 -- find, and no more than a line may tell

@@ -5,17 +5,17 @@ use Rattle.sm_num.specs.Forms.{Linear}
 use Rattle.sm_omega.specs.Counting.{Done}
 use Rattle.sm_omega.specs.Exact.{exact}
 use Rattle.sm_term.specs.Terms.{Tree}
-use Rattle.sm_theory.specs.declared.line.CertLine.{CertLine}
 use Rattle.sm_theory.specs.ExactLine.{forms_by_places}
 use Rattle.sm_theory.specs.Facts.{BranchFact, as_facts}
 use Rattle.sm_theory.specs.Lines.{formula_in, form_in}
 use Rattle.sm_theory.specs.TermsOfFormulas.{all_terms}
 use Rattle.sm_theory.specs.Views.{line_in}
+use Rattle.sm_theory.specs.declared.line.CertLine.{CertLine}
 use Rattle.sm_cc.specs.Explained.{added_by}
 use Rattle.sm_cert.specs.Views.{AreLinesWithin}
-use Rattle.sm_judge.specs.declared.forms.Source.{Source}
 use Rattle.sm_judge.specs.Holding.{Seen}
 use Rattle.sm_judge.specs.Refutations.{AreSources}
+use Rattle.sm_judge.specs.declared.forms.Source.{Source}
 
 -- with what lines add to the facts of a branch, the formulas have these terms, in order, and the
 -- linear facts are these forms, in order

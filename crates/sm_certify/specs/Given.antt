@@ -1,12 +1,12 @@
 -- Cited by public clauses: what is given to the classes of a branch, and what is seen by them.
 use Rattle.std.specs.Prelude.{◌≡◌, ℕ, suc, List, [], ◌∷◌, length}
-use Rattle.sm_term.specs.declared.term.TermId.{TermId}
 use Rattle.sm_term.specs.declared.formula.Formula.{Formula}
 use Rattle.sm_term.specs.declared.formula.Formula.TheVariants as tree
 use Rattle.sm_term.specs.Terms.{Tree}
 use Rattle.sm_term.specs.Tables.{TableValue, trees_in, sorts_in}
-use Rattle.sm_cc.specs.declared.classes.GivenFact.{GivenFact}
+use Rattle.sm_term.specs.declared.term.TermId.{TermId}
 use Rattle.sm_cc.specs.Views.{ClassesValue, equation_under, contrary_under}
+use Rattle.sm_cc.specs.declared.classes.GivenFact.{GivenFact}
 use Rattle.sm_judge.specs.Holding.{Seen}
 use Rattle.sm_terms.specs.Listing.{trees_at, numbers_of, AreBelow}
 use Rattle.sm_list.specs.Parts.{all_numbered, assertions_in}

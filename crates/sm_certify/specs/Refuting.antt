@@ -1,24 +1,22 @@
 -- Private: how far the certificate of a refutation is written.
-use Rattle.std.specs.Prelude.{Bool, true, false, get_or, suc}
-use Rattle.std.specs.Prelude.{◌≡◌, ℕ, ◌<◌, ◌+◌, ◌-◌, Some, slice_get, IsTrue, List, [], ◌∷◌, ◌++◌}
-use Rattle.std.specs.Prelude.{map, length}
+use Rattle.std.specs.Prelude.{Bool, true, false, get_or, suc, ◌≡◌, ℕ, ◌<◌, ◌+◌, ◌-◌, Some, slice_get, IsTrue, List, [], ◌∷◌, ◌++◌, map, length}
 use Rattle.sm_num.specs.Forms.{Linear}
 use Rattle.sm_term.specs.Terms.{Tree}
-use Rattle.sm_term.specs.declared.term.TermId.{TermId}
 use Rattle.sm_term.specs.Tables.{trees_in, sorts_in, tree_at}
-use Rattle.sm_theory.specs.declared.line.CertLine.{CertLine}
+use Rattle.sm_term.specs.declared.term.TermId.{TermId}
 use Rattle.sm_theory.specs.declared.line.CertLine.TheVariants as line
 use Rattle.sm_theory.specs.Facts.{BranchFact, Sum, as_facts}
 use Rattle.sm_theory.specs.Standing.{IsKeptFor}
 use Rattle.sm_theory.specs.Views.{line_in}
+use Rattle.sm_theory.specs.declared.line.CertLine.{CertLine}
 use Rattle.sm_cc.specs.Explained.{added_by, Explain, AreLinesOf}
 use Rattle.sm_cc.specs.Views.{ClassesValue, setting_of, equation_of, numbers_of}
 use Rattle.sm_cert.specs.Views.{AreLinesWithin}
-use Rattle.sm_judge.specs.declared.forms.Source.{Source}
 use Rattle.sm_judge.specs.declared.forms.Source.TheVariants as source
 use Rattle.sm_judge.specs.declared.eliminating.ElimLine.{ElimLine}
 use Rattle.sm_judge.specs.Holding.{Seen}
 use Rattle.sm_judge.specs.Refutations.{AreSources, Contradict}
+use Rattle.sm_judge.specs.declared.forms.Source.{Source}
 
 -- the terms of a source are terms of the table, and of one class
 abbrev pub IsUsable : Seen → Source → Type 0

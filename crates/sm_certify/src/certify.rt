@@ -1,6 +1,5 @@
 // Certificates of branches that are closed at once.
-ghost use Rattle.std.specs.Prelude.{◌≡◌, ◌<◌, ◌^◌, IsTrue, IfOk, Some, slice_get};
-ghost use Rattle.std.specs.Prelude.{length};
+ghost use Rattle.std.specs.Prelude.{◌≡◌, ◌<◌, ◌^◌, IsTrue, IfOk, Some, slice_get, length};
 ghost use Rattle.sm_term.specs.Sorted.{AreFormsSorted};
 ghost use Rattle.sm_term.specs.Formulas.{numbered, Ne};
 ghost use Rattle.sm_term.specs.Tables.{trees_in, sorts_in, tree_at};

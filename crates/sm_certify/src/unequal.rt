@@ -1,6 +1,5 @@
 // What the contrary of a goal and its parts add to the facts: pairs of terms that aren't equal.
-ghost use Rattle.std.specs.Prelude.{◌≡◌, ◌<◌, ◌≤◌, ◌++◌, ◌∷◌, [], true, not, map, length, take};
-ghost use Rattle.std.specs.Prelude.{slice_set, IfOk, IfSome};
+ghost use Rattle.std.specs.Prelude.{◌≡◌, ◌<◌, ◌≤◌, ◌++◌, ◌∷◌, [], true, not, map, length, take, slice_set, IfOk, IfSome};
 ghost use Rattle.std.specs.List.{list_all};
 ghost use Rattle.sm_term.specs.declared.formula.Formula.TheVariants as tree;
 ghost use Rattle.sm_cc.specs.declared.classes.GivenFact.{GivenFact};

@@ -6,16 +6,11 @@ use Rattle.sm_io.specs.declared.error.IoError.TheVariants.{Fault as a_fault, Mem
 use Rattle.sm_proof.specs.declared.word.Word.{Word}
 use Rattle.sm_proof.specs.Verdicts.{Subject, Reached, Refused, Before, Verdict, verdict, verdict_at_end, lines_in}
 use Rattle.sm_proof.specs.Verdicts as proof
-use Rattle.sm_check.specs.declared.fault.Stopped.{Stopped}
 use Rattle.sm_check.specs.declared.fault.Stopped.TheVariants as stopped
-use Rattle.sm_check.specs.declared.verifying.Checked.{Checked}
-use Rattle.sm_check.specs.declared.verifying.Checked.TheVariants.{Pass, Rejected}
-use Rattle.sm_check.specs.declared.verifying.CheckError.{CheckError}
-use Rattle.sm_check.specs.declared.verifying.CheckError.TheVariants.{ReadFault, TooLong, Memory}
 use Rattle.sm_check.specs.Aside.{StopsAt}
 use Rattle.sm_check.specs.Errors.{check_error_of}
-use Rattle.sm_check.specs.Files.{Judged, cut_answer, file_answer, TellsAnswer}
-use Rattle.sm_check.specs.Pieces.{StopsIn, reach}
+use Rattle.sm_check.specs.Files.{Judged, cut_answer, file_answer, TellsAnswer, Checked, Pass, Rejected, CheckError, ReadFault, TooLong, Memory}
+use Rattle.sm_check.specs.Pieces.{StopsIn, reach, Stopped}
 use Rattle.sm_check.specs.Stops.{stopped_answer}
 use Rattle.sm_check.proofs.EndLemmas.{answer_past, answer_within, refused_answer, verdict-reach}
 

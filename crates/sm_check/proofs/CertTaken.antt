@@ -1,6 +1,5 @@
 -- How a proof on its way goes on with a line of a certificate.
-use Rattle.std.proofs.Common.{◌≡◌, ℕ, suc, ◌+◌, ◌≤◌, ◌<◌, ◌⊎◌, ⊎_elim, min, Bool, true, false, if◌then◌else◌, Option, Some, None, Result, Ok, Err}
-use Rattle.std.proofs.Common.{List, [], ◌∷◌, length, reverse, refl, sym, ap, ◌∙◌, subst, arith}
+use Rattle.std.proofs.Common.{◌≡◌, ℕ, suc, ◌+◌, ◌≤◌, ◌<◌, ◌⊎◌, ⊎_elim, min, Bool, true, false, if◌then◌else◌, Option, Some, None, Result, Ok, Err, List, [], ◌∷◌, length, reverse, refl, sym, ap, ◌∙◌, subst, arith}
 use Rattle.sm_syntax.specs.claim.ConflictFree.{Copy}
 use Rattle.sm_syntax.specs.declared.copies.PerCopy.{PerCopy}
 use Rattle.sm_syntax.specs.text.Sorts.{Sorts}
@@ -16,24 +15,21 @@ use Rattle.sm_theory.specs.Ways.{Ways, ways}
 use Rattle.sm_theory.specs.Named.{is_split}
 use Rattle.sm_plan.specs.Limits.{is_shallow}
 use Rattle.sm_plan.specs.Views.{stores_in}
-use Rattle.sm_proof.specs.declared.word.Word.{Word}
-use Rattle.sm_proof.specs.declared.word.Word.TheVariants.{BadNumber, Deep, First}
 use Rattle.sm_proof.specs.Lines.{NumberedLine}
 use Rattle.sm_proof.specs.Named.{found_or, tested_or, and_then, named_line, line_head}
+use Rattle.sm_proof.specs.declared.word.Word.{Word}
+use Rattle.sm_proof.specs.declared.word.Word.TheVariants.{BadNumber, Deep, First}
 use Rattle.sm_proof.specs.Passing as plain
 use Rattle.sm_proof.specs.Passing.{Pending, Progress, branches_before, after_line}
-use Rattle.sm_check.specs.declared.fault.LineFault.{LineFault}
-use Rattle.sm_check.specs.declared.fault.LineFault.TheVariants.{Wrong, Memory}
-use Rattle.sm_check.specs.declared.pending.Due.{Due}
 use Rattle.sm_check.specs.declared.pending.Due.TheVariants as due
 use Rattle.sm_check.specs.CertsTaken.{splits_above, pending_after, WalksIn}
-use Rattle.sm_check.specs.declared.forms.FormRow.{FormRow}
-use Rattle.sm_check.specs.FormRows.{RowsStand}
+use Rattle.sm_check.specs.FormRows.{RowsStand, FormRow}
 use Rattle.sm_check.specs.LineKinds.{Misses}
-use Rattle.sm_check.specs.Pending.{AllPending, PendingStands}
-use Rattle.sm_check.specs.Tells.{Tells}
+use Rattle.sm_check.specs.Pending.{AllPending, PendingStands, Due}
+use Rattle.sm_check.specs.Tells.{Tells, LineFault, Wrong, Memory}
 use Rattle.sm_check.specs.Walks.{WalkValue, Walks, terms_in}
-use Rattle.sm_check.proofs.NodesLemmas.{few_enough, too_many, tells_word}
+use Rattle.sm_check.proofs.NodesLemmas.{too_many, tells_word}
+use Rattle.sm_plan.proofs.NodeListsExact.{is_few}
 
 -- how many splits stand above, and whether they are too many
 pub splits_told : (l : NumberedLine) (splits over : ℕ) →
@@ -48,13 +44,13 @@ splits_told l splits over cases =
       λ (few : over ≤ 1000).
           let same : over ≡ suc splits = omega arith in
           let low : suc splits ≤ 1000 = omega arith in
-          (same ∙ sym e, ap is_shallow e ∙ few_enough (suc splits) low),
+          (same ∙ sym e, ap is_shallow e ∙ is_few (suc splits) low),
       λ (many : 1000 < over). let high : 1000 < suc splits = omega arith in ap is_shallow e ∙ too_many (suc splits) high,
     ))
     (λ (h : (is_split l ≡ false) × (over ≡ splits)).
     let e : splits_above l splits ≡ splits = ap (λ (b : Bool). if b then suc splits else splits) h.0 in
     let is = h.1 in (
-      λ (few : over ≤ 1000). let low : splits ≤ 1000 = omega arith in (is ∙ sym e, ap is_shallow e ∙ few_enough splits low),
+      λ (few : over ≤ 1000). let low : splits ≤ 1000 = omega arith in (is ∙ sym e, ap is_shallow e ∙ is_few splits low),
       λ (many : 1000 < over). let high : 1000 < splits = omega arith in ap is_shallow e ∙ too_many splits high,
     ))
     cases

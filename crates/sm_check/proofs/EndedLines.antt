@@ -1,6 +1,5 @@
 -- The lines of bytes that have an end: the first of them, how many there are, and one more.
-use Rattle.std.proofs.Common.{◌≡◌, ◌≤◌, ◌+◌, ◌-◌, ℕ, suc, Bool, true, false, ◌==◌, length, take, drop, List, [], ◌∷◌, ◌++◌, refl, ap, ◌∙◌}
-use Rattle.std.proofs.Common.{arith, append_assoc, sym, if◌then◌else◌}
+use Rattle.std.proofs.Common.{◌≡◌, ◌≤◌, ◌+◌, ◌-◌, ℕ, suc, Bool, true, false, ◌==◌, length, take, drop, List, [], ◌∷◌, ◌++◌, refl, ap, ◌∙◌, arith, append_assoc, sym, if◌then◌else◌}
 use Rattle.std.proofs.lemmas.List.{take_rest, take-append-drop}
 use Rattle.std.proofs.Math.Seq.{take-add}
 use Rattle.sm_proof.specs.Verdicts.{FileLines, lines_in, in_first_line}

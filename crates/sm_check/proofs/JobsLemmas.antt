@@ -1,7 +1,6 @@
 -- Certificates that jobs let pass close the branches that are due.
-use Rattle.std.proofs.Common.{◌≡◌, ◌<◌, ◌≤◌, ◌+◌, ℕ, zero, suc, Bool, true, Option, Some, None, Result, Ok, Err}
-use Rattle.std.proofs.Common.{List, [], ◌∷◌, ◌++◌, length, take}
-use Rattle.std.proofs.Common.{refl, sym, ap, ◌∙◌, subst, arith, reverse, append_assoc, append-nil, get_or, ◌-◌, min, is_some, not, zero-add}
+use Rattle.std.proofs.Common.{◌≡◌, ◌<◌, ◌≤◌, ◌+◌, ℕ, zero, suc, Bool, true, Option, Some, None, Result, Ok, Err, List, [], ◌∷◌, ◌++◌, length, take, refl, sym, ap, ◌∙◌, subst, arith, reverse, append_assoc, append-nil, get_or, ◌-◌, min}
+use Rattle.std.proofs.Common.{is_some, not, zero-add}
 use Rattle.std.proofs.lemmas.List.{length-append, take_more, take_min}
 use Rattle.std.specs.List.{slice_get, slice_index_or}
 use Rattle.std.specs.declared.alloc.Global.{Global}
@@ -13,12 +12,12 @@ use Rattle.sm_syntax.specs.text.Sorts.{Sorts}
 use Rattle.sm_term.specs.Symbolic.{SymbolicStore}
 use Rattle.sm_term.specs.declared.symbolic.SymStore.{SymStore}
 use Rattle.sm_term.specs.Tables.{AreBefore}
-use Rattle.sm_term.specs.Terms.{Tree}
 use Rattle.sm_term.specs.declared.term.TermId.{TermId}
-use Rattle.sm_theory.specs.declared.fact.Fact.{Fact}
+use Rattle.sm_term.specs.Terms.{Tree}
 use Rattle.sm_theory.specs.Facts.{BranchFact}
 use Rattle.sm_theory.specs.SortedFacts.{AreFactsSorted}
 use Rattle.sm_theory.specs.Views.{FactStands, AllStand}
+use Rattle.sm_theory.specs.declared.fact.Fact.{Fact}
 use Rattle.sm_plan.specs.Views.{stores_in}
 use Rattle.sm_proof.specs.declared.word.Word.{Word}
 use Rattle.sm_proof.specs.Lines.{NumberedLine, Cert}
@@ -26,16 +25,14 @@ use Rattle.sm_proof.specs.Passing as plain
 use Rattle.sm_proof.specs.Passing.{Pending}
 use Rattle.sm_proof.specs.Versions.{read_with}
 use Rattle.sm_check.specs.declared.openings.Opening.{Opening}
-use Rattle.sm_check.specs.declared.pending.Due.{Due}
 use Rattle.sm_check.specs.declared.pending.Due.TheVariants as due
-use Rattle.sm_check.specs.declared.pending.Waiting.{Waiting}
 use Rattle.sm_check.specs.declared.raw_lines.RawLines.{RawLines}
 use Rattle.sm_check.specs.declared.pending.Waiting.TheVariants as waits
 use Rattle.sm_check.specs.Aside.{certificates_of}
 use Rattle.sm_check.specs.CertsTaken.{pending_after}
 use Rattle.sm_check.specs.Closing.{LeadsTo, Closes, CloseFirst, IsGoalDue, MoreStands, OpensAs, OpenFirst, Passes}
 use Rattle.sm_check.specs.LineEnds.{ended_in}
-use Rattle.sm_check.specs.Pending.{shared_by, WaitingStands, AllWait, AllPending, PendingStands}
+use Rattle.sm_check.specs.Pending.{shared_by, WaitingStands, AllWait, AllPending, PendingStands, Waiting, Due}
 use Rattle.sm_check.specs.Tells.{Tells}
 use Rattle.sm_check.proofs.ClosingLemmas.{closes_restored}
 use Rattle.sm_check.proofs.PendingLemmas.{take_whole, stand_cut, stand_long, sorted_cut, last_first}

@@ -1,12 +1,10 @@
 -- Formulas made of rows.
-use Rattle.std.proofs.Common.{◌≡◌, ℕ, zero, suc, ◌+◌, ◌<◌, ◌≤◌, min, nat_le, Bool, true, false, ◌&&◌, length, slice_get, Some, None, List, [], ◌∷◌}
-use Rattle.std.proofs.Common.{refl, sym, ap, ◌∙◌, subst, arith, ◌⊎◌}
-use Rattle.std.proofs.Common.{⊎_elim, map, ◌++◌, not, ◌||◌, if◌then◌else◌}
+use Rattle.std.proofs.Common.{◌≡◌, ℕ, ◌+◌, ◌<◌, ◌≤◌, min, nat_le, Bool, true, false, ◌&&◌, length, slice_get, Some, None, List, [], ◌∷◌, refl, sym, ap, ◌∙◌, subst, arith, ◌⊎◌, ⊎_elim, map, ◌++◌, not, ◌||◌, if◌then◌else◌}
 use Rattle.std.proofs.lemmas.Bool.Decides.{nat_tests}
 use Rattle.std.proofs.lemmas.Option.{same_Some}
 use Rattle.sm_syntax.specs.claim.ConflictFree.{Copy}
 use Rattle.sm_syntax.specs.text.Parts.{by_copy}
-use Rattle.sm_term.specs.Assertions.{conj}
+use Rattle.sm_term.specs.Assertions.{conj, Assertion}
 use Rattle.sm_term.specs.Slots.{all_at_stores}
 use Rattle.sm_plan.specs.Copies.{each, has, is_inhabited, subsets}
 use Rattle.sm_plan.specs.Limits.{form_nodes, form_depth, is_kept}
@@ -19,23 +17,16 @@ use Rattle.sm_plan.specs.Successors as next
 use Rattle.sm_proof.specs.declared.line.NodeLine.{NodeLine}
 use Rattle.sm_proof.specs.declared.line.NodeLine.TheVariants as node
 use Rattle.sm_check.specs.Kept.{keep_of, node_with}
-use Rattle.sm_syntax.specs.declared.tree.Sort.TheVariants.{Num}
 use Rattle.sm_syntax.specs.text.Sorts.{Sorts}
-use Rattle.sm_term.specs.Assertions.{Assertion}
+use Rattle.sm_syntax.specs.declared.tree.Sort.TheVariants.{Num}
 use Rattle.sm_term.specs.Sorted.{tree_sort, HasSort}
 use Rattle.sm_term.specs.Tables.{tree_at}
 use Rattle.sm_term.specs.TableLaws.{AreTreesSorted}
 use Rattle.sm_term.specs.Terms.{Tree}
 use Rattle.sm_proof.specs.declared.line.FormLine.{FormLine}
-use Rattle.sm_check.specs.declared.forms.FormRow.{FormRow}
-use Rattle.sm_check.specs.FormRows.{joined, row_form, RowsStand, IsRowReady, AreRowsReady, HaveOneSort, AreNumeric}
+use Rattle.sm_check.specs.FormRows.{joined, row_form, RowsStand, IsRowReady, AreRowsReady, HaveOneSort, AreNumeric, FormRow}
 use Rattle.sm_check.proofs.FormRowsLemmas.{there_too, joined_there}
-
--- something is at each place before the end
-pub has_place : {T : Type 0} (xs : List T) (n : ℕ) → n < length xs → (x : T) × (slice_get xs n ≡ Some x)
-has_place [] n h = absurd (omega arith)
-has_place (x ∷ xs) zero h = (x, refl)
-has_place (x ∷ xs) (suc n) h = let less : n < length xs = omega arith in has_place xs n less
+use Rattle.sm_lemmas.proofs.Lists.{get_below}
 
 module _ (sorts : Sorts) (trees : List Tree) (rows : List FormRow) where
   -- the formula of a row, by what it makes
@@ -50,8 +41,8 @@ module _ (sorts : Sorts) (trees : List Tree) (rows : List FormRow) where
       row_form sorts trees forms made ≡ joined forms p q makes → p < length rows → q < length rows →
       ((g : Assertion) → slice_get forms p ≡ Some g → a ≡ g) → ((g : Assertion) → slice_get forms q ≡ Some g → b ≡ g) → makes a b ≡ f
   both_made forms n p q row made makes a b f stand there is form e first second one other =
-      let here = has_place rows p first in
-      let near = has_place rows q second in
+      let here = get_below rows p first in
+      let near = get_below rows q second in
       let g = there_too rows forms p here.0 stand.count here.1 in
       let h = there_too rows forms q near.0 stand.count near.1 in
       ap (λ (x : Assertion). makes x b) (one g.0 g.1)

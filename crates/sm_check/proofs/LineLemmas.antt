@@ -1,16 +1,15 @@
 -- The lines of bytes that come after others, and how far they come.
-use Rattle.std.proofs.Common.{◌≡◌, ◌<◌, ℕ, suc, Bool, true, false, ◌==◌, nat_le, length, List, [], ◌∷◌, ◌++◌, refl, ap, ◌∙◌, if◌then◌else◌}
-use Rattle.std.proofs.Common.{Result, Ok, Err, arith}
+use Rattle.std.proofs.Common.{◌≡◌, ◌<◌, ℕ, suc, Bool, true, false, ◌==◌, nat_le, length, List, [], ◌∷◌, ◌++◌, refl, ap, ◌∙◌, if◌then◌else◌, Result, Ok, Err, arith}
 use Rattle.std.proofs.lemmas.Bool.Decides.{nat_tests}
 use Rattle.sm_proof.specs.declared.word.Word.{Word}
 use Rattle.sm_proof.specs.declared.word.Word.TheVariants.{BadLine}
 use Rattle.sm_proof.specs.Reading.{read}
 use Rattle.sm_proof.specs.Versions.{begins_exact}
-use Rattle.sm_proof.specs.Verdicts.{Subject, Standing, Unopened, Reached, Refused, Before, reached, reached_after}
-use Rattle.sm_proof.specs.Verdicts.{FileLines, lines_in, in_first_line}
+use Rattle.sm_proof.specs.Verdicts.{Subject, Standing, Unopened, Reached, Refused, Before, reached, reached_after, FileLines, lines_in, in_first_line}
 use Rattle.sm_check.specs.Aside.{IsNoLine, standing_after}
 use Rattle.sm_check.specs.LineEnds.{HasNoEnd}
 use Rattle.sm_check.specs.Pieces.{reach}
+use Rattle.sm_proof.proofs.ReadLemmas.{long_line}
 
 -- lines with a rest behind
 abbrev pub lines_of : List (List ℕ) → List ℕ → FileLines
@@ -125,17 +124,11 @@ reach_refused s bytes more k w e =
     let tail = lines_in-more bytes more in
     ap (reached s 1 Unopened) tail.1 ∙ reached_refused s 1 Unopened (lines_in bytes).ended tail.0 k w e
 
--- a line has at most 4,096 bytes
-long_lines_are_bad : (bytes : List ℕ) → 4096 < length bytes → read bytes ≡ Err BadLine
-unfolding read
-long_lines_are_bad bytes long =
-    let over_long : nat_le (length bytes) 4096 ≡ false = grind (arith, nat_tests) in rw over_long refl
-
 -- in files of each version
 pub long_line_is_none : (bytes : List ℕ) → 4096 < length bytes → IsNoLine bytes BadLine
-long_line_is_none bytes long true = long_lines_are_bad bytes long
+long_line_is_none bytes long true = long_line bytes long
 long_line_is_none bytes long false = by (begins_exact bytes)
   where
     by : (b : Bool) → (if b then Err BadLine else read bytes) ≡ Err BadLine
     by true = refl
-    by false = long_lines_are_bad bytes long
+    by false = long_line bytes long

@@ -1,8 +1,7 @@
 -- A node's line taken, step by step.
-use Rattle.std.proofs.Common.{◌≡◌, ℕ, zero, suc, ◌+◌, ◌<◌, ◌≤◌, nat_le, Bool, true, false, if◌then◌else◌, length, slice_get, Option, Some, None, Result, Ok, Err, List, [], ◌∷◌}
-use Rattle.std.proofs.Common.{refl, sym, ap, ◌∙◌, subst, arith, ◌⊎◌, ⊎_elim, min}
+use Rattle.std.proofs.Common.{◌≡◌, ℕ, suc, ◌+◌, ◌<◌, ◌≤◌, nat_le, Bool, true, false, if◌then◌else◌, length, slice_get, Option, Some, None, Result, Ok, Err, List, [], refl, sym, ap, ◌∙◌, subst, arith, ◌⊎◌, ⊎_elim, min}
 use Rattle.std.proofs.lemmas.Bool.Decides.{nat_tests}
-use Rattle.std.proofs.lemmas.Option.{same_Some}
+use Rattle.std.proofs.lemmas.Option.{same_Some, slice_get_past}
 use Rattle.sm_syntax.specs.text.Parts.{by_copy}
 use Rattle.sm_term.specs.Assertions as plain
 use Rattle.sm_term.specs.Assertions.{Assertion}
@@ -15,17 +14,16 @@ use Rattle.sm_plan.specs.Nodes.{opened_by}
 use Rattle.sm_plan.specs.States.{State}
 use Rattle.sm_proof.specs.declared.line.NodeLine.{NodeLine}
 use Rattle.sm_proof.specs.declared.line.NodeLine.TheVariants as node
+use Rattle.sm_proof.specs.Named.{found_or, tested_or, named_node, node_head}
 use Rattle.sm_proof.specs.declared.word.Word.{Word}
 use Rattle.sm_proof.specs.declared.word.Word.TheVariants.{BadNumber, Deep, First}
-use Rattle.sm_proof.specs.Named.{found_or, tested_or, named_node, node_head}
 use Rattle.sm_check.specs.declared.forms.FormRow.{FormRow}
-use Rattle.sm_check.specs.declared.fault.LineFault.{LineFault}
-use Rattle.sm_check.specs.declared.fault.LineFault.TheVariants.{Wrong}
 use Rattle.sm_check.specs.Kept.{keep_of, IsThere, IsKeptForm, node_with}
 use Rattle.sm_check.specs.NodesTaken.{opened_or}
-use Rattle.sm_check.specs.Tells.{Tells}
+use Rattle.sm_check.specs.Tells.{Tells, LineFault, Wrong}
 use Rattle.sm_check.proofs.FormRowsLemmas.{there_too}
-use Rattle.sm_check.proofs.KeptLemmas.{has_place}
+use Rattle.sm_plan.proofs.NodeListsExact.{is_few}
+use Rattle.sm_lemmas.proofs.Lists.{get_below}
 
 -- whether a line branches, by its kind alone
 pub loop_branches : (f : Assertion) (set keep : ℕ) → plan.is_branching (node_with f (node.Loop set keep)) ≡ true
@@ -40,7 +38,7 @@ pub kept_there : (rows : List FormRow) (forms : List Assertion) (n : Option ℕ)
     (f : Assertion) × IsKeptForm forms n f
 kept_there rows forms None same there = (plain.Yes, refl)
 kept_there rows forms (Some n) same there =
-    let row = has_place rows n there in
+    let row = get_below rows n there in
     there_too rows forms n row.0 same row.1
 
 -- the node of a line
@@ -58,12 +56,6 @@ named_kept forms f (node.Block k0 k1 k2 k3 keep) kept =
 named_kept forms f node.Dead kept = refl
 named_kept forms f node.End kept = refl
 
--- nothing is past the end
-no_place : {T : Type 0} (xs : List T) (n : ℕ) → length xs ≤ n → slice_get xs n ≡ None
-no_place [] n h = refl
-no_place (x ∷ xs) zero h = absurd (omega arith)
-no_place (x ∷ xs) (suc n) h = let less : length xs ≤ n = omega arith in no_place xs n less
-
 -- a line whose formula isn't there
 pub named_missing : (forms : List Assertion) (line : NodeLine) (n : ℕ) → keep_of line ≡ Some n → length forms ≤ n → named_node forms line ≡ None
 named_missing forms (node.Step c) n e h = absurd cc
@@ -74,11 +66,11 @@ named_missing forms (node.Loop set keep) n e h =
     let far : length forms ≤ keep = omega arith in
     ap
     (λ (o : Option Assertion). followed o (λ (g : Assertion). Some (if nat_le set 15 then plan.Loop (set_of set) g else plan.Unfit 4)))
-    (no_place forms keep far)
+    (slice_get_past forms keep far)
 named_missing forms (node.Block k0 k1 k2 k3 keep) n e h =
     let same = same_Some keep n e in
     let far : length forms ≤ keep = omega arith in
-    ap (λ (o : Option Assertion). followed o (λ (g : Assertion). Some (plan.Block (by_copy k0 k1 k2 k3) g))) (no_place forms keep far)
+    ap (λ (o : Option Assertion). followed o (λ (g : Assertion). Some (plan.Block (by_copy k0 k1 k2 k3) g))) (slice_get_past forms keep far)
 named_missing forms node.Dead n e h = absurd cc
 named_missing forms node.End n e h = absurd cc
 
@@ -128,11 +120,6 @@ module _ (forms : List Assertion) (k : ℕ) (st : State) (above : ℕ) (line : N
 pub tells_word : {S T : Type 0} (P : S → T → Type 0) (w : Word) (r : Result T Word) → r ≡ Err w → Tells P (Err (Wrong w)) r
 tells_word P w r e = subst (Tells P (Err (Wrong w))) (sym e) refl
 
--- how many branching nodes stand above, and whether they are too many
-pub few_enough : (m : ℕ) → m ≤ 1000 → is_shallow m ≡ true
-unfolding is_shallow
-few_enough m h = grind (arith, nat_tests)
-
 pub too_many : (m : ℕ) → 1000 < m → is_shallow m ≡ false
 unfolding is_shallow
 too_many m h = grind (arith, nat_tests)
@@ -149,13 +136,13 @@ above_told n above over cases =
       λ (few : over ≤ 1000).
           let same : over ≡ suc above = omega arith in
           let low : suc above ≤ 1000 = omega arith in
-          (same ∙ sym e, ap is_shallow e ∙ few_enough (suc above) low),
+          (same ∙ sym e, ap is_shallow e ∙ is_few (suc above) low),
       λ (many : 1000 < over). let high : 1000 < suc above = omega arith in ap is_shallow e ∙ too_many (suc above) high,
     ))
     (λ (h : (plan.is_branching n ≡ false) × (over ≡ above)).
     let e : above_opened n above ≡ above = ap (λ (b : Bool). if b then suc above else above) h.0 in
     let is = h.1 in (
-      λ (few : over ≤ 1000). let low : above ≤ 1000 = omega arith in (is ∙ sym e, ap is_shallow e ∙ few_enough above low),
+      λ (few : over ≤ 1000). let low : above ≤ 1000 = omega arith in (is ∙ sym e, ap is_shallow e ∙ is_few above low),
       λ (many : 1000 < over). let high : 1000 < above = omega arith in ap is_shallow e ∙ too_many above high,
     ))
     cases

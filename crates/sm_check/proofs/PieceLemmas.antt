@@ -1,30 +1,28 @@
 -- Lines of a proof file that were taken, one after the other.
-use Rattle.std.proofs.Common.{◌≡◌, ◌<◌, ◌+◌, ◌-◌, ℕ, suc, Bool, true, false, ◌==◌, length, take, drop, List, [], ◌∷◌, ◌++◌, refl, sym, ap}
-use Rattle.std.proofs.Common.{◌∙◌, subst, Result, Ok, Err, Option, Some, None, append_assoc, arith, get_or, inl, inr, length-take}
+use Rattle.std.proofs.Common.{◌≡◌, ◌<◌, ◌+◌, ◌-◌, ℕ, suc, Bool, true, false, ◌==◌, length, take, drop, List, [], ◌∷◌, ◌++◌, refl, sym, ap, ◌∙◌, subst, Result, Ok, Err, Option, Some, None, append_assoc, arith, get_or, inl, inr, length-take}
 use Rattle.std.specs.Prelude.{IfSome}
 use Rattle.std.proofs.lemmas.Bool.Decides.{nat_tests}
 use Rattle.std.specs.Result.{IfErr, IsErrAnd}
 use Rattle.std.proofs.lemmas.List.{take_more, get_or-take, take_rest, take-append-drop}
 use Rattle.std.proofs.Math.Seq.{take-add}
 use Rattle.memchr.specs.Find.{IsFirstByte, is_byte}
-use Rattle.sm_proof.specs.declared.word.Word.{Word}
-use Rattle.sm_proof.specs.declared.word.Word.TheVariants.{BadLine}
 use Rattle.sm_proof.specs.Lines.{ProofLine}
 use Rattle.sm_proof.specs.Named.{tested_or, and_then}
+use Rattle.sm_proof.specs.declared.word.Word.{Word}
+use Rattle.sm_proof.specs.declared.word.Word.TheVariants.{BadLine}
 use Rattle.sm_proof.specs.Passing.{Progress, taken}
 use Rattle.sm_proof.specs.Verdicts.{Subject, Standing, Unopened, Underway, Before, next_standing, opens_if, passes_version}
 use Rattle.sm_proof.specs.Versions.{has_exact, may_stand}
 use Rattle.sm_check.specs.declared.checker.Checker.{Checker}
 use Rattle.sm_check.specs.declared.fault.LineFault.{LineFault}
 use Rattle.sm_check.specs.declared.fault.LineFault.TheVariants as fault
-use Rattle.sm_check.specs.declared.fault.Stopped.{Stopped}
-use Rattle.sm_check.specs.declared.fault.Stopped.TheVariants.{Wrong, Memory}
 use Rattle.sm_check.specs.declared.taken_lines.TakenLines.{TakenLines}
 use Rattle.sm_check.specs.declared.unfinished.Unfinished.{Unfinished}
 use Rattle.sm_check.specs.Checkers.{GoesOn, Stops}
 use Rattle.sm_check.specs.LineEnds.{HasNoEnd, Keeps}
-use Rattle.sm_check.specs.Pieces.{is_unopened, StandsAt, Takes, RefusesAt, IsKept, AreTaken, StopsIn}
+use Rattle.sm_check.specs.Pieces.{is_unopened, StandsAt, Takes, RefusesAt, IsKept, AreTaken, StopsIn, Stopped, Wrong, Memory}
 use Rattle.sm_check.proofs.LineLemmas.{reach_refused, reach-nil}
+use Rattle.std.proofs.lemmas.Bool.{false_from_ne_true}
 
 -- whether a line leaves the proof before its version line
 abbrev pub opens_of : Result Standing Word → Bool
@@ -66,15 +64,11 @@ refuses s (Ok at) c n e w is stops = absurd (let same = stops.0 in cc)
 refuses s (Err v) c n e w is (inl stops) = (refl, let same = stops.0 in cc)
 refuses s (Err v) c n e w is (inr stops) = absurd (let same = stops.0 in cc)
 
-not_true : (test : Bool) → (test ≡ true → ⊥) → test ≡ false
-not_true true h = absurd (h refl)
-not_true false h = refl
-
 -- bytes of which none ends a line, by places
 pub no_end_from : (bytes : List ℕ) → ((k : ℕ) → k < length bytes → (get_or bytes k 0 == 10) ≡ true → ⊥) → HasNoEnd bytes
 no_end_from [] h = tt
 no_end_from (b ∷ bs) h = (
-  not_true (b == 10) (h 0 (omega arith)),
+  false_from_ne_true (b == 10) (h 0 (omega arith)),
   no_end_from bs (λ (k : ℕ) (below : k < length bs). h (suc k) (omega arith)),
 )
 

@@ -3,12 +3,11 @@ use Rattle.std.proofs.Common.{◌≡◌, true, ℕ, List, [], ◌∷◌, ◌++�
 use Rattle.std.specs.Result.{OnOk, IfErr}
 use Rattle.sm_proof.specs.declared.word.Word.TheVariants.{BadLine}
 use Rattle.sm_proof.specs.Verdicts.{Subject, Unopened, FileLines, lines_in, reached}
-use Rattle.sm_check.specs.declared.fault.Stopped.{Stopped}
 use Rattle.sm_check.specs.declared.taken_lines.TakenLines.{TakenLines}
 use Rattle.sm_check.specs.declared.unfinished.Unfinished.{Unfinished}
 use Rattle.sm_check.specs.Aside.{AreRead, ComesTo, StopsAt, IsNoLine, with_line}
 use Rattle.sm_check.specs.LineEnds.{HasNoEnd, ended_in}
-use Rattle.sm_check.specs.Pieces.{AreTaken, IsKept, StopsIn, reach}
+use Rattle.sm_check.specs.Pieces.{AreTaken, IsKept, StopsIn, reach, Stopped}
 use Rattle.sm_check.proofs.AsideLemmas.{line_not_read, line_read, reached-lines, taken_read, with_lines}
 use Rattle.sm_check.proofs.EndedLines.{lines_in-behind}
 use Rattle.sm_check.proofs.LineLemmas.{lines_in-rest, long_line_is_none, reach-rest}

@@ -5,9 +5,7 @@ use Rattle.sm_term.specs.Tables.{trees_in, sorts_in}
 use Rattle.sm_term.specs.Terms.{Tree}
 use Rattle.sm_theory.specs.Facts.{BranchFact}
 use Rattle.sm_proof.specs.Passing.{Pending, Progress}
-use Rattle.sm_check.specs.declared.pending.Due.{Due}
-use Rattle.sm_check.specs.declared.pending.Waiting.{Waiting}
-use Rattle.sm_check.specs.Pending.{AllWait, AllPending, PendingStands, OnlyWaiting}
+use Rattle.sm_check.specs.Pending.{AllWait, AllPending, PendingStands, OnlyWaiting, Waiting, Due}
 use Rattle.sm_check.specs.Walks.{WalkValue, Walks}
 use Rattle.sm_check.proofs.CertTaken.{walks_on}
 

@@ -1,5 +1,5 @@
 -- A task that a text spells stands as it is declared, and its declared names are numbered from 0 on.
-use Rattle.std.proofs.Common.{◌≡◌, ℕ, Bool, Option, Some, None, unwrap_or, List, [], ◌∷◌, ◌++◌, length, refl, ap, ◌∙◌}
+use Rattle.std.proofs.Common.{◌≡◌, ℕ, Option, Some, None, List, [], ◌∷◌, ◌++◌, length, ap, ◌∙◌}
 use Rattle.std.specs.List.{AllByRecursion}
 use Rattle.std.specs.Option.{option_or}
 use Rattle.sm_syntax.proofs.EachUse.{well_sorted_is_all}
@@ -7,47 +7,25 @@ use Rattle.sm_syntax.proofs.Uses.{first_sort_fault-append, first_sort_fault-none
 use Rattle.sm_syntax.specs.claim.ConflictFree.{Copy, O, A, B, M, program_of}
 use Rattle.sm_syntax.specs.claim.Fill.{fill}
 use Rattle.sm_syntax.specs.claim.Syntax.{Condition, Code, End, While}
-use Rattle.sm_syntax.specs.declared.tree.Sort.{Sort}
-use Rattle.sm_syntax.specs.declared.tree.Sort.TheVariants.{Num, Arr}
-use Rattle.sm_syntax.specs.text.Conditions.{Refusal, TooMany, first_of_all, first_of_lists, first_sort_fault, sort_refusal, double_name}
-use Rattle.sm_syntax.specs.text.Conditions.{first_output_fault, output_refusal, is_in, over, size_fault, program_fault, double_hole}
-use Rattle.sm_syntax.specs.text.Conditions.{hole_in_filling, unknown_hole, missing_filling, ill_formed, ill_assumed, first_refusal}
-use Rattle.sm_syntax.specs.text.Conditions.{code_nodes, code_depth, condition_nodes, condition_depth}
+use Rattle.sm_syntax.specs.text.Conditions.{Refusal, TooMany, first_of_all, first_sort_fault, sort_refusal, double_name, first_output_fault, output_refusal, is_in, over, size_fault, program_fault, double_hole, hole_in_filling, unknown_hole}
+use Rattle.sm_syntax.specs.text.Conditions.{missing_filling, ill_formed, ill_assumed, first_refusal, code_nodes, code_depth, condition_nodes, condition_depth}
 use Rattle.sm_syntax.specs.text.Parts.{Parts, sort_of, sorted_outputs, task_of}
 use Rattle.sm_syntax.specs.text.Sorts.{Sorts, IsAsDeclared, IsWellSorted, IsWellSortedCondition}
+use Rattle.sm_syntax.specs.declared.tree.Sort.{Sort}
 use Rattle.sm_syntax.specs.text.Uses.{names_tested, names_used}
 use Rattle.sm_text.proofs.Numbering.DeclaredInOrder.{declared_in_order}
 use Rattle.sm_plan.specs.SortedStates.{AreOutputsDeclared, IsAssumptionSorted}
 use Rattle.sm_check.specs.Laws.{SpelledIsCheckable}
-
--- no fault of two is neither
-neither : (a b : Option Refusal) → option_or a b ≡ None → (a ≡ None) × (b ≡ None)
-neither None b none = (refl, none)
-neither (Some r) b none = cc
-
--- no fault of the four copies is none of each
-each_none : (f : Copy → Option Refusal) → first_of_lists f ≡ None → (c : Copy) → f c ≡ None
-each_none f none O = (neither (f O) _ none).0
-each_none f none A = (neither (f A) _ (neither (f O) _ none).1).0
-each_none f none B = (neither (f B) _ (neither (f A) _ (neither (f O) _ none).1).1).0
-each_none f none M = (neither (f M) _ (neither (f B) _ (neither (f A) _ (neither (f O) _ none).1).1).1).0
-
--- a sort that isn't refused
-declared_so : (o : Option Sort) (sort : Sort) (x : ℕ) → sort_refusal o sort x ≡ None → o ≡ Some sort
-declared_so None sort x none = cc
-declared_so (Some Num) Num x none = refl
-declared_so (Some Num) Arr x none = cc
-declared_so (Some Arr) Num x none = cc
-declared_so (Some Arr) Arr x none = refl
+use Rattle.sm_syntax.proofs.Refusals.{neither_refuses, declared_sort, each_none, has_sort}
 
 -- names without a fault are declared as they stand
-all_declared : (sorts : Sorts) (uses : List (ℕ × Sort)) → first_sort_fault sorts uses ≡ None
+pub all_declared : (sorts : Sorts) (uses : List (ℕ × Sort)) → first_sort_fault sorts uses ≡ None
     → AllByRecursion (λ (u : ℕ × Sort). IsAsDeclared sorts u.0 u.1) uses
 unfolding first_sort_fault
 all_declared sorts [] none = tt
 all_declared sorts (u ∷ uses) none =
-    let both = neither (sort_refusal (sorts u.0) u.1 u.0) (first_sort_fault sorts uses) none in
-    (declared_so (sorts u.0) u.1 u.0 both.0, all_declared sorts uses both.1)
+    let both = neither_refuses (sort_refusal (sorts u.0) u.1 u.0) (first_sort_fault sorts uses) none in
+    (declared_sort (sorts u.0) u.1 u.0 both.0, all_declared sorts uses both.1)
 
 code_sorted : (sorts : Sorts) (c : Code) → first_sort_fault sorts (names_used c) ≡ None → IsWellSorted sorts c
 code_sorted sorts c none = (well_sorted_is_all sorts c).1 (all_declared sorts (names_used c) none)
@@ -60,17 +38,12 @@ condition_sorted sorts b none =
     ∙ first_sort_fault-none sorts in
     (code_sorted sorts (While b End End) (more (names_tested b ++ []) (more (names_tested b) none))).0
 
--- what is declared has a sort
-has_sort : (o : Option Sort) (stood : Bool) (x : ℕ) → output_refusal o stood x ≡ None → o ≡ Some (unwrap_or o Num)
-has_sort None stood x none = cc
-has_sort (Some sort) stood x none = refl
-
 outputs_declared : (declared : List (ℕ × Sort)) (seen outputs : List ℕ) → first_output_fault (sort_of declared) seen outputs ≡ None
     → AreOutputsDeclared (sort_of declared) (sorted_outputs declared outputs)
 outputs_declared declared seen [] none = tt
 outputs_declared declared seen (x ∷ rest) none =
     let both =
-    neither (output_refusal (sort_of declared x) (is_in seen x) x) (first_output_fault (sort_of declared) (x ∷ seen) rest) none in
+    neither_refuses (output_refusal (sort_of declared x) (is_in seen x) x) (first_output_fault (sort_of declared) (x ∷ seen) rest) none in
     (has_sort (sort_of declared x) (is_in seen x) x both.0, outputs_declared declared (x ∷ seen) rest both.1)
 
 -- a program without a fault: its outputs are declared, and its names as they stand
@@ -80,9 +53,9 @@ unfolding program_fault
 program_free declared outputs c none =
     let names = first_sort_fault (sort_of declared) (names_used c) in
     let sizes = over 200 (length declared) TooMany ∷ size_fault (code_nodes c) (code_depth c) ∷ [] in
-    let after = neither (double_name declared) (first_of_all (first_output_fault (sort_of declared) [] outputs ∷ names ∷ sizes)) none in
-    let rest = neither (first_output_fault (sort_of declared) [] outputs) (first_of_all (names ∷ sizes)) after.1 in
-    (rest.0, (neither names (first_of_all sizes) rest.1).0)
+    let after = neither_refuses (double_name declared) (first_of_all (first_output_fault (sort_of declared) [] outputs ∷ names ∷ sizes)) none in
+    let rest = neither_refuses (first_output_fault (sort_of declared) [] outputs) (first_of_all (names ∷ sizes)) after.1 in
+    (rest.0, (neither_refuses names (first_of_all sizes) rest.1).0)
 
 -- an assumption without a fault is sorted
 assumption_sorted : (declared : List (ℕ × Sort)) (assumed : Option Condition) → ill_assumed declared assumed ≡ None
@@ -92,18 +65,18 @@ assumption_sorted declared None none = tt
 assumption_sorted declared (Some b) none =
     let names = first_sort_fault (sort_of declared) (names_tested b) in
     condition_sorted (sort_of declared) b
-    (neither names (first_of_all (size_fault (condition_nodes b) (condition_depth b) ∷ [])) none).0
+    (neither_refuses names (first_of_all (size_fault (condition_nodes b) (condition_depth b) ∷ [])) none).0
 
 -- the conditions on programs and on the assumption hold where all do
 last_two : (t : Parts) → first_refusal t ≡ None → (ill_formed t ≡ None) × (ill_assumed t.declared t.assumed ≡ None)
 unfolding first_refusal
 last_two t none =
-    let a = neither (double_hole t) _ none in
-    let b = neither (hole_in_filling t) _ a.1 in
-    let c = neither (unknown_hole t) _ b.1 in
-    let d = neither (missing_filling t) _ c.1 in
-    let e = neither (ill_formed t) _ d.1 in
-    (e.0, (neither (ill_assumed t.declared t.assumed) None e.1).0)
+    let a = neither_refuses (double_hole t) _ none in
+    let b = neither_refuses (hole_in_filling t) _ a.1 in
+    let c = neither_refuses (unknown_hole t) _ b.1 in
+    let d = neither_refuses (missing_filling t) _ c.1 in
+    let e = neither_refuses (ill_formed t) _ d.1 in
+    (e.0, (neither_refuses (ill_assumed t.declared t.assumed) None e.1).0)
 
 -- each program is well formed
 formed_programs : (t : Parts) → ill_formed t ≡ None → (c : Copy)

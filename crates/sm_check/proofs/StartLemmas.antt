@@ -1,25 +1,19 @@
 -- The start of a proof, over a table of the declared names, which are numbered from 0 on.
-use Rattle.std.proofs.Common.{◌≡◌, ℕ, zero, suc, ◌+◌, ◌-◌, ◌^◌, ◌<◌, ◌≤◌, ◌==◌, nat_lt, Bool, true, false, if◌then◌else◌, is_some, Option, Some, None}
-use Rattle.std.proofs.Common.{List, [], ◌∷◌, length, map, get_or, slice_get, refl, sym, ap, ◌∙◌, subst, arith}
+use Rattle.std.proofs.Common.{◌≡◌, ℕ, zero, suc, ◌+◌, ◌-◌, ◌^◌, ◌<◌, ◌≤◌, ◌==◌, nat_lt, Bool, true, false, if◌then◌else◌, is_some, Some, List, [], ◌∷◌, length, map, get_or, slice_get, refl, sym, ap, ◌∙◌, subst, arith}
 use Rattle.std.proofs.lemmas.Bool.{eq-eqb}
 use Rattle.std.proofs.lemmas.Bool.Decides.{nat_tests}
 use Rattle.std.proofs.lemmas.List.{length-map}
 use Rattle.std.proofs.lemmas.Option.{slice_get_within, same_Some}
 use Rattle.std.proofs.lemmas.List.FromFn.{get_or-range_with_len}
 use Rattle.sm_syntax.specs.declared.tree.Name.{Name}
-use Rattle.sm_syntax.specs.declared.tree.Sort.{Sort}
 use Rattle.sm_syntax.specs.text.Parts.{sort_of}
 use Rattle.sm_plan.specs.Starts.{AreNumbered}
 use Rattle.sm_plan.proofs.StartsMade.{pairs, declared_below}
-use Rattle.std.proofs.Common.{Bor, option_map}
-use Rattle.std.specs.Option.{option_copied}
-use Rattle.sm_syntax.specs.declared.tree.Cond.{Cond}
-use Rattle.sm_syntax.specs.trees.Views.{condition_of}
 use Rattle.sm_syntax.specs.text.Sorts.{Sorts}
+use Rattle.sm_syntax.specs.declared.tree.Sort.{Sort}
 use Rattle.sm_term.specs.Assertions.{Assertion}
 use Rattle.sm_term.specs.Terms.{Tree}
-use Rattle.sm_check.specs.declared.forms.FormRow.{FormRow}
-use Rattle.sm_check.specs.FormRows.{RowsStand, AreRowsReady}
+use Rattle.sm_check.specs.FormRows.{RowsStand, AreRowsReady, FormRow}
 use Rattle.sm_check.specs.Walks as walk
 
 -- what stands in declarations is declared
@@ -78,19 +72,6 @@ counted ds d numbered e =
     let last = last_number (pairs ds) (length ds - 1) numbered (omega (arith, inside, long)) in
     let same : d.0.0 ≡ length ds - 1 = sym (number_at ds (length ds - 1) d e) ∙ last in
     omega (arith, same, inside, long)
-
--- an assumption behind a borrow
-pub assumed_same : (o : Option (Bor Cond)) (a : Option Cond) → option_copied o ≡ a →
-    option_map (λ (b : Bor Cond). condition_of b.now) o ≡ option_map condition_of a
-assumed_same o a e = go o ∙ ap (option_map condition_of) e
-  where
-    go : (o : Option (Bor Cond)) → option_map (λ (b : Bor Cond). condition_of b.now) o ≡ option_map condition_of (option_copied o)
-    go None = refl
-    go (Some b) = refl
-
-pub some_mapped : (a : Option Cond) → is_some (option_map condition_of a) ≡ is_some a
-some_mapped None = refl
-some_mapped (Some b) = refl
 
 -- no formula yet
 pub no_rows : (sorts : Sorts) (trees : List Tree) → RowsStand sorts trees [] []

@@ -1,11 +1,10 @@
 -- Terms that lines make.
-use Rattle.std.proofs.Common.{◌≡◌, ℕ, Option, Some, None, Result, Ok, Err, slice_get, get_or, List, [], ◌∷◌, zero, suc, length, ◌<◌, ◌≤◌, arith, refl, sym, ap, ◌∙◌, subst}
-use Rattle.sm_term.specs.declared.term.TermId.{TermId}
-use Rattle.sm_term.specs.Terms.{Tree}
-use Rattle.sm_term.specs.Terms.{Start}
+use Rattle.std.proofs.Common.{◌≡◌, ℕ, Option, Some, None, Result, Ok, Err, slice_get, get_or, List, [], ◌∷◌, zero, suc, length, ◌<◌, ◌≤◌, arith, refl, sym, ap, ◌∙◌}
+use Rattle.sm_term.specs.Terms.{Tree, Start}
 use Rattle.sm_term.specs.Tables.{tree_at}
-use Rattle.sm_term.specs.declared.symbolic.SymStore.{SymStore}
+use Rattle.sm_term.specs.declared.term.TermId.{TermId}
 use Rattle.sm_term.specs.SymStores.{store_in, tree_or_start, IsStoreWithin}
+use Rattle.sm_term.specs.declared.symbolic.SymStore.{SymStore}
 use Rattle.sm_term.proofs.TermsLemmas.{part_before}
 use Rattle.sm_proof.specs.declared.word.Word.{Word}
 use Rattle.sm_proof.specs.declared.word.Word.TheVariants.{BadNumber}
@@ -13,6 +12,7 @@ use Rattle.sm_proof.specs.Passing.{with_tree}
 use Rattle.sm_check.specs.Walks.{terms_in}
 use Rattle.sm_check.specs.TermsMade.{IsTerm}
 use Rattle.sm_check.proofs.FormRowsLemmas.{named_there, named_missing, found_there, found_missing}
+use Rattle.sm_euf.proofs.ArgumentsLemmas.{there}
 
 -- a term that a line made
 pub with_there : (trees : List Tree) (terms : List TermId) (n : ℕ) (t : TermId) (next : Tree → Result Tree Word) → slice_get terms n ≡ Some t →
@@ -22,12 +22,6 @@ with_there trees terms n t next e = found_there (slice_get (terms_in trees terms
 pub with_missing : (trees : List Tree) (terms : List TermId) (n : ℕ) (next : Tree → Result Tree Word) → slice_get terms n ≡ None →
     with_tree (terms_in trees terms) n next ≡ Err BadNumber
 with_missing trees terms n next e = found_missing (slice_get (terms_in trees terms) n) BadNumber next (named_missing trees terms n e)
-
--- a term that is there is the one at its number
-pub there_at : (trees : List Tree) (n : ℕ) → n < length trees → slice_get trees n ≡ Some (tree_at trees n)
-there_at [] n h = absurd (omega arith)
-there_at (t ∷ ts) zero h = refl
-there_at (t ∷ ts) (suc n) h = let less : n < length ts = omega arith in there_at ts n less
 
 -- an element that is there
 got : (ts : List TermId) (n : ℕ) (t : TermId) → n < length ts → ((d : TermId) → t ≡ get_or ts n d) → slice_get ts n ≡ Some t
@@ -51,7 +45,7 @@ module _ (s : SymStore) (x : ℕ) where
       x < length list → ((d : TermId) → t ≡ get_or list x d) → IsTerm trees t (store_in trees s x)
   listed_term trees t list is within less e =
       let at : slice_get s.list.items x ≡ Some t = ap (λ (l : List TermId). slice_get l x) (sym is) ∙ got list x t less e in
-      there_at trees t.0 (part_before (length trees) s.list.items x t within at)
+      there trees t.0 (part_before (length trees) s.list.items x t within at)
       ∙ ap (λ (o : Option TermId). Some (tree_or_start trees x o)) (sym at)
 
   pub unlisted_term : (trees : List Tree) (list : List TermId) → list ≡ s.list.items → length list ≤ x →

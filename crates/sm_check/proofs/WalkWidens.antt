@@ -1,50 +1,35 @@
 -- A proof on its way stands for the same where the table has more behind.
-use Rattle.std.proofs.Common.{◌≡◌, ℕ, ◌<◌, ◌≤◌, Option, Some, None, List, [], ◌∷◌, ◌++◌, length, slice_get, take, reverse}
-use Rattle.std.proofs.Common.{refl, sym, ap, ◌∙◌, subst, arith}
+use Rattle.std.proofs.Common.{◌≡◌, ℕ, ◌<◌, Option, Some, None, List, [], ◌∷◌, ◌++◌, length, slice_get, take, reverse, refl, sym, ap, ◌∙◌, subst, arith}
 use Rattle.std.proofs.lemmas.List.{reverse-append}
 use Rattle.sm_syntax.specs.text.Sorts.{Sorts}
-use Rattle.sm_term.specs.declared.term.TermId.{TermId}
 use Rattle.sm_term.specs.Terms.{Tree}
 use Rattle.sm_term.specs.Assertions as plain
 use Rattle.sm_term.specs.Assertions.{Assertion}
 use Rattle.sm_term.specs.Formulas as row
-use Rattle.sm_term.specs.Formulas.{NumberedFormula, numbered, assertion_in, IsFormulaWithin}
+use Rattle.sm_term.specs.Formulas.{numbered}
 use Rattle.sm_term.specs.Sorted.{tree_sort}
 use Rattle.sm_term.specs.Tables.{TableValue, trees_in, sorts_in, tree_at, AreBefore}
+use Rattle.sm_term.specs.declared.term.TermId.{TermId}
 use Rattle.sm_term.specs.TableLaws.{ExtendsTable}
 use Rattle.sm_term.proofs.TreesLemmas.{before-later}
-use Rattle.sm_theory.specs.declared.fact.Fact.{Fact}
 use Rattle.sm_theory.specs.declared.fact.Fact.TheVariants as fact
 use Rattle.sm_theory.specs.Facts.{BranchFact, Formal, Sum, as_facts}
 use Rattle.sm_theory.specs.SortedFacts.{IsFactSorted, AreFactsSorted}
 use Rattle.sm_theory.specs.Standing.{HaveOnePlace}
 use Rattle.sm_theory.specs.Views.{FactStands, AllStand}
+use Rattle.sm_theory.specs.declared.fact.Fact.{Fact}
 use Rattle.sm_theory.proofs.LinearLater as forms
 use Rattle.sm_plan.proofs.TablesWiden as widened
 use Rattle.sm_proof.specs.declared.line.FormLine.{FormLine}
 use Rattle.sm_proof.specs.declared.line.FormLine.TheVariants as line
 use Rattle.sm_proof.specs.Passing as pending
 use Rattle.sm_proof.specs.Passing.{Pending}
-use Rattle.sm_check.specs.declared.forms.FormRow.{FormRow}
-use Rattle.sm_check.specs.declared.pending.Due.{Due}
 use Rattle.sm_check.specs.declared.pending.Due.TheVariants as due
-use Rattle.sm_check.specs.declared.pending.Waiting.{Waiting}
 use Rattle.sm_check.specs.declared.pending.Waiting.TheVariants as waits
-use Rattle.sm_check.specs.FormRows.{row_form, RowsStand, IsRowReady, AreRowsReady, HaveOneSort, AreNumeric}
-use Rattle.sm_check.specs.Pending.{IsDueReady, IsReadyIfDue, IsWaitingReady, AreWaitingReady, DueStands, WaitingStands, shared_by, AllWait}
-use Rattle.sm_check.specs.Pending.{AllPending, PendingStands}
+use Rattle.sm_check.specs.FormRows.{row_form, RowsStand, IsRowReady, AreRowsReady, HaveOneSort, AreNumeric, FormRow}
+use Rattle.sm_check.specs.Pending.{IsDueReady, IsReadyIfDue, IsWaitingReady, AreWaitingReady, DueStands, WaitingStands, shared_by, AllWait, AllPending, PendingStands, Waiting, Due}
 use Rattle.sm_check.specs.Walks.{terms_in, AreNumbered, IsWalkReady}
-
--- the terms of a formula are in a longer table
-pub formula_within : (m n : ℕ) → m ≤ n → (f : NumberedFormula) → IsFormulaWithin m f → IsFormulaWithin n f
-formula_within m n h row.Yes within = tt
-formula_within m n h row.No within = tt
-formula_within m n h (row.Eq t u) within = (omega arith, omega arith)
-formula_within m n h (row.Ne t u) within = (omega arith, omega arith)
-formula_within m n h (row.Le t u) within = (omega arith, omega arith)
-formula_within m n h (row.Lt t u) within = (omega arith, omega arith)
-formula_within m n h (row.And p q) within = (formula_within m n h p within.0, formula_within m n h q within.1)
-formula_within m n h (row.Or p q) within = (formula_within m n h p within.0, formula_within m n h q within.1)
+use Rattle.sm_term.proofs.FormsLemmas.{form-later}
 
 -- what waits, in the other order
 module _ (sorts : Sorts) (trees : List Tree) where
@@ -141,7 +126,7 @@ module _ (v w : TableValue) (wider : ExtendsTable v w) where
   module _ (places : HaveOnePlace (trees_in w)) where
     pub fact_stays : (f : Fact) (k : BranchFact) → FactStands (sorts_in v) (trees_in v) f k → FactStands (sorts_in w) (trees_in w) f k
     fact_stays (fact.Form f) (Formal g) stands =
-        (formula_within few (length (trees_in w)) (widened.longer v w wider) (numbered f) stands.0, widened.assertion_stays v w wider (numbered f) stands.0 ∙ stands.1)
+        (form-later few (length (trees_in w)) (widened.longer v w wider) (numbered f) stands.0, widened.assertion_stays v w wider (numbered f) stands.0 ∙ stands.1)
     fact_stays (fact.Form f) (Sum g) stands = absurd stands
     fact_stays (fact.Lin f) (Formal g) stands = absurd stands
     fact_stays (fact.Lin f) (Sum g) stands =

@@ -1,48 +1,34 @@
 -- How a proof on its way goes on with a line.
-use Rattle.std.proofs.Common.{◌≡◌, ℕ, zero, suc, ◌+◌, ◌<◌, ◌⊎◌, inl, inr, Option, Some, None, Result, Ok, Err, slice_get, List, [], ◌∷◌, ◌++◌, length, reverse}
-use Rattle.std.proofs.Common.{refl, sym, ap, ◌∙◌, subst, arith}
+use Rattle.std.proofs.Common.{◌≡◌, ℕ, zero, suc, ◌+◌, ◌<◌, inl, inr, Option, Some, None, Result, Ok, Err, slice_get, List, [], ◌∷◌, ◌++◌, length, reverse, refl, sym, ap, ◌∙◌, subst, arith}
 use Rattle.std.specs.Prelude.{pos}
 use Rattle.sm_theory.specs.Lines.{followed}
 use Rattle.std.proofs.lemmas.List.{length-append}
-use Rattle.std.proofs.lemmas.Option.{same_Some, get_or_from_slice_get}
+use Rattle.std.proofs.lemmas.Option.{get_or_from_slice_get}
 use Rattle.sm_syntax.specs.text.Sorts.{Sorts}
-use Rattle.sm_term.specs.declared.term.TermId.{TermId}
 use Rattle.sm_term.specs.Terms.{Tree, Lit}
 use Rattle.sm_term.specs.Assertions.{Assertion}
 use Rattle.sm_term.specs.Tables.{TableValue, trees_in, sorts_in, tree_at, AreBefore}
+use Rattle.sm_term.specs.declared.term.TermId.{TermId}
 use Rattle.sm_term.specs.TableLaws.{ExtendsTable, AreApart}
-use Rattle.sm_theory.specs.declared.fact.Fact.{Fact}
 use Rattle.sm_theory.specs.Facts.{BranchFact}
 use Rattle.sm_theory.specs.Views.{AllStand}
-use Rattle.sm_proof.specs.declared.line.FormLine.{FormLine}
+use Rattle.sm_theory.specs.declared.fact.Fact.{Fact}
 use Rattle.sm_proof.specs.declared.line.FormLine.TheVariants as form
-use Rattle.sm_proof.specs.declared.line.TermLine.{TermLine}
-use Rattle.sm_proof.specs.declared.word.Word.{Word}
 use Rattle.sm_proof.specs.Lines.{Term, Form}
+use Rattle.sm_proof.specs.declared.line.TermLine.{TermLine}
+use Rattle.sm_proof.specs.declared.line.FormLine.{FormLine}
 use Rattle.sm_proof.specs.Named.{and_then}
+use Rattle.sm_proof.specs.declared.word.Word.{Word}
 use Rattle.sm_proof.specs.Passing.{Pending, Progress, form_made, term_made, taken, taken_at}
-use Rattle.sm_check.specs.declared.fault.LineFault.{LineFault}
-use Rattle.sm_check.specs.declared.fault.LineFault.TheVariants.{Wrong, Memory}
-use Rattle.sm_check.specs.declared.forms.FormRow.{FormRow}
-use Rattle.sm_check.specs.declared.pending.Due.{Due}
-use Rattle.sm_check.specs.declared.pending.Waiting.{Waiting}
-use Rattle.sm_check.specs.FormRows.{joined, row_form, RowStands, RowsStand, IsRowReady, AreRowsReady}
-use Rattle.sm_check.specs.Pending.{DueStands, AllWait, AllPending, PendingStands}
+use Rattle.sm_check.specs.FormRows.{joined, row_form, RowStands, RowsStand, IsRowReady, AreRowsReady, FormRow}
+use Rattle.sm_check.specs.Pending.{DueStands, AllWait, AllPending, PendingStands, Waiting, Due}
 use Rattle.sm_check.specs.TermsMade.{IsTerm}
-use Rattle.sm_check.specs.Tells.{Tells}
+use Rattle.sm_check.specs.Tells.{Tells, LineFault, Wrong, Memory}
 use Rattle.sm_check.specs.Walks.{WalkValue, Walks, terms_in, IsWalkReady}
 use Rattle.sm_check.proofs.FormRowsLemmas.{joined_there}
 use Rattle.sm_theory.proofs.FormsOfTermsLemmas.{one_place}
 use Rattle.sm_check.proofs.WalkWidens.{terms_stay, rows_stand, pending_stays}
-
--- an element of a list with one more is one of the list, or the last
-pub one_more : {X : Type 0} (xs : List X) (x y : X) (k : ℕ) → slice_get (xs ++ x ∷ []) k ≡ Some y →
-    (slice_get xs k ≡ Some y) ⊎ ((k ≡ length xs) × (x ≡ y))
-one_more [] x y zero e = inr (refl, same_Some x y e)
-one_more [] x y (suc k) e = absurd cc
-one_more (z ∷ xs) x y zero e = inl e
-one_more (z ∷ xs) x y (suc k) e =
-    elim (one_more xs x y k e) [ inl h ↦ inl h | inr h ↦ inr (ap suc h.0, h.1) ]
+use Rattle.sm_lemmas.proofs.Lists.{get_pushed}
 
 pub got_more : {X : Type 0} (xs more : List X) (x : X) (k : ℕ) → slice_get xs k ≡ Some x → slice_get (xs ++ more) k ≡ Some x
 got_more [] more x k e = absurd cc
@@ -56,7 +42,7 @@ past_end (z ∷ xs) x (suc k) e = let less = past_end xs x k e in omega arith
 
 got_last : {X : Type 0} (xs : List X) (x y : X) (k : ℕ) → k ≡ length xs → slice_get (xs ++ x ∷ []) k ≡ Some y → x ≡ y
 got_last xs x y k is e =
-    elim (one_more xs x y k e) [ inl h ↦ absurd (let less = past_end xs y k h in omega arith) | inr h ↦ h.1 ]
+    elim (get_pushed xs x y k e) [ inl h ↦ absurd (let less = past_end xs y k h in omega arith) | inr h ↦ h.1 ]
 
 -- a row's formula stays where there are more formulas
 joined_more : (forms more : List Assertion) (p q : ℕ) (makes : Assertion → Assertion → Assertion) (f : Assertion) →
@@ -99,9 +85,9 @@ pub rows_push : (sorts : Sorts) (trees : List Tree) (rows : List FormRow) (forms
 rows_push sorts trees rows forms row f all last = record {
   count = length-append rows (row ∷ []) ∙ ap (λ (n : ℕ). n + 1) all.count ∙ sym (length-append forms (f ∷ []));
   each = λ (k : ℕ) (r : FormRow) (g : Assertion) (e : slice_get (rows ++ row ∷ []) k ≡ Some r) (h : slice_get (forms ++ f ∷ []) k ≡ Some g).
-      elim (one_more rows row r k e) [
+      elim (get_pushed rows row r k e) [
         | inl old ↦
-            elim (one_more forms f g k h) [
+            elim (get_pushed forms f g k h) [
               | inl there ↦ more r g (all.each k r g old there)
               | inr end ↦ absurd (let less = past_end rows r k old in let n = all.count in let m = end.0 in omega arith)
             ]
@@ -119,7 +105,7 @@ pub rows_ready : (sorts : Sorts) (trees : List Tree) (rows : List FormRow) (row 
     IsRowReady sorts trees (length rows) row.made →
     AreRowsReady sorts trees (rows ++ row ∷ [])
 rows_ready sorts trees rows row all last k r e =
-    elim (one_more rows row r k e) [
+    elim (get_pushed rows row r k e) [
       | inl old ↦ all k r old
       | inr end ↦
           subst (λ (x : FormRow). IsRowReady sorts trees k x.made) end.1 (subst (λ (n : ℕ). IsRowReady sorts trees n row.made) (sym end.0) last)

@@ -2,17 +2,14 @@
 use Rattle.std.specs.Prelude.{◌≡◌, ℕ, suc, Bool, List, [], ◌∷◌, ◌++◌, map, Result, Err}
 use Rattle.sm_proof.specs.declared.word.Word.{Word}
 use Rattle.sm_proof.specs.Passing.{Progress, start_progress}
-use Rattle.sm_proof.specs.Verdicts.{Subject, Standing, Unopened, Underway, Reached, Refused, Before}
-use Rattle.sm_proof.specs.Verdicts.{reached, reached_after, next_standing, reads_exact, lines_in}
+use Rattle.sm_proof.specs.Verdicts.{Subject, Standing, Unopened, Underway, Reached, Refused, Before, reached, reached_after, next_standing, reads_exact, lines_in}
 use Rattle.sm_proof.specs.Versions.{read_with}
 use Rattle.sm_check.specs.declared.aside.Aside.{Aside}
-use Rattle.sm_check.specs.declared.fault.Stopped.{Stopped}
-use Rattle.sm_check.specs.declared.fault.Stopped.TheVariants.{Wrong, Memory}
 use Rattle.sm_check.specs.declared.raw_lines.RawLines.{RawLines}
 use Rattle.sm_check.specs.declared.taken_lines.TakenLines.{TakenLines}
 use Rattle.sm_check.specs.declared.unfinished.Unfinished.{Unfinished}
 use Rattle.sm_check.specs.LineEnds.{ended_in}
-use Rattle.sm_check.specs.Pieces.{StandsAt, IsKept, reach}
+use Rattle.sm_check.specs.Pieces.{StandsAt, IsKept, reach, Stopped, Wrong, Memory}
 
 -- the lines of certificates
 abbrev pub certificates_of : List RawLines → List (List (List ℕ))

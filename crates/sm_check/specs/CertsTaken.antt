@@ -12,10 +12,10 @@ use Rattle.sm_theory.specs.Views.{AllStand}
 use Rattle.sm_theory.specs.Ways.{ways}
 use Rattle.sm_theory.specs.Named.{is_split}
 use Rattle.sm_plan.specs.Limits.{is_shallow}
-use Rattle.sm_proof.specs.declared.word.Word.{Word}
-use Rattle.sm_proof.specs.declared.word.Word.TheVariants.{BadNumber, Deep, First}
 use Rattle.sm_proof.specs.Lines.{NumberedLine}
 use Rattle.sm_proof.specs.Named.{found_or, tested_or, named_line, line_head}
+use Rattle.sm_proof.specs.declared.word.Word.{Word}
+use Rattle.sm_proof.specs.declared.word.Word.TheVariants.{BadNumber, Deep, First}
 use Rattle.sm_proof.specs.Passing.{Pending, Progress, branches_before}
 use Rattle.sm_check.specs.FormRows.{RowsStand}
 use Rattle.sm_check.specs.Pending.{AllWait}

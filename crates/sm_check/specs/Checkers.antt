@@ -1,6 +1,5 @@
 -- Cited by public clauses: where the proof of a checker stands.
-use Rattle.std.specs.Prelude.{◌≡◌, ◌⊎◌, ℕ, true, false, if◌then◌else◌, length}
-use Rattle.std.specs.Prelude.{Some, None, Result, Ok, Err, List, [], ◌∷◌}
+use Rattle.std.specs.Prelude.{◌≡◌, ◌⊎◌, ℕ, true, false, if◌then◌else◌, length, Some, None, Result, Ok, Err, List, [], ◌∷◌}
 use Rattle.sm_syntax.specs.text.Sorts.{Sorts}
 use Rattle.sm_term.specs.Tables.{sorts_in}
 use Rattle.sm_proof.specs.Passing.{Pending, Due, Branch, start_progress}

@@ -2,10 +2,10 @@
 use Rattle.std.specs.Prelude.{◌≡◌, ℕ, Bool, Ok, Option, Some, None, List, [], ◌∷◌, ◌++◌, take}
 use Rattle.sm_syntax.specs.text.Sorts.{Sorts}
 use Rattle.sm_term.specs.Terms.{Tree}
-use Rattle.sm_theory.specs.declared.fact.Fact.{Fact}
 use Rattle.sm_theory.specs.Facts.{BranchFact}
 use Rattle.sm_theory.specs.SortedFacts.{IsFactSorted, AreFactsSorted}
 use Rattle.sm_theory.specs.Views.{FactStands, AllStand}
+use Rattle.sm_theory.specs.declared.fact.Fact.{Fact}
 use Rattle.sm_proof.specs.Lines.{NumberedLine, Cert}
 use Rattle.sm_proof.specs.Passing as plain
 use Rattle.sm_proof.specs.Passing.{Pending, Branch}

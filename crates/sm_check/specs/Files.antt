@@ -1,12 +1,11 @@
 -- Cited by public clauses: the answer to a proof file, which may have so many bytes.
 use Rattle.std.specs.Prelude.{◌≡◌, ℕ, nat_le, if◌then◌else◌, length, take, Result, Ok, Err, List}
 use Rattle.sm_proof.specs.Verdicts as proof
-use Rattle.sm_proof.specs.Verdicts.{Subject, Unopened, Verdict, verdict, Reached, Refused, Before}
-use Rattle.sm_proof.specs.Verdicts.{reached, lines_in}
-use Rattle.sm_check.specs.declared.verifying.Checked.{Checked}
-use Rattle.sm_check.specs.declared.verifying.Checked.TheVariants.{Pass, Rejected}
-use Rattle.sm_check.specs.declared.verifying.CheckError.{CheckError}
-use Rattle.sm_check.specs.declared.verifying.CheckError.TheVariants.{ReadFault, TooLong, Memory}
+use Rattle.sm_proof.specs.Verdicts.{Subject, Unopened, Verdict, verdict, Reached, Refused, Before, reached, lines_in}
+pub use Rattle.sm_check.specs.declared.verifying.Checked.{Checked}
+pub use Rattle.sm_check.specs.declared.verifying.Checked.TheVariants.{Pass, Rejected}
+pub use Rattle.sm_check.specs.declared.verifying.CheckError.{CheckError}
+pub use Rattle.sm_check.specs.declared.verifying.CheckError.TheVariants.{Memory, ReadFault, TooLong}
 
 -- the verdict on a file, or that it has too many bytes
 pub data FileAnswer : Type 0 where

@@ -3,11 +3,7 @@
 use Rattle.std.specs.Prelude.{◌≡◌, ◌⊎◌, ℕ, Result, Ok, Err, List}
 use Rattle.sm_io.specs.Reads.{Read, ReadsOn, ReadsWhole}
 use Rattle.sm_proof.specs.Verdicts.{Subject}
-use Rattle.sm_check.specs.Files.{file_answer, TellsAnswer}
-use Rattle.sm_check.specs.declared.verifying.Checked.{Checked}
-use Rattle.sm_check.specs.declared.verifying.Checked.TheVariants.{Pass}
-use Rattle.sm_check.specs.declared.verifying.CheckError.{CheckError}
-use Rattle.sm_check.specs.declared.verifying.CheckError.TheVariants.{ReadFault}
+use Rattle.sm_check.specs.Files.{file_answer, TellsAnswer, Checked, Pass, CheckError, ReadFault}
 
 -- the file alone was read, in one pass from its start on, and the answer is that to the bytes that
 -- this gave. Where it passes, the pass went to its end; where a read failed, it didn't

@@ -1,25 +1,24 @@
 -- Private: the formulas of a proof as rows, of which each names earlier ones by their numbers.
-use Rattle.std.specs.Prelude.{◌≡◌, ℕ, ◌<◌, min, length, slice_get, Option, Some, List, Bool}
-use Rattle.std.specs.Prelude.{Result, Ok, Err}
-use Rattle.sm_syntax.specs.declared.tree.Sort.TheVariants.{Num}
+use Rattle.std.specs.Prelude.{◌≡◌, ℕ, ◌<◌, min, length, slice_get, Option, Some, List, Bool, Result, Ok, Err}
 use Rattle.sm_syntax.specs.text.Sorts.{Sorts}
+use Rattle.sm_syntax.specs.declared.tree.Sort.TheVariants.{Num}
 use Rattle.sm_term.specs.Terms.{Tree}
 use Rattle.sm_term.specs.Assertions as plain
 use Rattle.sm_term.specs.Assertions.{Assertion}
 use Rattle.sm_term.specs.Sorted.{tree_sort}
 use Rattle.sm_term.specs.Tables.{tree_at}
+use Rattle.sm_term.specs.declared.term.TermId.{TermId}
 use Rattle.sm_theory.specs.Lines.{followed}
 use Rattle.sm_plan.specs.Limits.{form_nodes, form_depth}
 use Rattle.sm_proof.specs.declared.line.FormLine.{FormLine}
 use Rattle.sm_proof.specs.declared.line.FormLine.TheVariants.{Yes, No, Eq, Ne, Le, Lt, And, Or}
-use Rattle.sm_term.specs.declared.term.TermId.{TermId}
 use Rattle.sm_proof.specs.declared.word.Head.TheVariants as head
+use Rattle.sm_proof.specs.Named.{tested_or}
 use Rattle.sm_proof.specs.declared.word.Word.{Word}
 use Rattle.sm_proof.specs.declared.word.Word.TheVariants.{First}
-use Rattle.sm_proof.specs.Named.{tested_or}
 use Rattle.sm_check.specs.declared.fault.LineFault.{LineFault}
 use Rattle.sm_check.specs.declared.fault.LineFault.TheVariants.{Wrong, Memory}
-use Rattle.sm_check.specs.declared.forms.FormRow.{FormRow}
+pub use Rattle.sm_check.specs.declared.forms.FormRow.{FormRow}
 
 -- a formula of two that have numbers
 abbrev pub joined :

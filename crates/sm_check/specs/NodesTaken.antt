@@ -5,8 +5,6 @@ use Rattle.sm_term.specs.Assertions.{Assertion}
 use Rattle.sm_term.specs.Tables.{trees_in, sorts_in}
 use Rattle.sm_term.specs.Terms.{Tree}
 use Rattle.sm_theory.specs.Facts.{as_facts}
-use Rattle.sm_plan.specs.declared.opening.Opened.{Opened}
-use Rattle.sm_plan.specs.declared.state.SymState.{SymState}
 use Rattle.sm_plan.specs.Limits.{is_shallow}
 use Rattle.sm_plan.specs.NodeLists.{above_opened}
 use Rattle.sm_plan.specs.Nodes as plan
@@ -14,10 +12,12 @@ use Rattle.sm_plan.specs.Nodes.{opened_by}
 use Rattle.sm_plan.specs.ReadyStates.{AreFormsReady, AreStoresReady, AreSuccessorsReady}
 use Rattle.sm_plan.specs.States.{State}
 use Rattle.sm_plan.specs.Views.{opened_in, state_in}
+use Rattle.sm_plan.specs.declared.state.SymState.{SymState}
+use Rattle.sm_plan.specs.declared.opening.Opened.{Opened}
 use Rattle.sm_proof.specs.declared.line.NodeLine.{NodeLine}
+use Rattle.sm_proof.specs.Named.{found_or, tested_or, named_node, node_head}
 use Rattle.sm_proof.specs.declared.word.Word.{Word}
 use Rattle.sm_proof.specs.declared.word.Word.TheVariants.{BadNumber, Deep, First}
-use Rattle.sm_proof.specs.Named.{found_or, tested_or, named_node, node_head}
 use Rattle.sm_proof.specs.Passing.{Pending, Progress}
 use Rattle.sm_check.specs.Pending.{OnlyWaiting}
 use Rattle.sm_check.specs.FormRows.{RowsStand}

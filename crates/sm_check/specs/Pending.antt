@@ -1,19 +1,18 @@
 -- Private: what is pending, by what is due and what waits.
-use Rattle.std.specs.Prelude.{◌≡◌, ℕ, ◌≤◌, length, take, reverse}
-use Rattle.std.specs.Prelude.{Option, Some, None, List, [], ◌∷◌, ◌++◌}
+use Rattle.std.specs.Prelude.{◌≡◌, ℕ, ◌≤◌, length, take, reverse, Option, Some, None, List, [], ◌∷◌, ◌++◌}
 use Rattle.sm_syntax.specs.text.Sorts.{Sorts}
 use Rattle.sm_term.specs.Terms.{Tree}
-use Rattle.sm_theory.specs.declared.fact.Fact.{Fact}
 use Rattle.sm_theory.specs.Facts.{BranchFact, as_facts}
 use Rattle.sm_theory.specs.SortedFacts.{IsFactSorted, AreFactsSorted}
 use Rattle.sm_theory.specs.Views.{FactStands, AllStand}
+use Rattle.sm_theory.specs.declared.fact.Fact.{Fact}
 use Rattle.sm_plan.specs.Views.{forms_in, stores_in, state_in}
 use Rattle.sm_plan.specs.ReadyStates.{AreFormsReady, AreStoresReady, IsStateReady}
 use Rattle.sm_proof.specs.Passing as plain
 use Rattle.sm_proof.specs.Passing.{Pending}
-use Rattle.sm_check.specs.declared.pending.Due.{Due}
+pub use Rattle.sm_check.specs.declared.pending.Due.{Due}
 use Rattle.sm_check.specs.declared.pending.Due.TheVariants as due
-use Rattle.sm_check.specs.declared.pending.Waiting.{Waiting}
+pub use Rattle.sm_check.specs.declared.pending.Waiting.{Waiting}
 use Rattle.sm_check.specs.declared.pending.Waiting.TheVariants as waits
 
 -- what is due can be gone on from

@@ -1,10 +1,9 @@
 -- Cited by private clauses alone: how far a file is taken by the pieces of it that were read.
 use Rattle.std.specs.Prelude.{◌≡◌, ◌<◌, ◌==◌, ℕ, Bool, true, false, Result, Ok, Err, List}
 use Rattle.sm_proof.specs.declared.word.Word.{Word}
-use Rattle.sm_proof.specs.Verdicts.{Subject, Standing, Unopened, Underway, Reached, Refused, Before}
-use Rattle.sm_proof.specs.Verdicts.{reached, lines_in}
-use Rattle.sm_check.specs.declared.fault.Stopped.{Stopped}
-use Rattle.sm_check.specs.declared.fault.Stopped.TheVariants.{Wrong, Memory}
+use Rattle.sm_proof.specs.Verdicts.{Subject, Standing, Unopened, Underway, Reached, Refused, Before, reached, lines_in}
+pub use Rattle.sm_check.specs.declared.fault.Stopped.{Stopped}
+pub use Rattle.sm_check.specs.declared.fault.Stopped.TheVariants.{Memory, Wrong}
 use Rattle.sm_check.specs.declared.taken_lines.TakenLines.{TakenLines}
 use Rattle.sm_check.specs.declared.unfinished.Unfinished.{Unfinished}
 use Rattle.sm_check.specs.Checkers.{IsAt, state_of}

@@ -1,8 +1,8 @@
 -- Private: answers of the program beside those of a definition.
 use Rattle.std.specs.Prelude.{◌≡◌, Result, Ok, Err}
 use Rattle.sm_proof.specs.declared.word.Word.{Word}
-use Rattle.sm_check.specs.declared.fault.LineFault.{LineFault}
-use Rattle.sm_check.specs.declared.fault.LineFault.TheVariants.{Wrong, Memory}
+pub use Rattle.sm_check.specs.declared.fault.LineFault.{LineFault}
+pub use Rattle.sm_check.specs.declared.fault.LineFault.TheVariants.{Memory, Wrong}
 
 -- two answers have one good end, as a relation has it, or one word; want of memory tells nothing
 abbrev pub Tells : {S T : Type 0} → (S → T → Type 0) → Result S LineFault → Result T Word → Type 0

@@ -1,10 +1,8 @@
 -- Private: terms that lines make, beside those of the definition.
-use Rattle.std.specs.Prelude.{◌≡◌, ℕ, nat_lt, Bool, true, false, if◌then◌else◌, Option, Some, None}
-use Rattle.std.specs.Prelude.{slice_get, List}
+use Rattle.std.specs.Prelude.{◌≡◌, ℕ, nat_lt, Bool, true, false, if◌then◌else◌, Option, Some, None, slice_get, List}
 use Rattle.sm_syntax.specs.declared.tree.Name.{Name}
 use Rattle.sm_term.specs.declared.term.Term.{Term}
-use Rattle.sm_term.specs.declared.term.Term.TheVariants.{Lit, Start, Slot, Cell, Read, Write}
-use Rattle.sm_term.specs.declared.term.Term.TheVariants.{Neg, Add, Sub, Mul}
+use Rattle.sm_term.specs.declared.term.Term.TheVariants.{Lit, Start, Slot, Cell, Read, Write, Neg, Add, Sub, Mul}
 use Rattle.sm_term.specs.declared.term.TermId.{TermId}
 use Rattle.sm_term.specs.Terms.{Tree}
 use Rattle.sm_theory.specs.Lines.{followed}

@@ -1,16 +1,13 @@
 -- Private: a proof on its way, as the checker has it.
 use Rattle.std.specs.Prelude.{◌≡◌, ℕ, ◌≤◌, ◌^◌, nat_lt, is_some, length, map, List, Option}
 use Rattle.sm_syntax.specs.text.Sorts.{Sorts}
-use Rattle.sm_term.specs.declared.term.TermId.{TermId}
 use Rattle.sm_term.specs.Terms.{Tree}
 use Rattle.sm_term.specs.Tables.{TableValue, trees_in, sorts_in, tree_at, AreBefore}
+use Rattle.sm_term.specs.declared.term.TermId.{TermId}
 use Rattle.sm_theory.specs.declared.fact.Fact.{Fact}
 use Rattle.sm_proof.specs.Passing.{Progress}
-use Rattle.sm_check.specs.declared.pending.Due.{Due}
-use Rattle.sm_check.specs.declared.pending.Waiting.{Waiting}
-use Rattle.sm_check.specs.declared.forms.FormRow.{FormRow}
-use Rattle.sm_check.specs.FormRows.{RowsStand, AreRowsReady}
-use Rattle.sm_check.specs.Pending.{IsReadyIfDue, AreWaitingReady, PendingStands}
+use Rattle.sm_check.specs.FormRows.{RowsStand, AreRowsReady, FormRow}
+use Rattle.sm_check.specs.Pending.{IsReadyIfDue, AreWaitingReady, PendingStands, Waiting, Due}
 
 -- the table of terms, how many names are declared, how many nodes there were, the numbers of the
 -- terms of lines, the formulas of lines, the facts of what is due, and what is pending

@@ -1,6 +1,5 @@
 // A line of a certificate at the branch that is due.
-ghost use Rattle.std.specs.Prelude.{◌≡◌, ◌-◌, ◌^◌, suc, min, if◌then◌else◌, true, false, length, List};
-ghost use Rattle.std.specs.Prelude.{reverse, MatchOption, IfOk};
+ghost use Rattle.std.specs.Prelude.{◌≡◌, ◌-◌, ◌^◌, suc, min, if◌then◌else◌, true, false, length, List, reverse, MatchOption, IfOk};
 ghost use Rattle.sm_term.specs.Tables.{trees_in, sorts_in, AreBefore};
 ghost use Rattle.sm_theory.specs.Facts.{BranchFact};
 ghost use Rattle.sm_theory.specs.SortedFacts.{AreFactsSorted};

@@ -1,6 +1,5 @@
 // Lines of certificates.
-ghost use Rattle.std.specs.Prelude.{◌≡◌, ℕ, false, true, length, reverse, List, Ok};
-ghost use Rattle.std.specs.Prelude.{IfOk};
+ghost use Rattle.std.specs.Prelude.{◌≡◌, ℕ, false, true, length, reverse, List, Ok, IfOk};
 ghost use Rattle.sm_syntax.specs.claim.ConflictFree.{Copy};
 ghost use Rattle.sm_term.specs.Symbolic.{SymbolicStore};
 ghost use Rattle.sm_check.specs.declared.pending.Waiting.{Waiting};

@@ -3,8 +3,7 @@ ghost use Rattle.std.specs.Prelude.{◌≡◌, ◌≤◌, ◌∷◌, Bool, List,
 ghost use Rattle.sm_proof.specs.FieldRanges.{IsWithinFields};
 ghost use Rattle.sm_proof.specs.Lines.{line_of};
 ghost use Rattle.sm_proof.specs.Passing.{Pending, Progress};
-ghost use Rattle.sm_proof.specs.Verdicts.{Subject, Standing, Unopened, Underway, subject_of};
-ghost use Rattle.sm_proof.specs.Verdicts.{next_standing, passes_version, reads_exact};
+ghost use Rattle.sm_proof.specs.Verdicts.{Subject, Standing, Unopened, Underway, subject_of, next_standing, passes_version, reads_exact};
 ghost use Rattle.sm_proof.specs.Versions.{has_exact};
 ghost use Rattle.sm_term.specs.Tables.{sorts_in};
 ghost use Rattle.sm_task.specs.Filling.{AreFilled};

@@ -9,9 +9,7 @@ ghost use Rattle.sm_theory.specs.Views.{AllStand};
 ghost use Rattle.sm_plan.specs.Views.{forms_in};
 ghost use Rattle.sm_plan.specs.ReadyStates.{AreFormsReady};
 ghost use Rattle.sm_proof.specs.Passing.{Pending};
-ghost use Rattle.sm_check.specs.Pending.{IsDueReady, IsReadyIfDue, IsWaitingReady};
-ghost use Rattle.sm_check.specs.Pending.{AreWaitingReady, shared_by, WaitingStands, AllWait};
-ghost use Rattle.sm_check.specs.Pending.{PendingStands, OnlyWaiting, IsMadeReady};
+ghost use Rattle.sm_check.specs.Pending.{IsDueReady, IsReadyIfDue, IsWaitingReady, AreWaitingReady, shared_by, WaitingStands, AllWait, PendingStands, OnlyWaiting, IsMadeReady};
 
 use crate::pending::{Due, Waiting};
 use crate::walk::Walk;

@@ -6,8 +6,7 @@ ghost use Rattle.sm_term.specs.Tables.{trees_in, sorts_in, tree_at, AreBefore};
 ghost use Rattle.sm_proof.specs.Passing.{form_made, form_about, form_from, have_one_sort, are_numbers};
 ghost use Rattle.sm_check.specs.Tells.{Tells};
 ghost use Rattle.sm_check.specs.Walks.{terms_in};
-ghost use Rattle.sm_check.specs.FormRows.{RowStands, RowsStand, HaveOneSort, AreNumeric};
-ghost use Rattle.sm_check.specs.FormRows.{IsRowReady, PairStands, TellsPair, TellsRows};
+ghost use Rattle.sm_check.specs.FormRows.{RowStands, RowsStand, HaveOneSort, AreNumeric, IsRowReady, PairStands, TellsPair, TellsRows};
 
 use crate::fault::LineFault;
 use sm_proof::{FormLine, Head, Word};

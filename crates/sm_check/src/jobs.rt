@@ -1,6 +1,5 @@
 // Certificates that are run as jobs.
-ghost use Rattle.std.specs.Prelude.{◌≡◌, ◌<◌, ◌≤◌, ℕ, Bool, true, length, take, Some, IfOk};
-ghost use Rattle.std.specs.Prelude.{slice_get, slice_index_or};
+ghost use Rattle.std.specs.Prelude.{◌≡◌, ◌<◌, ◌≤◌, ℕ, Bool, true, length, take, Some, IfOk, slice_get, slice_index_or};
 ghost use Rattle.sm_term.specs.declared.term.TermId.{TermId};
 ghost use Rattle.sm_term.specs.Tables.{trees_in, sorts_in};
 ghost use Rattle.sm_proof.specs.Passing.{Progress};

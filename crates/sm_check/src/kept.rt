@@ -8,8 +8,7 @@ ghost use Rattle.sm_term.specs.Terms.{Tree};
 ghost use Rattle.sm_plan.specs.ReadyStates.{IsFormReady, IsNodeReady};
 ghost use Rattle.sm_plan.specs.Views.{node_in};
 ghost use Rattle.sm_check.specs.FormRows.{RowsStand, AreRowsReady};
-ghost use Rattle.sm_check.specs.Kept.{NameEarlier, keep_of, IsThere, IsKeptForm};
-ghost use Rattle.sm_check.specs.Kept.{KeepsOrFails, node_with};
+ghost use Rattle.sm_check.specs.Kept.{NameEarlier, keep_of, IsThere, IsKeptForm, KeepsOrFails, node_with};
 
 use crate::forms::FormRow;
 use sm_plan::NodeRow;

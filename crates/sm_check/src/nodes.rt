@@ -1,6 +1,5 @@
 // A node at the state that is due.
-ghost use Rattle.std.specs.Prelude.{◌≡◌, ◌⊎◌, ◌+◌, true, false, None, List, [], length};
-ghost use Rattle.std.specs.Prelude.{IfOk, OnOk, IfSome, MatchBool, MatchOption};
+ghost use Rattle.std.specs.Prelude.{◌≡◌, ◌⊎◌, ◌+◌, true, false, None, List, [], length, IfOk, OnOk, IfSome, MatchBool, MatchOption};
 ghost use Rattle.sm_term.specs.Assertions.{Assertion};
 ghost use Rattle.sm_term.specs.TableLaws.{ExtendsTable, AreApart};
 ghost use Rattle.sm_term.specs.Tables.{trees_in, sorts_in};

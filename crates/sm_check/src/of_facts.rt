@@ -1,6 +1,5 @@
 // Terms that a fact gives.
-ghost use Rattle.std.specs.Prelude.{◌<◌, length, List, Ok, Err, Result, Some};
-ghost use Rattle.std.specs.Prelude.{IfOk};
+ghost use Rattle.std.specs.Prelude.{◌<◌, length, List, Ok, Err, Result, Some, IfOk};
 ghost use Rattle.sm_syntax.specs.text.Sorts.{Sorts};
 ghost use Rattle.sm_term.specs.Terms.{Tree};
 ghost use Rattle.sm_term.specs.Tables.{trees_in, sorts_in};
@@ -10,8 +9,7 @@ ghost use Rattle.sm_theory.specs.Sides.{OptionStands};
 ghost use Rattle.sm_theory.specs.Views.{AllStand, FactStands};
 ghost use Rattle.sm_proof.specs.declared.word.Word.{Word};
 ghost use Rattle.sm_proof.specs.declared.word.Word.TheVariants.{First, BadNumber};
-ghost use Rattle.sm_proof.specs.Passing.{Pending, compared};
-ghost use Rattle.sm_proof.specs.Passing.{term_of_fact};
+ghost use Rattle.sm_proof.specs.Passing.{Pending, compared, term_of_fact};
 ghost use Rattle.sm_check.specs.declared.fault.LineFault.TheVariants.{Wrong};
 ghost use Rattle.sm_check.specs.Tells.{Tells};
 ghost use Rattle.sm_check.specs.TermsMade.{IsTerm, ArePairOf};

@@ -6,8 +6,7 @@ ghost use Rattle.sm_term.specs.Terms.{Tree};
 ghost use Rattle.sm_theory.specs.Facts.{BranchFact};
 ghost use Rattle.sm_theory.specs.Views.{FactStands, AllStand};
 ghost use Rattle.sm_proof.specs.Passing.{Pending, Progress};
-ghost use Rattle.sm_check.specs.Closing.{IsGoalDue, IsGoalWaiting, MoreStands, OpenFirst};
-ghost use Rattle.sm_check.specs.Closing.{OpensAs};
+ghost use Rattle.sm_check.specs.Closing.{IsGoalDue, IsGoalWaiting, MoreStands, OpenFirst, OpensAs};
 ghost use Rattle.sm_check.specs.Pending.{WaitingStands};
 ghost use Rattle.sm_check.specs.Walks.{Walks};
 

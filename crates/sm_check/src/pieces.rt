@@ -1,6 +1,5 @@
 // The lines of a proof file, piece by piece.
-ghost use Rattle.std.specs.Prelude.{◌≡◌, ◌+◌, ◌^◌, ◌<◌, ◌≤◌, ◌++◌, ℕ, List, [], ◌∷◌, length};
-ghost use Rattle.std.specs.Prelude.{OnOk, IfErr};
+ghost use Rattle.std.specs.Prelude.{◌≡◌, ◌+◌, ◌^◌, ◌<◌, ◌≤◌, ◌++◌, ℕ, List, [], ◌∷◌, length, OnOk, IfErr};
 ghost use Rattle.sm_proof.specs.Verdicts.{Subject};
 ghost use Rattle.sm_check.specs.Aside.{AreRead, lines_aside};
 ghost use Rattle.sm_check.specs.LineEnds.{HasNoEnd};

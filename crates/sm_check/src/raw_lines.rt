@@ -1,6 +1,5 @@
 // Lines by their bytes.
-ghost use Rattle.std.specs.Prelude.{◌≡◌, ◌+◌, ◌<◌, ◌++◌, [], ◌∷◌, length, take, Decides, IfOk};
-ghost use Rattle.std.specs.Prelude.{IfSome, None};
+ghost use Rattle.std.specs.Prelude.{◌≡◌, ◌+◌, ◌<◌, ◌++◌, [], ◌∷◌, length, take, Decides, IfOk, IfSome, None};
 ghost use Rattle.sm_proof.specs.Verdicts.{lines_in};
 ghost use Rattle.sm_check.specs.LineEnds.{HasNoEnd, ended_in};
 

@@ -1,12 +1,9 @@
 // The lines of a proof file that were taken, and those set aside behind them.
-ghost use Rattle.std.specs.Prelude.{◌≡◌, ◌+◌, ◌^◌, ◌<◌, ◌++◌, ℕ, List, [], length};
-ghost use Rattle.std.specs.Prelude.{Ok, Err, OnOk, IfErr};
+ghost use Rattle.std.specs.Prelude.{◌≡◌, ◌+◌, ◌^◌, ◌<◌, ◌++◌, ℕ, List, [], length, Ok, Err, OnOk, IfErr};
 ghost use Rattle.sm_proof.specs.FieldRanges.{IsWithinFields};
 ghost use Rattle.sm_proof.specs.Lines.{line_of};
-ghost use Rattle.sm_proof.specs.Verdicts.{Subject, Standing, Unopened, Reached, next_standing};
-ghost use Rattle.sm_proof.specs.Verdicts.{reads_exact};
-ghost use Rattle.sm_check.specs.Aside.{ComesTo, StopsAt, IsNoLine, certificates_of};
-ghost use Rattle.sm_check.specs.Aside.{joined, lines_aside, progress_at, standing_after, with_line};
+ghost use Rattle.sm_proof.specs.Verdicts.{Subject, Standing, Unopened, Reached, next_standing, reads_exact};
+ghost use Rattle.sm_check.specs.Aside.{ComesTo, StopsAt, IsNoLine, certificates_of, joined, lines_aside, progress_at, standing_after, with_line};
 ghost use Rattle.sm_check.specs.Checkers.{IsAt};
 ghost use Rattle.sm_check.specs.Closing.{CloseFirst};
 ghost use Rattle.sm_check.specs.LineEnds.{HasNoEnd, ended_in};

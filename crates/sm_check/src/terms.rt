@@ -1,13 +1,11 @@
 // Terms that lines make.
-ghost use Rattle.std.specs.Prelude.{◌≡◌, ◌<◌, ◌≤◌, ◌^◌, true, length, List, Ok, None, slice_get};
-ghost use Rattle.std.specs.Prelude.{IfOk, IfSome};
+ghost use Rattle.std.specs.Prelude.{◌≡◌, ◌<◌, ◌≤◌, ◌^◌, true, length, List, Ok, None, slice_get, IfOk, IfSome};
 ghost use Rattle.sm_syntax.specs.claim.ConflictFree.{copy_of};
 ghost use Rattle.sm_term.specs.Terms.{Tree};
 ghost use Rattle.sm_term.specs.Fitting.{term_fits};
 ghost use Rattle.sm_term.specs.Sorted.{IsDeclaredIn};
 ghost use Rattle.sm_term.specs.SymStores.{store_in, IsStoreWithin};
-ghost use Rattle.sm_term.specs.Tables.{trees_in, sorts_in, codes_in, tree_in, tree_at};
-ghost use Rattle.sm_term.specs.Tables.{AreBefore, IsTermWithin};
+ghost use Rattle.sm_term.specs.Tables.{trees_in, sorts_in, codes_in, tree_in, tree_at, AreBefore, IsTermWithin};
 ghost use Rattle.sm_term.specs.TableLaws.{AddsTerms};
 ghost use Rattle.sm_theory.specs.Facts.{BranchFact};
 ghost use Rattle.sm_theory.specs.Views.{AllStand};

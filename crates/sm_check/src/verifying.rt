@@ -1,6 +1,5 @@
 // Proof files.
-ghost use Rattle.std.specs.Prelude.{◌≡◌, ◌≢◌, ◌+◌, ◌^◌, ◌<◌, ◌≤◌, ◌⊎◌, ℕ, List, [], length, Ok};
-ghost use Rattle.std.specs.Prelude.{Err, IfOk, IfErr, IsErrOf};
+ghost use Rattle.std.specs.Prelude.{◌≡◌, ◌≢◌, ◌+◌, ◌^◌, ◌<◌, ◌≤◌, ◌⊎◌, ℕ, List, [], length, Ok, Err, IfOk, IfErr, IsErrOf};
 ghost use Rattle.sm_io.specs.Files.{absent, WhereHeld};
 ghost use Rattle.sm_proof.specs.Verdicts.{Subject, Unopened, Pass, Reached, subject_of, verdict};
 ghost use Rattle.sm_syntax.specs.claim.ConflictFree.{ConflictFree};

@@ -1,6 +1,5 @@
 -- Two answers to the same words and told files, each without a fault, are equal.
-use Rattle.std.proofs.Common.{◌≡◌, ◌≢◌, ◌++◌, inl, inr, ℕ, true, false, List, Option, Some, None}
-use Rattle.std.proofs.Common.{refl, sym, ap, subst, ◌∙◌}
+use Rattle.std.proofs.Common.{◌≡◌, ◌≢◌, ◌++◌, inl, inr, ℕ, true, false, List, Option, Some, None, refl, sym, ap, subst, ◌∙◌}
 use Rattle.sm_io.specs.Causes.{Rose}
 use Rattle.sm_io.specs.Files.{Known, untold}
 use Rattle.sm_replay.specs.declared.verdict.Verdict.TheVariants as verdict
@@ -16,22 +15,16 @@ use Rattle.sm_commands.specs.Why.{AnswersTask, SaysWhy}
 use Rattle.sm_syntax.specs.declared.copies.CopyName.{CopyName}
 use Rattle.sm_commands.specs.Laws.{AreTold, AskAlike, IsPlain, OneAnswer, with_cache, with_workers}
 use Rattle.sm_answers.specs.Lines.{summary_line}
-use Rattle.sm_commands.specs.Top.{Files, AnswersCommand, AnswersRequest, Checks, Generates}
-use Rattle.sm_commands.specs.Top.{IsAnswerTo}
+use Rattle.sm_commands.specs.Top.{Files, AnswersCommand, AnswersRequest, Checks, Generates, IsAnswerTo}
 use Rattle.sm_display.specs.Print.{canonical_text, Prints}
 use Rattle.sm_display.proofs.ExplainUnique.{explains_same}
 use Rattle.sm_replies.proofs.BatchUnique.{batches_same, fewer_batches}
-use Rattle.sm_words.specs.Words.{Words, Asked, check, verify, replay, print, suggest, gen, explain}
-use Rattle.sm_words.specs.Words.{batch, trim, about, asked}
+use Rattle.sm_words.specs.Words.{Words, Asked, check, verify, replay, print, suggest, gen, explain, batch, trim, about, asked}
 use Rattle.sm_words.specs.declared.effort.Effort.{Effort}
 use Rattle.sm_answers.specs.declared.status.Status.{Status}
-use Rattle.sm_answers.specs.declared.status.Status.TheVariants.{Accepted, Conflict, Unknown}
-use Rattle.sm_answers.specs.declared.status.Status.TheVariants.{Refused, Usage, ReadFault, Memory}
-use Rattle.sm_answers.specs.declared.status.Status.TheVariants.{WriteFault, SinkFault}
-use Rattle.sm_answers.proofs.AnswerUnique.{Same, says_same, refused_same, task_or_none, task_same}
-use Rattle.sm_answers.proofs.AnswerUnique.{replays_same, verifies_same}
-use Rattle.sm_replies.proofs.AnswerUnique.{fewer_over, no_limit, fewer_suggests, fewer_check}
-use Rattle.sm_replies.proofs.AnswerUnique.{suggests_same, check_same}
+use Rattle.sm_answers.specs.declared.status.Status.TheVariants.{Accepted, Conflict, Unknown, Refused, Usage, ReadFault, Memory, WriteFault, SinkFault}
+use Rattle.sm_answers.proofs.AnswerUnique.{Same, says_same, refused_same, task_or_none, task_same, replays_same, verifies_same}
+use Rattle.sm_replies.proofs.AnswerUnique.{fewer_over, no_limit, fewer_suggests, fewer_check, suggests_same, check_same}
 
 -- ---- check
 

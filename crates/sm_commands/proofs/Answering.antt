@@ -1,6 +1,5 @@
 -- What answers say: where Usage is one, and what Accepted promises.
-use Rattle.std.proofs.Common.{◌≡◌, ◌≢◌, inl, inr, ℕ, List, Option, Some, None, refl, sym, subst}
-use Rattle.std.proofs.Common.{◌∙◌}
+use Rattle.std.proofs.Common.{◌≡◌, ◌≢◌, inl, inr, ℕ, List, Option, Some, None, refl, sym, subst, ◌∙◌}
 use Rattle.sm_io.specs.Files.{Known, WhereHeld}
 use Rattle.sm_proof.specs.declared.word.Word.{Word}
 use Rattle.sm_houdini.specs.Outcomes as outcome
@@ -10,26 +9,21 @@ use Rattle.sm_syntax.specs.text.Parts.{Parts, task_of}
 use Rattle.sm_syntax.specs.text.Spells.{Spells}
 use Rattle.sm_commands.specs.Headline.{merge_file}
 use Rattle.sm_answers.specs.Merges.{IsSafeMerge}
-use Rattle.sm_commands.specs.Top.{Files, IsAnswerTo, AnswersCommand, AnswersRequest, AsksToVerify}
-use Rattle.sm_commands.specs.Top.{Checks}
+use Rattle.sm_commands.specs.Top.{Files, IsAnswerTo, AnswersCommand, AnswersRequest, AsksToVerify, Checks}
 use Rattle.sm_answers.specs.Verify.{Verifies, rejected_line, AnswersProof}
 use Rattle.sm_commands.specs.Deeper.{AnswersDeeper}
 use Rattle.sm_commands.specs.Why.{AnswersTask}
 use Rattle.sm_eval.specs.StoredValues.{meaning}
 use Rattle.sm_answers.specs.Status.{Says}
-use Rattle.sm_words.specs.Words.{Words, Asked, check, verify, replay, print, suggest, gen, explain}
-use Rattle.sm_words.specs.Words.{batch, trim, about, asked, IsUsage}
+use Rattle.sm_words.specs.Words.{Words, Asked, check, verify, replay, print, suggest, gen, explain, batch, trim, about, asked, IsUsage}
 use Rattle.sm_words.specs.declared.effort.Effort.{Effort}
 use Rattle.sm_answers.specs.declared.status.Status.{Status}
-use Rattle.sm_answers.specs.declared.status.Status.TheVariants.{Accepted, Refused, Usage, ReadFault}
-use Rattle.sm_answers.specs.declared.status.Status.TheVariants.{Memory, SinkFault}
+use Rattle.sm_answers.specs.declared.status.Status.TheVariants.{Accepted, Refused, Usage, ReadFault, Memory, SinkFault}
 use Rattle.sm_words.proofs.Usage.{usage_asks_nothing}
-use Rattle.sm_answers.proofs.Statuses.{IsOfCommand, IsToCommand, without_task, replay_to_command}
-use Rattle.sm_answers.proofs.Statuses.{verify_to_command}
+use Rattle.sm_answers.proofs.Statuses.{IsOfCommand, IsToCommand, without_task, replay_to_command, verify_to_command}
 use Rattle.sm_display.proofs.Begins.{explain_to_command}
 use Rattle.sm_replies.proofs.BatchStatuses.{batch_to_command}
-use Rattle.sm_commands.proofs.Statuses.{about_to_command, check_to_command, gen_to_command}
-use Rattle.sm_commands.proofs.Statuses.{print_to_command}
+use Rattle.sm_commands.proofs.Statuses.{about_to_command, check_to_command, gen_to_command, print_to_command}
 use Rattle.sm_replies.proofs.Statuses.{shown_status, suggest_to_command}
 use Rattle.sm_files.proofs.Trimmed.{trim_accepts, trim_to_command}
 use Rattle.sm_answers.proofs.Answering.{accepted_passes, fault_not_accepted}
@@ -52,10 +46,10 @@ accepted_is_free t effort status text (inl (inl (inr w))) e = deeper_free t effo
 accepted_is_free t effort status text (inr a) e = let is = a.says.ended in cc
 
 -- the file that is asked of is one
-same_file : (file task : List ℕ) → Some file ≡ Some task → file ≡ task
+pub same_file : (file task : List ℕ) → Some file ≡ Some task → file ≡ task
 same_file file task e = cc
 
-no_file : (task : List ℕ) → (let o : Option (List ℕ) = None in o) ≡ Some task → ⊥
+pub no_file : (task : List ℕ) → (let o : Option (List ℕ) = None in o) ≡ Some task → ⊥
 no_file task e = cc
 
 -- a task with a proof that is accepted is free of conflicts

@@ -1,6 +1,5 @@
 -- What Conflict says: the task isn't free of conflicts, and the input that is printed or was given shows it.
-use Rattle.std.proofs.Common.{◌≡◌, ◌≢◌, inl, inr, ℕ, true, false, ◌++◌, List, [], Option, Some}
-use Rattle.std.proofs.Common.{None, refl, ap, sym, subst, ◌∙◌}
+use Rattle.std.proofs.Common.{◌≡◌, ◌≢◌, inl, inr, ℕ, true, false, ◌++◌, List, [], Option, Some, None, refl, ap, sym, subst, ◌∙◌}
 use Rattle.std.proofs.lemmas.List.{append-nil, append_assoc}
 use Rattle.sm_io.specs.Files.{Known, WhereHeld}
 use Rattle.sm_replay.specs.Trials.{trial}
@@ -32,16 +31,16 @@ use Rattle.sm_commands.specs.Why.{AnswersTask}
 use Rattle.sm_replies.specs.Suggest.{AnswersSuggest, SaysSuggestion, Suggests}
 use Rattle.sm_syntax.specs.declared.copies.CopyName.{CopyName}
 use Rattle.sm_answers.specs.File.{GivesTask}
-use Rattle.sm_answers.specs.Replay.{GivesInput, Replays, ReplaysInput}
-use Rattle.sm_words.specs.Words.{Words, Asked, check, verify, replay, print, suggest, gen, explain}
-use Rattle.sm_words.specs.Words.{batch, trim, about, asked, task_file}
-use Rattle.sm_words.specs.declared.effort.Effort.{Effort}
 use Rattle.sm_answers.specs.declared.status.Status.{Status}
 use Rattle.sm_answers.specs.declared.status.Status.TheVariants.{Conflict}
+use Rattle.sm_answers.specs.Replay.{GivesInput, Replays, ReplaysInput}
+use Rattle.sm_words.specs.Words.{Words, Asked, check, verify, replay, print, suggest, gen, explain, batch, trim, about, asked, task_file}
+use Rattle.sm_words.specs.declared.effort.Effort.{Effort}
 use Rattle.sm_replay.proofs.ViolationsSound.{violation_conflicts}
 use Rattle.sm_files.proofs.Trimmed.{trim_to_command}
 use Rattle.sm_answers.proofs.Replayed.{judged_violates, no_input_no_conflict}
 use Rattle.sm_answers.proofs.Statuses.{answered_no_conflict, without_task}
+use Rattle.sm_commands.proofs.Answering.{same_file, no_file}
 
 -- no proof file shows a conflict
 proof_no_conflict : (t : Parts) (file : Known) (before now : ℕ) (status : Status) (text : List ℕ)
@@ -156,12 +155,6 @@ unsafe_where : (file : Known) (before now : ℕ) (t : Parts) → GivesTask file 
     → WhereHeld file IsUnsafeMerge
 unsafe_where file before now t gives conflict bytes told =
     (t, subst (λ (b : List ℕ). Spells b t) (sym (gives.read.held bytes told)) gives.spells, conflict)
-
-same_file : (file task : List ℕ) → Some file ≡ Some task → file ≡ task
-same_file file task e = cc
-
-no_file : (task : List ℕ) → (let o : Option (List ℕ) = None in o) ≡ Some task → ⊥
-no_file task e = cc
 
 check_conflicts : (file : Known) (effort : Effort) (before now : ℕ) (status : Status) (text : List ℕ)
     → Checks file effort before now status text → status ≡ Conflict → WhereHeld file IsUnsafeMerge

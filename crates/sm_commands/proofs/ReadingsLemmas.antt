@@ -9,28 +9,24 @@ use Rattle.sm_replay.proofs.ViolationsSound.{violation_conflicts}
 use Rattle.sm_syntax.specs.claim.Stores.{Store}
 use Rattle.sm_syntax.specs.text.Parts.{Parts, task_of}
 use Rattle.sm_answers.specs.Exit.{ExitsWith}
+use Rattle.sm_answers.specs.declared.exit.Exit.{Exit}
 use Rattle.sm_answers.specs.File.{GivesNoTask}
+use Rattle.sm_answers.specs.declared.status.Status.{Status}
+use Rattle.sm_answers.specs.declared.status.Status.TheVariants.{Accepted, Conflict}
 use Rattle.sm_answers.specs.Merges.{IsUnsafeMerge, IsViolatedFrom}
 use Rattle.sm_replies.specs.HeadlineBatch.{AcceptsSafeRead}
-use Rattle.sm_commands.specs.HeadlineRead.{AcceptsRead, ConflictsRead, ReadsProved, ShowsReadInput}
-use Rattle.sm_commands.specs.HeadlineRead.{SuggestsRead}
+use Rattle.sm_commands.specs.HeadlineRead.{AcceptsRead, ConflictsRead, ReadsProved, ShowsReadInput, SuggestsRead}
 use Rattle.sm_answers.specs.ReadFiles.{ReadsTwo}
 use Rattle.sm_replies.proofs.SuggestedSafe.{accepted_suggestion}
 use Rattle.sm_commands.specs.Readings.{AnswersByReads, ChecksRead}
 use Rattle.sm_replies.specs.Suggest.{ProposesRead}
 use Rattle.sm_answers.specs.Readings.{ReadsTask, ReplaysRead, VerifiesRead}
 use Rattle.sm_commands.specs.Top.{AnswersCommand, Files, IsAnswerTo}
-use Rattle.sm_words.specs.Words.{Words, Asked, check as to_check, verify, replay, print, suggest}
-use Rattle.sm_words.specs.Words.{gen, explain, batch, trim, about, asked}
+use Rattle.sm_words.specs.Words.{Words, Asked, check as to_check, verify, replay, print, suggest, gen, explain, batch, trim, about, asked}
 use Rattle.sm_words.specs.declared.effort.Effort.{Effort}
-use Rattle.sm_answers.specs.declared.exit.Exit.{Exit}
-use Rattle.sm_answers.specs.declared.status.Status.{Status}
-use Rattle.sm_answers.specs.declared.status.Status.TheVariants.{Accepted, Conflict}
 use Rattle.sm_commands.proofs.Answering.{accepted_is_free}
 use Rattle.sm_answers.proofs.Answering.{stops_by}
-use Rattle.sm_commands.proofs.ConflictSound.{checked_conflict, explain_no_conflict}
-use Rattle.sm_commands.proofs.ConflictSound.{print_no_conflict, shown_conflict, suggest_no_conflict}
-use Rattle.sm_commands.proofs.ConflictSound.{verify_no_conflict}
+use Rattle.sm_commands.proofs.ConflictSound.{checked_conflict, explain_no_conflict, print_no_conflict, shown_conflict, suggest_no_conflict, verify_no_conflict}
 use Rattle.sm_files.proofs.Trimmed.{trim_to_command, trims_read}
 use Rattle.sm_answers.proofs.Statuses.{without_task}
 

@@ -16,10 +16,8 @@ use Rattle.sm_syntax.specs.declared.copies.CopyName.{CopyName}
 use Rattle.sm_words.specs.declared.about.About.{About}
 use Rattle.sm_words.specs.declared.effort.Effort.{Effort}
 use Rattle.sm_answers.specs.declared.status.Status.{Status}
-use Rattle.sm_answers.specs.declared.status.Status.TheVariants.{Accepted, Conflict, Unknown}
-use Rattle.sm_answers.specs.declared.status.Status.TheVariants.{ReadFault, WriteFault}
-use Rattle.sm_answers.proofs.Statuses.{IsOfCommand, WritesNothing, of_accepted, of_conflict}
-use Rattle.sm_answers.proofs.Statuses.{of_unknown, same_as, IsToCommand, without_task}
+use Rattle.sm_answers.specs.declared.status.Status.TheVariants.{Accepted, Conflict, Unknown, ReadFault, WriteFault}
+use Rattle.sm_answers.proofs.Statuses.{IsOfCommand, WritesNothing, of_accepted, of_conflict, of_unknown, same_as, IsToCommand, without_task}
 use Rattle.sm_display.specs.Print.{Prints}
 use Rattle.sm_replies.proofs.Statuses.{shown_status, over_status}
 

@@ -4,8 +4,7 @@
 use Rattle.std.specs.Prelude.{◌≡◌, ◌++◌, ℕ, false, Option, Some, None, List, []}
 use Rattle.sm_io.specs.Files.{Known, WhereHeld}
 use Rattle.sm_answers.specs.Lines.{input_line}
-use Rattle.sm_words.specs.Words.{Asked, check, verify, replay, print, suggest, gen, explain, batch}
-use Rattle.sm_words.specs.Words.{trim, about}
+use Rattle.sm_words.specs.Words.{Asked, check, verify, replay, print, suggest, gen, explain, batch, trim, about}
 use Rattle.sm_words.specs.declared.effort.Effort.{Effort}
 use Rattle.sm_answers.specs.Merges.{IsViolatedFrom}
 

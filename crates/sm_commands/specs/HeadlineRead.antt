@@ -6,8 +6,7 @@ use Rattle.sm_io.specs.Reads.{Read}
 use Rattle.sm_commands.specs.Headline.{EndsWithInput}
 use Rattle.sm_answers.specs.Merges.{IsProved, IsSafeMerge, IsUnsafeMerge, IsViolatedFrom}
 use Rattle.sm_replies.specs.Suggest.{IsSafeSuggestion}
-use Rattle.sm_words.specs.Words.{Asked, check, verify, replay, print, suggest, gen, explain, batch}
-use Rattle.sm_words.specs.Words.{trim, about}
+use Rattle.sm_words.specs.Words.{Asked, check, verify, replay, print, suggest, gen, explain, batch, trim, about}
 use Rattle.sm_words.specs.declared.effort.Effort.{Effort}
 use Rattle.sm_answers.specs.ReadFiles.{ReadsOne, ReadsTwo}
 

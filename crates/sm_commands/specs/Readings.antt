@@ -6,8 +6,7 @@ use Rattle.sm_syntax.specs.text.Parts.{Parts}
 use Rattle.sm_commands.specs.Why.{AnswersTask}
 use Rattle.sm_replies.specs.HeadlineBatch.{AcceptsSafeRead}
 use Rattle.sm_files.specs.Trim.{TrimsByReads}
-use Rattle.sm_words.specs.Words.{Asked, check, verify, replay, print, suggest, gen, explain, batch}
-use Rattle.sm_words.specs.Words.{trim, about}
+use Rattle.sm_words.specs.Words.{Asked, check, verify, replay, print, suggest, gen, explain, batch, trim, about}
 use Rattle.sm_words.specs.declared.effort.Effort.{Effort}
 use Rattle.sm_answers.specs.declared.status.Status.{Status}
 use Rattle.sm_answers.specs.declared.status.Status.TheVariants.{Accepted, Conflict}

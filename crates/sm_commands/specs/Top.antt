@@ -7,6 +7,8 @@ use Rattle.sm_io.specs.Sinks.{Adds}
 use Rattle.sm_proof.specs.declared.word.Word.{Word}
 use Rattle.sm_syntax.specs.text.Parts.{Parts}
 use Rattle.sm_answers.specs.File.{GivesTask, GivesNoTask}
+use Rattle.sm_answers.specs.declared.status.Status.{Status}
+use Rattle.sm_answers.specs.declared.status.Status.TheVariants.{Accepted, Refused, Usage, Memory, SinkFault}
 use Rattle.sm_replies.specs.Batch.{Batches}
 use Rattle.sm_replies.specs.Gen.{AnswersGenInTime}
 use Rattle.sm_commands.specs.Why.{AnswersTask}
@@ -19,13 +21,9 @@ use Rattle.sm_answers.specs.Verify.{rejected_line, Verifies}
 use Rattle.sm_display.specs.Explain.{Explains}
 use Rattle.sm_display.specs.Print.{Prints}
 use Rattle.sm_words.specs.About.{about_text}
-use Rattle.sm_words.specs.Words.{Words, Asked, check, verify, replay, print, suggest, gen, explain}
-use Rattle.sm_words.specs.Words.{batch, trim, about, asked, usage_line, IsUsage}
-use Rattle.sm_words.specs.declared.about.About.{About}
+use Rattle.sm_words.specs.Words.{Words, Asked, check, verify, replay, print, suggest, gen, explain, batch, trim, about, asked, usage_line, IsUsage}
 use Rattle.sm_words.specs.declared.effort.Effort.{Effort}
-use Rattle.sm_answers.specs.declared.status.Status.{Status}
-use Rattle.sm_answers.specs.declared.status.Status.TheVariants.{Accepted, Refused, Usage, Memory}
-use Rattle.sm_answers.specs.declared.status.Status.TheVariants.{SinkFault}
+use Rattle.sm_words.specs.declared.about.About.{About}
 
 -- what a shelf tells of each file
 abbrev pub Files : Type 0

@@ -12,9 +12,7 @@ use Rattle.sm_why.specs.Reasons.{IsReason}
 use Rattle.sm_why.specs.Trials.{IsTrialsLine}
 use Rattle.sm_why.specs.declared.stop.Stop.{Stop}
 use Rattle.sm_answers.specs.declared.status.Status.{Status}
-use Rattle.sm_answers.specs.declared.status.Status.TheVariants.{Accepted, Conflict, Unknown}
-use Rattle.sm_answers.specs.declared.status.Status.TheVariants.{Refused, Usage, ReadFault, Memory}
-use Rattle.sm_answers.specs.declared.status.Status.TheVariants.{WriteFault, SinkFault}
+use Rattle.sm_answers.specs.declared.status.Status.TheVariants.{Accepted, Conflict, Unknown, Refused, Usage, ReadFault, Memory, WriteFault, SinkFault}
 use Rattle.sm_display.specs.Shown.{ShowsEnds}
 use Rattle.sm_replies.specs.Check.{reach_of, ShowsFrom}
 use Rattle.sm_commands.specs.Deeper.{AnswersDeeper, FailsToWrite}

@@ -1,6 +1,5 @@
 // What `check` answers to a task's file, and what it leaves in the proof's.
-ghost use Rattle.std.specs.Prelude.{◌≡◌, ◌≢◌, ◌^◌, ◌<◌, ℕ, List, length, IfOk, IfErr};
-ghost use Rattle.std.specs.Prelude.{OnErr, option_map};
+ghost use Rattle.std.specs.Prelude.{◌≡◌, ◌≢◌, ◌^◌, ◌<◌, ℕ, List, length, IfOk, IfErr, OnErr, option_map};
 ghost use Rattle.sm_io.specs.Causes.{HasCause};
 ghost use Rattle.sm_syntax.specs.text.Spells.{Spells};
 ghost use Rattle.sm_task.specs.Tasks.{parts_of};

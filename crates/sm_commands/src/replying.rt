@@ -6,9 +6,7 @@ ghost use Rattle.sm_answers.specs.Exit.{ExitsWith};
 ghost use Rattle.sm_words.specs.Views.{asked_in, IsWithin};
 ghost use Rattle.sm_words.specs.Words.{asked};
 ghost use Rattle.sm_commands.specs.Readings.{AnswersByReads};
-ghost use Rattle.sm_commands.specs.Top.{IsAnswerTo, AnswersCommand, LeavesBy, LeavesFiles};
-ghost use Rattle.sm_commands.specs.Top.{LeavesPart, LeavesPartBy, TellsBy, TellsFiles};
-ghost use Rattle.sm_commands.specs.Top.{WritesElsewhere};
+ghost use Rattle.sm_commands.specs.Top.{IsAnswerTo, AnswersCommand, LeavesBy, LeavesFiles, LeavesPart, LeavesPartBy, TellsBy, TellsFiles, WritesElsewhere};
 ghost use Rattle.sm_files.specs.Views.{CountsWrites, EndsWith};
 
 use crate::checking::check_in;

@@ -1,20 +1,20 @@
 -- What statements and lists of statements assign.
 use Rattle.std.proofs.Common.{◌≡◌, ◌+◌, ◌<◌, ◌≤◌, ℕ, Bool, ◌==◌, ◌||◌, List, length, map, drop, get_or, refl, sym, ap, ◌∙◌}
 use Rattle.std.proofs.Math.Path.{fun_ext}
-use Rattle.sm_syntax.specs.declared.tree.Block.{Block}
-use Rattle.sm_syntax.specs.declared.tree.Cond.{Cond}
 use Rattle.sm_syntax.specs.declared.tree.Expr.{Expr}
 use Rattle.sm_syntax.specs.declared.tree.Name.{Name}
-use Rattle.sm_syntax.specs.declared.tree.Stmt.{Stmt}
 use Rattle.sm_syntax.specs.declared.tree.Stmt.TheVariants as tree
 use Rattle.sm_syntax.specs.Assigns.{assigns}
 use Rattle.sm_syntax.specs.claim.Syntax.{Code, End, Skip, Assign, Write, If, While, Hole, append}
 use Rattle.sm_syntax.specs.trees.Views.{sequence, statement_of, code_of}
+use Rattle.sm_syntax.specs.declared.tree.Stmt.{Stmt}
+use Rattle.sm_syntax.specs.declared.tree.Block.{Block}
+use Rattle.sm_syntax.specs.declared.tree.Cond.{Cond}
 use Rattle.sm_syntax.proofs.Blocks.{statement_is, sequence-drop, sequence-drop-end}
-use Rattle.sm_syntax.proofs.Statements.{statement_of-Skip, statement_of-Assign, statement_of-Store, statement_of-If, statement_of-While}
-use Rattle.sm_syntax.proofs.Statements.{statement_of-Hole}
+use Rattle.sm_syntax.proofs.Statements.{statement_of-Skip, statement_of-Assign, statement_of-Store, statement_of-If, statement_of-While, statement_of-Hole}
 use Rattle.sm_deps.specs.Members.{only, either}
-use Rattle.sm_deps.proofs.MembersLemmas.{none, or-false, or_assoc, either-none, either-either}
+use Rattle.sm_deps.proofs.MembersLemmas.{none, either-none, either-either}
+use Rattle.sm_lemmas.proofs.Tests.{or_false, or_assoc}
 
 -- one code after another assigns what either does
 assigns-append : (c r : Code) (x : ℕ) → assigns (append c r) x ≡ (assigns c x || assigns r x)
@@ -43,19 +43,19 @@ assigns-Hole h = ap assigns (statement_of-Hole h End)
 -- one that assigns a name
 pub assigns-Assign : (x : Name) (e : Expr) → assigns (statement_of (tree.Assign x e) End) ≡ only x.0
 unfolding only
-assigns-Assign x e = ap assigns (statement_of-Assign x e End) ∙ fun_ext (λ (q : ℕ). or-false (q == x.0))
+assigns-Assign x e = ap assigns (statement_of-Assign x e End) ∙ fun_ext (λ (q : ℕ). or_false (q == x.0))
 
 pub assigns-Store : (a : Name) (i e : Expr) → assigns (statement_of (tree.Store a i e) End) ≡ only a.0
 unfolding only
-assigns-Store a i e = ap assigns (statement_of-Store a i e End) ∙ fun_ext (λ (q : ℕ). or-false (q == a.0))
+assigns-Store a i e = ap assigns (statement_of-Store a i e End) ∙ fun_ext (λ (q : ℕ). or_false (q == a.0))
 
 -- one with parts
 pub assigns-If : (b : Cond) (c d : Block) → assigns (statement_of (tree.If b c d) End) ≡ either (assigns (code_of c)) (assigns (code_of d))
 unfolding either
-assigns-If b c d = ap assigns (statement_of-If b c d End) ∙ fun_ext (λ (q : ℕ). or-false (assigns (code_of c) q || assigns (code_of d) q))
+assigns-If b c d = ap assigns (statement_of-If b c d End) ∙ fun_ext (λ (q : ℕ). or_false (assigns (code_of c) q || assigns (code_of d) q))
 
 pub assigns-While : (b : Cond) (c : Block) → assigns (statement_of (tree.While b c) End) ≡ assigns (code_of c)
-assigns-While b c = ap assigns (statement_of-While b c End) ∙ fun_ext (λ (q : ℕ). or-false (assigns (code_of c) q))
+assigns-While b c = ap assigns (statement_of-While b c End) ∙ fun_ext (λ (q : ℕ). or_false (assigns (code_of c) q))
 
 -- a list's statements from i on, where s stands at i
 pub assigns-drop : (l : List Stmt) (i : ℕ) (s : Stmt) → i < length l → s ≡ get_or l i s →

@@ -1,13 +1,12 @@
 -- The names that well-sorted code needs and assigns are declared.
 use Rattle.std.proofs.Common.{◌≡◌, ℕ, Bool, true, not, ◌==◌, ◌||◌, ◌&&◌, Some, is_some, length, ap, ◌∙◌, ⊎_elim}
 use Rattle.std.proofs.lemmas.Bool.{eqb-true, or_cases, and_parts}
-use Rattle.sm_syntax.specs.declared.tree.Sort.{Sort}
-use Rattle.sm_syntax.specs.declared.tree.Sort.TheVariants.{Num, Arr}
 use Rattle.sm_syntax.specs.Assigns.{assigns}
 use Rattle.sm_syntax.specs.text.Conditions.{is_in}
 use Rattle.sm_syntax.specs.text.Sorts.{Sorts, IsWellSortedExpression, IsWellSortedCondition, IsWellSorted}
-use Rattle.sm_syntax.specs.claim.Syntax.{Expression, Lit, Var, Read, Neg, Plus, Minus, Times, Condition, Yes, No, Compare, Not, And, Or}
-use Rattle.sm_syntax.specs.claim.Syntax.{Code, End, Skip, Assign, Write, If, While, Hole}
+use Rattle.sm_syntax.specs.declared.tree.Sort.{Sort}
+use Rattle.sm_syntax.specs.declared.tree.Sort.TheVariants.{Num, Arr}
+use Rattle.sm_syntax.specs.claim.Syntax.{Expression, Lit, Var, Read, Neg, Plus, Minus, Times, Condition, Yes, No, Compare, Not, And, Or, Code, End, Skip, Assign, Write, If, While, Hole}
 use Rattle.sm_deps.specs.Names.{mentions, tests, code_names}
 use Rattle.sm_deps.specs.Inputs.{needed, inputs}
 use Rattle.sm_deps.proofs.InputsExact.{inputs_listed}

@@ -1,21 +1,20 @@
 -- Stores that agree on what code needs run alike.
-use Rattle.std.proofs.Common.{◌≡◌, ◌≢◌, ◌⊎◌, ℕ, zero, suc, ℤ, Bool, true, false, IsTrue, ◌==◌, ◌||◌, if◌then◌else◌, Option, Some, None, inl}
-use Rattle.std.proofs.Common.{inr, ⊎_elim, refl, sym, subst}
-use Rattle.std.proofs.lemmas.Bool.{cases_eq, eqb-true, eqb-false, eq-eqb, or_left, or_right}
-use Rattle.sm_syntax.specs.declared.tree.Sort.{Sort}
-use Rattle.sm_syntax.specs.declared.tree.Sort.TheVariants.{Num, Arr}
+use Rattle.std.proofs.Common.{◌≡◌, ◌≢◌, ◌⊎◌, ℕ, zero, suc, ℤ, Bool, true, false, IsTrue, ◌==◌, ◌||◌, if◌then◌else◌, Option, Some, None, inl, inr, ⊎_elim, refl, sym, subst}
+use Rattle.std.proofs.lemmas.Bool.{cases_eq, eqb-true, eqb-false, or_left, or_right}
 use Rattle.sm_syntax.specs.text.Conditions.{is_in}
-use Rattle.sm_syntax.specs.claim.Syntax.{Expression, Lit, Var, Read, Neg, Plus, Minus, Times, Condition, Yes, No, Compare, Not, And, Or}
-use Rattle.sm_syntax.specs.claim.Syntax.{Code, End, Skip, Assign, Write, If, While, Hole}
+use Rattle.sm_syntax.specs.claim.Syntax.{Expression, Lit, Var, Read, Neg, Plus, Minus, Times, Condition, Yes, No, Compare, Not, And, Or, Code, End, Skip, Assign, Write, If, While, Hole}
 use Rattle.sm_syntax.specs.claim.Stores.{Value, Array, number, array, Store, put, with_element}
 use Rattle.sm_syntax.specs.claim.Meaning.{value_of, truth_of, and_then, turns, written, run}
 use Rattle.sm_syntax.specs.text.Sorts.{Sorts, IsWellSortedExpression, IsWellSortedCondition, IsWellSorted}
+use Rattle.sm_syntax.specs.declared.tree.Sort.{Sort}
+use Rattle.sm_syntax.specs.declared.tree.Sort.TheVariants.{Num, Arr}
 use Rattle.sm_deps.specs.Names.{mentions, tests}
 use Rattle.sm_deps.specs.Needs.{NamePredicate, Picked, Least, Needs}
 use Rattle.sm_deps.specs.Inputs.{inputs}
 use Rattle.sm_deps.specs.Laws.{EndAlike, SameIfSorted}
 use Rattle.sm_deps.proofs.NeedsLemmas.{least_starts, least_stays}
 use Rattle.sm_deps.proofs.InputsExact.{inputs_exact}
+use Rattle.sm_lemmas.proofs.Tests.{itself}
 
 -- when two values of a name are alike
 abbrev Likeness : Type 1
@@ -140,10 +139,6 @@ left_part alike p q s t h x used = h x (or_left (p x) (q x) used)
 right_part : (alike : Likeness) (p q : ℕ → Bool) (s t : Store) → Agree alike (Picked (λ (x : ℕ). p x || q x)) s t
     → Agree alike (Picked q) s t
 right_part alike p q s t h x used = h x (or_right (p x) (q x) used)
-
--- a name is itself
-itself : (x : ℕ) → (x == x) ≡ true
-itself x = eq-eqb x x refl
 
 -- an expression's value goes by its names
 value_same : (e : Expression) (s t : Store) → Agree Equal (Picked (mentions e)) s t → value_of e s ≡ value_of e t

@@ -1,6 +1,5 @@
 -- Going over code with kept sets finds exactly what the code needs.
-use Rattle.std.proofs.Common.{◌≡◌, ◌⊎◌, ◌+◌, ◌<◌, ◌≤◌, ℕ, zero, suc, true, ◌||◌, Some, None, List, []}
-use Rattle.std.proofs.Common.{◌∷◌, ◌++◌, length, get_or, slice_get, inl, inr, refl, sym, ap, subst, ⊎_elim, ◌∙◌, length-append, arith}
+use Rattle.std.proofs.Common.{◌≡◌, ◌⊎◌, ◌+◌, ◌<◌, ◌≤◌, ℕ, zero, suc, true, ◌||◌, Some, None, List, [], ◌∷◌, ◌++◌, length, get_or, slice_get, inl, inr, refl, sym, ap, subst, ⊎_elim, ◌∙◌, length-append, arith}
 use Rattle.std.proofs.lemmas.Option.{same_Some, slice_get_read, slice_get_past}
 use Rattle.std.proofs.lemmas.Bool.{or_left, or_right, or_cases}
 use Rattle.std.proofs.Math.Path.{fun_ext}
@@ -14,8 +13,9 @@ use Rattle.sm_deps.specs.Members.{members, either, Below}
 use Rattle.sm_deps.specs.Loops.{loops_in, HasNeeds, IsWithin, IsReady, LoopsCounted, GoesOver, Settles, Resumes, KeepsSet}
 use Rattle.sm_deps.proofs.InputsExact.{loop_closed}
 use Rattle.sm_deps.proofs.GrownLemmas.{grown_starts, grown_within}
-use Rattle.sm_deps.proofs.NeededLemmas.{needed-append, needed_grows, both_ways, no_more}
+use Rattle.sm_deps.proofs.NeededLemmas.{needed-append, needed_grows, no_more}
 use Rattle.sm_deps.proofs.LoopSets.{Test, sets_of, sets_need}
+use Rattle.sm_lemmas.proofs.Tests.{same_tests}
 
 -- what is so of a set is so of an equal one
 abbrev at : (s t : Test) (x : ℕ) → s ≡ t → s x ≡ true → t x ≡ true
@@ -300,4 +300,4 @@ over_all c wanted found before after fresh over =
     let out = over.no_more wanted (sets_of before.next c wanted) (λ x h. h) (sets_need c before.next wanted)
     (λ (n : ℕ) (set : BTreeSet ℕ) (there : slice_get before.sets.items n ≡ Some set).
     absurd (let nothing : slice_get [] n ≡ Some set = subst (λ l. slice_get l n ≡ Some set) fresh there in cc)) in
-    fun_ext (λ (x : ℕ). both_ways (found x) (needed c wanted x) (out.0 x) (over.enough x))
+    fun_ext (λ (x : ℕ). same_tests (found x) (needed c wanted x) (out.0 x) (over.enough x))

@@ -11,11 +11,12 @@ use Rattle.std.specs.BTreeSet.{BTreeSet, contains, InsertsAll, IsOrdered, Update
 use Rattle.std.specs.List.{list_any}
 use Rattle.std.specs.List.Sorted.{IsStrictlyIncreasing}
 use Rattle.std.specs.Ordering.{nat_cmp}
-use Rattle.sm_syntax.specs.declared.tree.Cmp.{Cmp}
 use Rattle.sm_syntax.specs.text.Conditions.{is_in}
 use Rattle.sm_syntax.specs.claim.Syntax.{Expression, Var, Read, Plus, Minus, Times, Condition, Compare, And, Or}
+use Rattle.sm_syntax.specs.declared.tree.Cmp.{Cmp}
 use Rattle.sm_deps.specs.Names.{mentions, tests}
 use Rattle.sm_deps.specs.Members.{members, only, either}
+use Rattle.sm_lemmas.proofs.Tests.{or_false, or_assoc}
 
 -- whether a number is at its place
 pub at_number : (x q : ℕ) → is_at (nat_cmp x) q ≡ (q == x)
@@ -40,16 +41,6 @@ pub members-union : (old more new : BTreeSet ℕ) → InsertsAll nat_cmp old mor
 unfolding members either
 members-union old more new h = fun_ext (λ (q : ℕ). h.0 q)
 
--- one of two, where the second fails
-pub or-false : (b : Bool) → (b || false) ≡ b
-or-false true = refl
-or-false false = refl
-
--- one of three, in either grouping
-pub or_assoc : (a b c : Bool) → ((a || b) || c) ≡ (a || (b || c))
-or_assoc true b c = refl
-or_assoc false b c = refl
-
 -- no name
 unfoldable pub none : ℕ → Bool
 none x = false
@@ -57,11 +48,11 @@ none x = false
 -- nothing more
 pub either-none : (s : ℕ → Bool) → either s none ≡ s
 unfolding either none
-either-none s = fun_ext (λ (x : ℕ). or-false (s x))
+either-none s = fun_ext (λ (x : ℕ). or_false (s x))
 
 pub either-false : (s : ℕ → Bool) → either s (λ (x : ℕ). false) ≡ s
 unfolding either
-either-false s = fun_ext (λ (x : ℕ). or-false (s x))
+either-false s = fun_ext (λ (x : ℕ). or_false (s x))
 
 -- three sets, in either grouping
 pub either-either : (s t u : ℕ → Bool) → either (either s t) u ≡ either s (either t u)

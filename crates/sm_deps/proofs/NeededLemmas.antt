@@ -1,6 +1,5 @@
 -- What is needed before statements and lists of statements, one step at a time.
-use Rattle.std.proofs.Common.{◌≡◌, ◌+◌, ◌-◌, ◌<◌, ◌≤◌, ℕ, Bool, true, false, cond, not, ◌==◌, ◌||◌, ◌&&◌, List, [], ◌∷◌, ◌++◌, length, map}
-use Rattle.std.proofs.Common.{drop, get_or, nat_eq, refl, sym, ap, subst, ⊎_elim, ◌∙◌, length-append, arith}
+use Rattle.std.proofs.Common.{◌≡◌, ◌+◌, ◌-◌, ◌<◌, ◌≤◌, ℕ, Bool, true, false, cond, not, ◌==◌, ◌||◌, ◌&&◌, List, [], ◌∷◌, ◌++◌, length, map, drop, get_or, nat_eq, refl, sym, ap, subst, ⊎_elim, ◌∙◌, length-append, arith}
 use Rattle.std.proofs.lemmas.Bool.{cases_Bool, eqb-true, or_left, or_cases}
 use Rattle.std.proofs.lemmas.Bool.Decides.{nat_tests}
 use Rattle.std.proofs.Math.Path.{fun_ext}
@@ -12,24 +11,24 @@ use Rattle.std.specs.BTreeSet.{BTreeSet, contains, contains_by, IsOrdered, Updat
 use Rattle.std.proofs.lemmas.Cmp.{nat_eq_equiv}
 use Rattle.std.specs.List.{IsDistinct, list_any}
 use Rattle.std.specs.Ordering.{nat_cmp, eq_by_cmp}
-use Rattle.sm_syntax.specs.declared.tree.Block.{Block}
-use Rattle.sm_syntax.specs.declared.tree.Cond.{Cond}
 use Rattle.sm_syntax.specs.declared.tree.Expr.{Expr}
 use Rattle.sm_syntax.specs.declared.tree.Name.{Name}
-use Rattle.sm_syntax.specs.declared.tree.Stmt.{Stmt}
 use Rattle.sm_syntax.specs.declared.tree.Stmt.TheVariants as tree
 use Rattle.sm_syntax.specs.text.Conditions.{is_in}
 use Rattle.sm_syntax.specs.claim.Syntax.{Code, End, Skip, Assign, Write, If, While, Hole, append}
 use Rattle.sm_syntax.specs.trees.Views.{expression_of, condition_of, sequence, statement_of, code_of}
+use Rattle.sm_syntax.specs.declared.tree.Stmt.{Stmt}
+use Rattle.sm_syntax.specs.declared.tree.Block.{Block}
+use Rattle.sm_syntax.specs.declared.tree.Cond.{Cond}
 use Rattle.sm_syntax.proofs.Blocks.{statement_is, sequence-drop}
-use Rattle.sm_syntax.proofs.Statements.{statement_of-Skip, statement_of-Assign, statement_of-Store, statement_of-If, statement_of-While}
-use Rattle.sm_syntax.proofs.Statements.{statement_of-Hole}
+use Rattle.sm_syntax.proofs.Statements.{statement_of-Skip, statement_of-Assign, statement_of-Store, statement_of-If, statement_of-While, statement_of-Hole}
 use Rattle.sm_deps.specs.Inputs.{grown, needed, inputs}
 use Rattle.sm_deps.specs.Members.{members, only, either, Below}
 use Rattle.sm_deps.specs.Names.{mentions, tests, code_names}
 use Rattle.sm_deps.specs.Needs.{Picked}
 use Rattle.sm_deps.proofs.InputsExact.{needed_sound, needed_complete, inputs_listed, inputs_exact}
-use Rattle.sm_deps.proofs.MembersLemmas.{at_number, or_assoc, or-false, listed-members, list_is}
+use Rattle.sm_deps.proofs.MembersLemmas.{at_number, listed-members, list_is}
+use Rattle.sm_lemmas.proofs.Tests.{same_tests, or_assoc, or_false}
 
 -- before one code after another, what the first needs for what the second needs
 pub needed-append : (c r : Code) (wanted : ℕ → Bool) → needed (append c r) wanted ≡ needed c (needed r wanted)
@@ -62,7 +61,7 @@ taken set y x m wanted = ap (λ (c : Bool). (set x && not (x == y)) || (c && m))
 
 passed : (set : ℕ → Bool) (y x : ℕ) (m : Bool) → set y ≡ false → ((set x && not (x == y)) || (set y && m)) ≡ set x
 passed set y x m lacked =
-    ap (λ (c : Bool). (set x && not (x == y)) || (c && m)) lacked ∙ or-false (set x && not (x == y)) ∙ go (x == y) refl where
+    ap (λ (c : Bool). (set x && not (x == y)) || (c && m)) lacked ∙ or_false (set x && not (x == y)) ∙ go (x == y) refl where
       kept : (b : Bool) → (b && true) ≡ b
       kept true = refl
       kept false = refl
@@ -103,7 +102,7 @@ pub needed-Store-other : (a : Name) (i e : Expr) (wanted : ℕ → Bool) → wan
 needed-Store-other a i e wanted lacked =
     ap (λ (c : Code). needed c wanted) (statement_of-Store a i e End) ∙
     fun_ext (λ (q : ℕ). ap (λ (b : Bool). wanted q || (b && (mentions (expression_of i) q || mentions (expression_of e) q))) lacked ∙
-    or-false (wanted q))
+    or_false (wanted q))
 
 -- a choice
 pub needed-If : (b : Cond) (c d : Block) (wanted : ℕ → Bool) →
@@ -149,12 +148,6 @@ pub needed_grows : (c : Code) (few more : ℕ → Bool) → Below few more → B
 needed_grows c few more h x m =
     needed_complete c more (Picked more) (λ (y : ℕ) (p : more y ≡ true). p) x (needed_sound c few (Picked more) h x m)
 
--- two tests that hold of the same numbers
-pub both_ways : (b c : Bool) → (b ≡ true → c ≡ true) → (c ≡ true → b ≡ true) → b ≡ c
-both_ways true c there back = sym (there refl)
-both_ways false true there back = absurd (let no : false ≡ true = back refl in cc)
-both_ways false false there back = refl
-
 -- a set's list has no name twice
 distinct : (set : BTreeSet ℕ) → IsOrdered nat_cmp set → IsDistinct nat_eq set.keys
 distinct set ordered =
@@ -182,7 +175,7 @@ no_more old new ordered h small q m =
     listed-members new z ∙
     ⊎_elim
     (λ (older : is_in old.keys z ≡ true). h z (sym (listed-members old z) ∙ older))
-    (λ (one : is_in (q ∷ []) z ≡ true). ap (members new) (eqb-true z q (sym (or-false (z == q)) ∙ one)) ∙ m)
+    (λ (one : is_in (q ∷ []) z ≡ true). ap (members new) (eqb-true z q (sym (or_false (z == q)) ∙ one)) ∙ m)
     (or_cases (is_in old.keys z) (is_in (q ∷ []) z) (sym (list_any-append (λ (y : ℕ). z == y) old.keys (q ∷ [])) ∙ n))) in
     let long = length-append old.keys (q ∷ []) in
     absurd (omega (arith, more, long, small)))
@@ -211,6 +204,6 @@ pub list_is_inputs : (c : Code) (w : ℕ) (set : BTreeSet ℕ) → IsOrdered nat
 unfolding only
 list_is_inputs c w set ordered all =
     list_is set (inputs c w) ordered (inputs_exact c w).0
-    (λ (x : ℕ). both_ways (is_in (inputs c w) x) (members set x)
+    (λ (x : ℕ). same_tests (is_in (inputs c w) x) (members set x)
     (λ (m : is_in (inputs c w) x ≡ true). ap (λ (s : ℕ → Bool). s x) all ∙ (inputs_listed c w x).0 m)
     (λ (m : members set x ≡ true). (inputs_listed c w x).1 (sym (ap (λ (s : ℕ → Bool). s x) all) ∙ m)))

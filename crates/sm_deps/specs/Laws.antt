@@ -1,7 +1,6 @@
 -- Cited by public clauses: laws of what code needs and assigns, each for all code.
 use Rattle.std.specs.Prelude.{◌≡◌, ◌↔◌, ℕ, IsTrue, Option, Some, None, is_some}
 use Rattle.std.specs.List.Sorted.{IsStrictlyIncreasing}
-use Rattle.sm_syntax.specs.declared.tree.Sort.{Sort}
 use Rattle.sm_syntax.specs.Assigns.{assigns}
 use Rattle.sm_syntax.specs.text.Conditions.{is_in}
 use Rattle.sm_syntax.specs.claim.Syntax.{Code}
@@ -9,6 +8,7 @@ use Rattle.sm_syntax.specs.claim.Stores.{Value, Store}
 use Rattle.sm_syntax.specs.claim.Meaning.{run}
 use Rattle.sm_syntax.specs.SameAs.{SameAs}
 use Rattle.sm_syntax.specs.text.Sorts.{Sorts, IsWellSorted}
+use Rattle.sm_syntax.specs.declared.tree.Sort.{Sort}
 use Rattle.sm_deps.specs.Needs.{Needs}
 use Rattle.sm_deps.specs.Inputs.{inputs}
 

@@ -1,6 +1,5 @@
 // Laws of what code needs and assigns, as contracts.
-ghost use Rattle.sm_deps.specs.Laws.{InputsAreNeeded, InputsDecide, InputsDecideBySort};
-ghost use Rattle.sm_deps.specs.Laws.{InputsAreDeclared, AssignedAreDeclared};
+ghost use Rattle.sm_deps.specs.Laws.{InputsAreNeeded, InputsDecide, InputsDecideBySort, InputsAreDeclared, AssignedAreDeclared};
 
 /// The inputs of code for a name are exactly the names that it needs, ascending.
 pub fn inputs_are_needed()

@@ -1,6 +1,5 @@
 -- A store has one text, and four ends have one table.
-use Rattle.std.proofs.Common.{◌≡◌, ◌<◌, ◌++◌, ℕ, zero, suc, ℤ, pos, Bool, true, false, if◌then◌else◌, List, [], ◌∷◌, length}
-use Rattle.std.proofs.Common.{inl, inr, ⊎_elim, refl, sym, ap, subst, ◌∙◌, arith}
+use Rattle.std.proofs.Common.{◌≡◌, ◌<◌, ◌++◌, ℕ, zero, suc, ℤ, pos, Bool, true, false, if◌then◌else◌, List, [], ◌∷◌, length, inl, inr, ⊎_elim, refl, sym, ap, subst, ◌∙◌, arith}
 use Rattle.std.specs.Prelude.{◌<ℤ◌, ◌≤ℤ◌}
 use Rattle.std.specs.Ordering.{int_eq}
 use Rattle.std.proofs.lemmas.Bool.Decides.{Decides-int_eq}
@@ -15,12 +14,10 @@ use Rattle.sm_replay.proofs.VerdictSound.{same_ends}
 use Rattle.sm_explain.specs.Indices.{IsOf, Rise}
 use Rattle.sm_explain.specs.Starts.{element_lines, AreStartLines, AreValueLines}
 use Rattle.sm_explain.specs.Tables.{element_rows, AreElementRows, AreOutputRows, AreRows, IsTable}
+use Rattle.sm_explain.proofs.MergedLists.{first_least}
+use Rattle.sm_lemmas.proofs.Tests.{neither_less}
 
 -- ---- rising lists of the same indices
-
-at_least : (u : ℤ) (us : List ℤ) → Rise (u ∷ us) → (j : ℤ) → IsOf (u ∷ us) j → u ≤ℤ j
-at_least u us r j h =
-    ⊎_elim (λ (e : j ≡ u). omega (arith, ints)) (λ (o : IsOf us j). let lt : u <ℤ j = r.0 j o in omega (arith, ints)) h
 
 both_ways : (u v : ℤ) → u ≤ℤ v → v ≤ℤ u → u ≡ v
 both_ways u v low high = grind (arith, ints)
@@ -37,7 +34,7 @@ indices_one [] [] ru rv to from = refl
 indices_one [] (v ∷ vs) ru rv to from = absurd (from v (inl refl))
 indices_one (u ∷ us) [] ru rv to from = absurd (to u (inl refl))
 indices_one (u ∷ us) (v ∷ vs) ru rv to from =
-    let same : u ≡ v = both_ways u v (at_least u us ru v (from v (inl refl))) (at_least v vs rv u (to u (inl refl))) in
+    let same : u ≡ v = both_ways u v (first_least u us ru v (from v (inl refl))) (first_least v vs rv u (to u (inl refl))) in
     let rest : us ≡ vs =
     indices_one us vs ru.1 rv.1
     (λ (i : ℤ) (o : IsOf us i). rest_of u us vs i ru o (subst (λ (z : ℤ). IsOf (z ∷ vs) i) (sym same) (to i (inr o))))
@@ -103,9 +100,6 @@ listed_other c rest i other = ap (λ (b : Bool). if b then c.1 else listed rest 
 
 less_trans : (u v w : ℤ) → u <ℤ v → v <ℤ w → u <ℤ w
 less_trans u v w low high = omega (arith, ints, low, high)
-
-neither_less : (u v : ℤ) → (u <ℤ v → ⊥) → (v <ℤ u → ⊥) → u ≡ v
-neither_less u v low high = grind (arith, ints)
 
 -- the first index of a list isn't below that of another that gives the same numbers
 not_below : (c d : ℤ × ℤ) (l m : List (ℤ × ℤ)) → AreCells (c ∷ l) → AreCells (d ∷ m)

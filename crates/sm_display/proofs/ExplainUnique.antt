@@ -17,11 +17,9 @@ use Rattle.sm_explain.proofs.PlacesSound.{place_one}
 use Rattle.sm_follow.proofs.Lines.{follow_line_one}
 use Rattle.sm_answers.specs.File.{GivesTask}
 use Rattle.sm_answers.specs.declared.status.Status.{Status}
-use Rattle.sm_answers.proofs.AnswerUnique.{Same, says_same, bytes_or_none, input_or_none, no_bytes_same, no_task_same, read_same}
-use Rattle.sm_answers.proofs.AnswerUnique.{refused_input_same, store_same, task_or_none, task_same, verdict_same}
+use Rattle.sm_answers.proofs.AnswerUnique.{Same, says_same, bytes_or_none, input_or_none, no_bytes_same, no_task_same, read_same, refused_input_same, store_same, task_or_none, task_same, verdict_same}
 use Rattle.sm_display.specs.Explain.{Explains, ExplainsInput, ExplainsNoTask, ExplainsReplay, ExplainsRun, ShowsNoTask}
-use Rattle.sm_display.specs.Shown.{ends_text, misfit_of, offset_of, programs_text, start_heading}
-use Rattle.sm_display.specs.Shown.{ShowsEnds, ShowsOffset, ShowsRun, ShowsTokens}
+use Rattle.sm_display.specs.Shown.{ends_text, misfit_of, offset_of, programs_text, start_heading, ShowsEnds, ShowsOffset, ShowsRun, ShowsTokens}
 use Rattle.sm_display.proofs.Begins.{begins_refused}
 use Rattle.sm_display.proofs.CellsUnique.{start_one, table_one}
 

@@ -9,12 +9,12 @@ use Rattle.sm_syntax.specs.claim.Stores.{Store}
 use Rattle.sm_syntax.specs.text.Parts.{Parts}
 use Rattle.sm_explain.specs.Starts.{AreStartLines}
 use Rattle.sm_answers.specs.Exit.{ExitsWith}
+use Rattle.sm_answers.specs.declared.exit.Exit.{Exit}
 use Rattle.sm_answers.specs.File.{GivesTask}
+use Rattle.sm_answers.specs.declared.status.Status.{Status}
 use Rattle.sm_answers.specs.Readings.{ReplaysRead}
 use Rattle.sm_answers.specs.Replay.{verdict_status, AnswersReplay}
-use Rattle.sm_answers.specs.declared.exit.Exit.{Exit}
 use Rattle.sm_answers.specs.declared.status.Reply.{Reply}
-use Rattle.sm_answers.specs.declared.status.Status.{Status}
 use Rattle.sm_answers.proofs.Answering.{result_by, stops_by}
 use Rattle.sm_answers.proofs.Statuses.{without_task}
 use Rattle.sm_display.specs.Explain.{ExplainsInput, ExplainsNoTask, ExplainsReplay, ExplainsRun}

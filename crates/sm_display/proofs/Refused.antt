@@ -1,15 +1,15 @@
 -- Bytes that are no task: the offset at which they are refused lies in the text, and the answer to them.
 use Rattle.std.proofs.Common.{◌≡◌, ◌≢◌, ◌≤◌, ◌+◌, ◌-◌, ◌++◌, inl, inr, ℕ, zero, suc, List, [], ◌∷◌, Option, Some, None, length, take, refl, sym, ap, subst, ◌∙◌, append_assoc, arith}
 use Rattle.sm_syntax.specs.declared.symbol.Symbol.{Symbol}
-use Rattle.sm_syntax.specs.declared.token.LexFault.{LexFault}
-use Rattle.sm_syntax.specs.declared.token.Token.{Token}
 use Rattle.sm_syntax.specs.text.Conditions as refusal
 use Rattle.sm_syntax.specs.text.Conditions.{Refusal}
 use Rattle.sm_syntax.specs.text.Symbols.{names_of}
 use Rattle.sm_syntax.specs.text.Tokens.{by_front, front_of, lexed, lexed_after, lexed_from, Front, Gap, Piece, Fault, Lexed}
-use Rattle.sm_text.specs.declared.error.TextError.{TextError}
+use Rattle.sm_syntax.specs.declared.token.Token.{Token}
+use Rattle.sm_syntax.specs.declared.token.LexFault.{LexFault}
 use Rattle.sm_text.specs.declared.error.TextError.TheVariants as text
 use Rattle.sm_text.specs.parsing.Places.{AreTasks, IsFault, IsFirstFault, Stands, at_end, at_token}
+use Rattle.sm_text.specs.declared.error.TextError.{TextError}
 use Rattle.sm_text.specs.parsing.Places.Sources.{whole_text}
 use Rattle.sm_task.specs.Errors.{error_of, from_text, IsRefusedWith}
 use Rattle.sm_task.specs.declared.error.TaskError.{TaskError}
@@ -20,6 +20,7 @@ use Rattle.sm_answers.specs.Lines.{refusal_line}
 use Rattle.sm_answers.specs.declared.status.Status.TheVariants.{Refused}
 use Rattle.sm_display.specs.Explain.{ShowsNoTask}
 use Rattle.sm_display.specs.Shown.{misfit_of, offset_of, ShowsOffset, ShowsTokens}
+use Rattle.sm_lemmas.proofs.Options.{same_number, none_some}
 
 -- ---- places lie in the text
 
@@ -67,22 +68,19 @@ stands_within bytes place before next (at_end none) = omega arith
 fault_within : (bytes : List ℕ) (f : LexFault) → (lexed bytes).1 ≡ Some f → f.place ≤ length bytes
 fault_within bytes f is = subst (FaultWithin (length bytes)) is (text_within bytes).fault
 
-some_one : (j k : ℕ) → Some j ≡ Some k → j ≡ k
-some_one j k is = cc
-
 -- the place of a fault of the text
 fault_offset : (bytes : List ℕ) (x : TextError) (k : ℕ) → IsFault AreTasks (whole_text bytes) x → offset_of (from_text x) ≡ Some k
     → k ≤ length bytes
 fault_offset bytes (text.BadByte place) k fault is =
-    subst (λ (j : ℕ). j ≤ length bytes) (some_one place k is) (fault_within bytes _ fault)
+    subst (λ (j : ℕ). j ≤ length bytes) (same_number place k is) (fault_within bytes _ fault)
 fault_offset bytes (text.WideNumber place) k fault is =
-    subst (λ (j : ℕ). j ≤ length bytes) (some_one place k is) (fault_within bytes _ fault)
+    subst (λ (j : ℕ). j ≤ length bytes) (same_number place k is) (fault_within bytes _ fault)
 fault_offset bytes (text.BadToken place) k fault is =
-    subst (λ (j : ℕ). j ≤ length bytes) (some_one place k is) (fault_within bytes _ fault)
+    subst (λ (j : ℕ). j ≤ length bytes) (same_number place k is) (fault_within bytes _ fault)
 fault_offset bytes (text.Expected place) k fault is =
-    subst (λ (j : ℕ). j ≤ length bytes) (some_one place k is) (stands_within bytes place fault.before fault.next fault.stands)
+    subst (λ (j : ℕ). j ≤ length bytes) (same_number place k is) (stands_within bytes place fault.before fault.next fault.stands)
 fault_offset bytes (text.Nested place) k fault is =
-    subst (λ (j : ℕ). j ≤ length bytes) (some_one place k is) (stands_within bytes place fault.before (Some fault.next) fault.stands)
+    subst (λ (j : ℕ). j ≤ length bytes) (same_number place k is) (stands_within bytes place fault.before (Some fault.next) fault.stands)
 fault_offset bytes text.Memory k fault is = absurd fault
 
 -- a condition has none
@@ -97,9 +95,6 @@ no_offset (refusal.WrongSort x) = refl
 no_offset refusal.TooMany = refl
 no_offset refusal.TooDeep = refl
 
-none_some : (k : ℕ) → (let o : Option ℕ = None in o) ≡ Some k → ⊥
-none_some k is = cc
-
 pub offset_within : (bytes : List ℕ) (e : TaskError) (k : ℕ) → IsRefusedWith bytes e → offset_of e ≡ Some k → k ≤ length bytes
 offset_within bytes e k (inl fault) is =
     fault_offset bytes fault.0 k fault.1.stands (sym (ap offset_of fault.2) ∙ is)
@@ -112,13 +107,13 @@ offset_within bytes e k (inr condition) is =
 misfit_front : (bytes : List ℕ) (x : TextError) (k : ℕ) → IsFirstFault AreTasks (whole_text bytes) x → misfit_of (from_text x) ≡ Some k
     → EndsAtFault (take k bytes)
 misfit_front bytes (text.BadByte place) k first is =
-    record { bytes = bytes; error = text.BadByte place; first = first; front = ap (λ (n : ℕ). take n bytes) (sym (some_one place k is)) }
+    record { bytes = bytes; error = text.BadByte place; first = first; front = ap (λ (n : ℕ). take n bytes) (sym (same_number place k is)) }
 misfit_front bytes (text.WideNumber place) k first is =
-    record { bytes = bytes; error = text.WideNumber place; first = first; front = ap (λ (n : ℕ). take n bytes) (sym (some_one place k is)) }
+    record { bytes = bytes; error = text.WideNumber place; first = first; front = ap (λ (n : ℕ). take n bytes) (sym (same_number place k is)) }
 misfit_front bytes (text.BadToken place) k first is =
-    record { bytes = bytes; error = text.BadToken place; first = first; front = ap (λ (n : ℕ). take n bytes) (sym (some_one place k is)) }
+    record { bytes = bytes; error = text.BadToken place; first = first; front = ap (λ (n : ℕ). take n bytes) (sym (same_number place k is)) }
 misfit_front bytes (text.Expected place) k first is =
-    record { bytes = bytes; error = text.Expected place; first = first; front = ap (λ (n : ℕ). take n bytes) (sym (some_one place k is)) }
+    record { bytes = bytes; error = text.Expected place; first = first; front = ap (λ (n : ℕ). take n bytes) (sym (same_number place k is)) }
 misfit_front bytes (text.Nested place) k first is = absurd (none_some k is)
 misfit_front bytes text.Memory k first is = absurd (none_some k is)
 

@@ -8,12 +8,11 @@ use Rattle.sm_syntax.specs.claim.Stores.{Store}
 use Rattle.sm_syntax.specs.text.Parts.{Parts}
 use Rattle.sm_explain.specs.Starts.{AreStartLines}
 use Rattle.sm_answers.specs.File.{GivesNoBytes, GivesTask, IsNoTask, IsRead}
-use Rattle.sm_answers.specs.Replay.{AnswersReplay, GivesInput, GivesNoInput}
-use Rattle.sm_answers.specs.Status.{Says}
 use Rattle.sm_answers.specs.declared.status.Status.{Status}
 use Rattle.sm_answers.specs.declared.status.Status.TheVariants.{Accepted}
-use Rattle.sm_display.specs.Shown.{misfit_of, offset_of, programs_text, start_heading}
-use Rattle.sm_display.specs.Shown.{ShowsOffset, ShowsRun, ShowsTokens}
+use Rattle.sm_answers.specs.Replay.{AnswersReplay, GivesInput, GivesNoInput}
+use Rattle.sm_answers.specs.Status.{Says}
+use Rattle.sm_display.specs.Shown.{misfit_of, offset_of, programs_text, start_heading, ShowsOffset, ShowsRun, ShowsTokens}
 
 -- the bytes are no task: the line says why, and the place at which they are refused is shown, with
 -- what could stand there

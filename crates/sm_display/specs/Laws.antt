@@ -2,8 +2,8 @@
 use Rattle.std.specs.Prelude.{◌≡◌, ℕ, List, ◌++◌}
 use Rattle.sm_io.specs.Files.{Known}
 use Rattle.sm_answers.specs.File.{GivesNoTask}
-use Rattle.sm_answers.specs.Replay.{Replays}
 use Rattle.sm_answers.specs.declared.status.Status.{Status}
+use Rattle.sm_answers.specs.Replay.{Replays}
 use Rattle.sm_display.specs.Explain.{ExplainsNoTask, ExplainsRun}
 
 -- where the file gives no task, with the answer of every command on it

@@ -9,9 +9,9 @@ use Rattle.sm_syntax.specs.trees.Copies.{copy_named}
 use Rattle.sm_text.specs.printing.Canonical.{program_pieces, task_pieces}
 use Rattle.sm_text.specs.printing.Pieces.{pieces_text}
 use Rattle.sm_answers.specs.File.{GivesNoTask, GivesTask}
-use Rattle.sm_answers.specs.Status.{Says}
 use Rattle.sm_answers.specs.declared.status.Status.{Status}
 use Rattle.sm_answers.specs.declared.status.Status.TheVariants.{Accepted}
+use Rattle.sm_answers.specs.Status.{Says}
 
 -- the canonical text of a task; or, where a copy is named, of the program of that copy, with its
 -- holes filled

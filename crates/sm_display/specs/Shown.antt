@@ -1,7 +1,6 @@
 -- What a person reads behind the line of an answer: where a text is refused and what could stand
 -- there, the programs of a task, and what they do from an input. Public clauses cite it.
-use Rattle.std.specs.Prelude.{◌≡◌, ℕ, Option, Some, None, Result, Ok, Err, List, [], ◌∷◌, ◌++◌}
-use Rattle.std.specs.Prelude.{codes, take}
+use Rattle.std.specs.Prelude.{◌≡◌, ℕ, Option, Some, None, Result, Ok, Err, List, [], ◌∷◌, ◌++◌, codes, take}
 use Rattle.sm_replay.specs.declared.error.ReplayError.{ReplayError}
 use Rattle.sm_replay.specs.declared.verdict.Verdict.{Verdict}
 use Rattle.sm_replay.specs.declared.verdict.Verdict.TheVariants.{Holds, Unmet, Violates}
@@ -10,12 +9,7 @@ use Rattle.sm_syntax.specs.declared.copies.CopyName.{CopyName}
 use Rattle.sm_syntax.specs.declared.copies.CopyName.TheVariants.{O, A, B, M}
 use Rattle.sm_syntax.specs.text.Parts.{Parts}
 use Rattle.sm_task.specs.declared.error.TaskError.{TaskError}
-use Rattle.sm_task.specs.declared.error.TaskError.TheVariants.{BadByte, WideNumber, BadToken}
-use Rattle.sm_task.specs.declared.error.TaskError.TheVariants.{Expected, Nested, MissingFilling}
-use Rattle.sm_task.specs.declared.error.TaskError.TheVariants.{UnknownHole, DoubleHole}
-use Rattle.sm_task.specs.declared.error.TaskError.TheVariants.{HoleInFilling, UnknownName}
-use Rattle.sm_task.specs.declared.error.TaskError.TheVariants.{WrongSort, DoubleName, TooDeep}
-use Rattle.sm_task.specs.declared.error.TaskError.TheVariants.{TooMany, Memory}
+use Rattle.sm_task.specs.declared.error.TaskError.TheVariants.{BadByte, WideNumber, BadToken, Expected, Nested, MissingFilling, UnknownHole, DoubleHole, HoleInFilling, UnknownName, WrongSort, DoubleName, TooDeep, TooMany, Memory}
 use Rattle.sm_explain.specs.Places.{IsShown}
 use Rattle.sm_explain.specs.Tables.{IsTable}
 use Rattle.sm_follow.specs.Following.{IsFollowLine}

@@ -3,9 +3,7 @@ use Rattle.std.specs.Prelude.{◌≡◌, ℕ, List, []}
 use Rattle.sm_syntax.specs.claim.Stores.{Store}
 use Rattle.sm_syntax.specs.text.Parts.{Parts}
 use Rattle.sm_answers.specs.declared.status.Status.{Status}
-use Rattle.sm_answers.specs.declared.status.Status.TheVariants.{Accepted, Conflict, Unknown}
-use Rattle.sm_answers.specs.declared.status.Status.TheVariants.{Refused, Usage, ReadFault, Memory}
-use Rattle.sm_answers.specs.declared.status.Status.TheVariants.{WriteFault, SinkFault}
+use Rattle.sm_answers.specs.declared.status.Status.TheVariants.{Accepted, Conflict, Unknown, Refused, Usage, ReadFault, Memory, WriteFault, SinkFault}
 use Rattle.sm_display.specs.Shown.{ShowsEnds}
 
 -- the ends where the verdict is one on them, and else nothing

@@ -6,8 +6,7 @@ ghost use Rattle.sm_syntax.specs.text.Parts.{sort_of};
 ghost use Rattle.sm_syntax.specs.trees.Programs.{declared_of};
 ghost use Rattle.sm_task.specs.Tasks.{parts_of};
 ghost use Rattle.sm_display.specs.Explain.{ExplainsReplay};
-ghost use Rattle.sm_display.specs.Shown.{ends_text, same_outputs, start_heading, table_heading};
-ghost use Rattle.sm_display.specs.Shown.{ShowsEnds};
+ghost use Rattle.sm_display.specs.Shown.{ends_text, same_outputs, start_heading, table_heading, ShowsEnds};
 ghost use Rattle.sm_display.specs.Views.{ShowsBy};
 
 use sm_answers::{Reply, Status, replay};

@@ -6,12 +6,12 @@ use Rattle.sm_syntax.specs.text.Sorts.{Sorts}
 use Rattle.sm_term.specs.Terms.{Tree}
 use Rattle.sm_term.specs.declared.formula.Formula.TheVariants as formula
 use Rattle.sm_expand.specs.declared.plan.Last.TheVariants as last
-use Rattle.sm_expand.specs.declared.plan.Plan.{Plan}
-use Rattle.sm_expand.specs.declared.plan.Plans.{Plans, roll-Plans, fold-Plans, fold-roll-Plans}
-use Rattle.sm_expand.specs.declared.plan.Simple.{Simple}
 use Rattle.sm_expand.specs.declared.plan.Simple.TheVariants as simple
 use Rattle.sm_expand.specs.NumberedPlans.{NumberedPlan, Over, More, plans_before, IsKeepReady, IsPlanReady, ArePlansReady}
 use Rattle.sm_expand.specs.Views.{simple_node, straight_before, last_layer, plan_layer, plans_layer, numbered_plan, numbered_last}
+use Rattle.sm_expand.specs.declared.plan.Plan.{Plan}
+use Rattle.sm_expand.specs.declared.plan.Simple.{Simple}
+use Rattle.sm_expand.specs.declared.plan.Plans.{Plans, roll-Plans, fold-Plans, fold-roll-Plans}
 use Rattle.sm_expand.proofs.PlanViews.{plan_is, plans_are, last_fork, last_loop, last_dead, last_end}
 
 -- plans over numbers of terms

@@ -3,8 +3,7 @@
 ghost use Rattle.std.specs.Bool.{OnTrue};
 ghost use Rattle.sm_eval.specs.StoredValues.{sorts_of};
 ghost use Rattle.sm_syntax.specs.claim.Syntax.{End};
-ghost use Rattle.sm_syntax.specs.text.Sorts.{IsAsDeclared, IsWellSorted, IsWellSortedExpression};
-ghost use Rattle.sm_syntax.specs.text.Sorts.{IsWellSortedCondition};
+ghost use Rattle.sm_syntax.specs.text.Sorts.{IsAsDeclared, IsWellSorted, IsWellSortedExpression, IsWellSortedCondition};
 ghost use Rattle.sm_syntax.specs.trees.Views.{expression_of, condition_of, statement_of, code_of};
 
 use sm_eval::Store;

@@ -1,8 +1,6 @@
 -- Terms of a table have one head exactly where their trees have, and the arguments of a term's tree
 -- are the trees of its arguments.
-use Rattle.std.proofs.Common.{◌≡◌, ℕ, ◌==◌, ◌+◌, ◌<◌, ◌≤◌, zero, suc, Bool, true, false}
-use Rattle.std.proofs.Common.{◌&&◌, List, [], ◌∷◌, length, drop, nat_eq, refl, sym, ap, ◌∙◌, arith}
-use Rattle.std.proofs.Common.{Option, Some, None, slice_get}
+use Rattle.std.proofs.Common.{◌≡◌, ℕ, ◌==◌, ◌+◌, ◌<◌, ◌≤◌, zero, suc, Bool, true, false, ◌&&◌, List, [], ◌∷◌, length, drop, nat_eq, refl, sym, ap, ◌∙◌, arith, Option, Some, None, slice_get}
 use Rattle.std.specs.Option.{is_none}
 use Rattle.std.specs.Cmp.Lexicographic.{pointwise}
 use Rattle.std.proofs.lemmas.Bool.{and_parts}
@@ -10,11 +8,11 @@ use Rattle.std.proofs.lemmas.Bool.Decides.{same_from_decides, Decides-eqb}
 use Rattle.sm_syntax.specs.declared.tree.Name.{Name}
 use Rattle.sm_syntax.specs.claim.Syntax.{Code}
 use Rattle.sm_syntax.specs.text.Sorts.{Sorts}
-use Rattle.sm_term.specs.declared.term.TermId.{TermId}
-use Rattle.sm_term.specs.declared.term.Term.{Term}
 use Rattle.sm_term.specs.declared.term.Term.TheVariants as row
 use Rattle.sm_term.specs.Terms.{Tree}
 use Rattle.sm_term.specs.Tables.{tree_at, code_at, tree_in, arguments_in, IsTermWithin, AreBefore}
+use Rattle.sm_term.specs.declared.term.TermId.{TermId}
+use Rattle.sm_term.specs.declared.term.Term.{Term}
 use Rattle.sm_term.specs.TableLaws.{AreCodesApart}
 use Rattle.sm_term.specs.Fitting.{arguments_fit, term_fits}
 use Rattle.sm_term.specs.Rows.{names_in_list}
@@ -26,6 +24,7 @@ use Rattle.sm_theory.specs.Lines.{equation_at}
 use Rattle.sm_theory.specs.Sides.{OptionStands}
 use Rattle.sm_theory.specs.Equality.{says_equal, say_equal}
 use Rattle.sm_euf.specs.Arguments.{argument_numbers, have_one_head, trees_of}
+use Rattle.sm_term.proofs.TreesLemmas.{before-later}
 
 -- numbers of bodies are equal exactly where the bodies are
 codes_tell : (codes : List Code) → AreCodesApart codes → (i j : ℕ) → i < length codes → j < length codes →
@@ -105,14 +104,9 @@ say_of_trees sorts codes trees facts ns t u f g x y left right =
     ap (λ (ts : List Tree). say_equal facts ns ts (trees_of trees (argument_numbers u))) one
     ∙ ap (say_equal facts ns (arguments_of x)) other
 
--- numbers before a place are before a later one
-before_later : (m n : ℕ) → m ≤ n → (args : List TermId) → AreBefore m args → AreBefore n args
-before_later m n le [] h = tt
-before_later m n le (t ∷ args) h = (omega (arith, le, h.0), before_later m n le args h.1)
-
 -- the arguments of a term stand before it
 pub parts_before : (sorts : Sorts) (bodies m n : ℕ) → m ≤ n → (t : Term) → IsTermWithin sorts bodies m t → AreBefore n (argument_numbers t)
-parts_before sorts bodies m n le t v = before_later m n le (argument_numbers t) (by t v)
+parts_before sorts bodies m n le t v = before-later m n le (argument_numbers t) (by t v)
   where
     by : (t : Term) → IsTermWithin sorts bodies m t → AreBefore m (argument_numbers t)
     by (row.Read a i) v = (v.0, (v.1, tt))
@@ -149,7 +143,7 @@ pub say_step : (facts : List BranchFact) (trees : List Tree) (ns : List ℕ) (ts
 say_step facts trees ns ts us i n t u one two three = rw (drop_next ns i n one, drop_next ts i t two, drop_next us i u three) refl
 
 -- a term with a number is in the list
-there : (trees : List Tree) (n : ℕ) → n < length trees → slice_get trees n ≡ Some (tree_at trees n)
+pub there : (trees : List Tree) (n : ℕ) → n < length trees → slice_get trees n ≡ Some (tree_at trees n)
 there [] n h = absurd (omega arith)
 there (t ∷ ts) zero h = refl
 there (t ∷ ts) (suc n) h = let less : n < length ts = omega arith in there ts n less

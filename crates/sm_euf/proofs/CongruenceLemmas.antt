@@ -1,10 +1,10 @@
 -- The fact of two terms of one head stands for what the definition adds.
 use Rattle.std.proofs.Common.{◌≡◌, ℕ, ◌==◌, ◌<◌, Bool, true, false, ◌&&◌, List, [], ◌∷◌, length, Some, None, refl, sym, ◌∙◌}
 use Rattle.sm_syntax.specs.text.Sorts.{Sorts}
-use Rattle.sm_term.specs.declared.term.TermId.{TermId}
 use Rattle.sm_term.specs.declared.formula.Formula.TheVariants as tree
 use Rattle.sm_term.specs.Terms.{Tree}
 use Rattle.sm_term.specs.Tables.{tree_at}
+use Rattle.sm_term.specs.declared.term.TermId.{TermId}
 use Rattle.sm_term.specs.Heads.{same_head, arguments_of}
 use Rattle.sm_theory.specs.declared.fact.Fact.TheVariants as fact
 use Rattle.sm_theory.specs.Facts.{BranchFact}

@@ -6,8 +6,7 @@ ghost use Rattle.sm_theory.specs.Equality.{equality_adds};
 ghost use Rattle.sm_theory.specs.SortedFacts.{AreFactsSorted};
 ghost use Rattle.sm_theory.specs.Views.{line_in, IsLineWithin, AllStand, StandsIf};
 ghost use Rattle.sm_theory.proofs.EqualitySound.{equality_holds};
-ghost use Rattle.sm_theory.proofs.EqualityLemmas.{equality_sorted, equality_below};
-ghost use Rattle.sm_theory.proofs.EqualityLemmas.{equality_anywhere};
+ghost use Rattle.sm_theory.proofs.EqualityLemmas.{equality_sorted, equality_below, equality_anywhere};
 
 use crate::congruence::congruent;
 use crate::equations::{chained, substituted, turned};

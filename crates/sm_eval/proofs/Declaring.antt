@@ -5,8 +5,7 @@ use Rattle.sm_syntax.specs.declared.tree.Name.{Name}
 use Rattle.sm_syntax.specs.declared.tree.Sort.{Sort}
 use Rattle.sm_syntax.specs.text.Parts.{sort_of}
 use Rattle.sm_syntax.proofs.Repeats.{sorted_numbers}
-use Rattle.sm_eval.specs.declared.stored_value.StoredValue.{StoredValue}
-use Rattle.sm_eval.specs.StoredValues.{stored_value_of, sorts}
+use Rattle.sm_eval.specs.StoredValues.{stored_value_of, sorts, StoredValue}
 
 -- stored values that agree at each name
 abbrev pub Agree : List StoredValue → List StoredValue → Type 0

@@ -3,9 +3,7 @@ use Rattle.std.proofs.Common.{◌≡◌, ℕ, zero, suc, Bool, true, false, if�
 use Rattle.sm_syntax.specs.claim.Meaning.{value_of, truth_of, and_then, turns, written, run}
 use Rattle.sm_syntax.specs.claim.Stores.{Store, put}
 use Rattle.sm_syntax.specs.claim.Syntax.{Condition, Code, End, Skip, Assign, Write, If, While, Hole}
-use Rattle.sm_eval.specs.declared.error.EvalError.{EvalError}
-use Rattle.sm_eval.specs.declared.error.EvalError.TheVariants.{OutOfTurns}
-use Rattle.sm_eval.specs.Events.{expression_event, condition_event, before, after, turns_event, event}
+use Rattle.sm_eval.specs.Events.{expression_event, condition_event, before, after, turns_event, event, EvalError, OutOfTurns}
 
 -- there is an end
 abbrev pub HasEnd : Option Store → Type 0

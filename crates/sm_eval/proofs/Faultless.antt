@@ -1,39 +1,23 @@
 -- Names without a fault stand as they are declared.
-use Rattle.std.proofs.Common.{◌≡◌, ℕ, Option, Some, None, List, [], ◌∷◌, ◌++◌, length, refl, sym, ◌∙◌}
-use Rattle.std.specs.Option.{option_or}
-use Rattle.sm_syntax.specs.declared.tree.Sort.{Sort}
-use Rattle.sm_syntax.specs.declared.tree.Sort.TheVariants.{Num, Arr}
-use Rattle.sm_syntax.specs.text.Conditions.{Refusal, TooMany, first_of_all, first_sort_fault, sort_refusal, double_name, first_output_fault}
-use Rattle.sm_syntax.specs.text.Conditions.{over, size_fault, program_fault, ill_assumed, code_nodes, code_depth, condition_nodes}
-use Rattle.sm_syntax.specs.text.Conditions.{condition_depth}
+use Rattle.std.proofs.Common.{◌≡◌, ℕ, Some, None, List, [], ◌∷◌, ◌++◌, length, sym, ◌∙◌}
+use Rattle.sm_syntax.specs.text.Conditions.{TooMany, first_of_all, first_sort_fault, double_name, first_output_fault, over, size_fault, program_fault, ill_assumed, code_nodes, code_depth, condition_nodes, condition_depth}
 use Rattle.sm_syntax.specs.text.Uses.{names_in, names_tested, names_used}
 use Rattle.sm_syntax.specs.text.Parts.{sort_of}
 use Rattle.sm_syntax.specs.text.Sorts.{Sorts, IsWellSortedExpression, IsWellSortedCondition, IsWellSorted}
-use Rattle.sm_syntax.specs.claim.Syntax.{Expression, Lit, Var, Read, Neg, Plus, Minus, Times, Condition, Yes, No, Compare, Not, And, Or}
-use Rattle.sm_syntax.specs.claim.Syntax.{Code, End, Skip, Assign, Write, If, While, Hole}
+use Rattle.sm_syntax.specs.declared.tree.Sort.{Sort}
+use Rattle.sm_syntax.specs.declared.tree.Sort.TheVariants.{Num, Arr}
+use Rattle.sm_syntax.specs.claim.Syntax.{Expression, Lit, Var, Read, Neg, Plus, Minus, Times, Condition, Yes, No, Compare, Not, And, Or, Code, End, Skip, Assign, Write, If, While, Hole}
 use Rattle.sm_syntax.proofs.Uses.{first_sort_fault-one, first_sort_fault-append}
-
--- no fault of two is neither
-neither : (a b : Option Refusal) → option_or a b ≡ None → (a ≡ None) × (b ≡ None)
-neither None b none = (refl, none)
-neither (Some r) b none = cc
+use Rattle.sm_syntax.proofs.Refusals.{neither_refuses, declared_sort}
 
 -- names in two parts
 parts : (sorts : Sorts) (xs ys : List (ℕ × Sort)) → first_sort_fault sorts (xs ++ ys) ≡ None
     → (first_sort_fault sorts xs ≡ None) × (first_sort_fault sorts ys ≡ None)
-parts sorts xs ys none = neither (first_sort_fault sorts xs) (first_sort_fault sorts ys) (sym (first_sort_fault-append sorts xs ys) ∙ none)
-
--- a sort that isn't refused
-sorted : (o : Option Sort) (sort : Sort) (x : ℕ) → sort_refusal o sort x ≡ None → o ≡ Some sort
-sorted None sort x none = cc
-sorted (Some Num) Num x none = refl
-sorted (Some Num) Arr x none = cc
-sorted (Some Arr) Num x none = cc
-sorted (Some Arr) Arr x none = refl
+parts sorts xs ys none = neither_refuses (first_sort_fault sorts xs) (first_sort_fault sorts ys) (sym (first_sort_fault-append sorts xs ys) ∙ none)
 
 -- one name
 one : (sorts : Sorts) (x : ℕ) (sort : Sort) → first_sort_fault sorts ((x, sort) ∷ []) ≡ None → sorts x ≡ Some sort
-one sorts x sort none = sorted (sorts x) sort x (sym (first_sort_fault-one sorts x sort) ∙ none)
+one sorts x sort none = declared_sort (sorts x) sort x (sym (first_sort_fault-one sorts x sort) ∙ none)
 
 -- the names of an expression
 pub expression_sorted : (sorts : Sorts) (e : Expression) → first_sort_fault sorts (names_in e) ≡ None → IsWellSortedExpression sorts e
@@ -93,9 +77,9 @@ unfolding program_fault
 program_sorted declared outputs c none =
     let names = first_sort_fault (sort_of declared) (names_used c) in
     let sizes = over 200 (length declared) TooMany ∷ size_fault (code_nodes c) (code_depth c) ∷ [] in
-    let after = neither (double_name declared) (first_of_all (first_output_fault (sort_of declared) [] outputs ∷ names ∷ sizes)) none in
-    let rest = neither (first_output_fault (sort_of declared) [] outputs) (first_of_all (names ∷ sizes)) after.1 in
-    let here = neither names (first_of_all sizes) rest.1 in
+    let after = neither_refuses (double_name declared) (first_of_all (first_output_fault (sort_of declared) [] outputs ∷ names ∷ sizes)) none in
+    let rest = neither_refuses (first_output_fault (sort_of declared) [] outputs) (first_of_all (names ∷ sizes)) after.1 in
+    let here = neither_refuses names (first_of_all sizes) rest.1 in
     code_sorted (sort_of declared) c here.0
 
 -- the names of a well-formed condition
@@ -104,5 +88,5 @@ pub assumed_sorted : (declared : List (ℕ × Sort)) (b : Condition) → ill_ass
 unfolding ill_assumed
 assumed_sorted declared b none =
     let names = first_sort_fault (sort_of declared) (names_tested b) in
-    let here = neither names (first_of_all (size_fault (condition_nodes b) (condition_depth b) ∷ [])) none in
+    let here = neither_refuses names (first_of_all (size_fault (condition_nodes b) (condition_depth b) ∷ [])) none in
     condition_sorted (sort_of declared) b here.0

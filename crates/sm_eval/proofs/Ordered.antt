@@ -1,6 +1,5 @@
 -- What a search finds among the cells of an array, and what an edit at that place makes of them.
-use Rattle.std.proofs.Common.{◌≡◌, ◌≢◌, ◌<◌, ◌≤◌, ◌+◌, ◌-◌, ℕ, ℤ, pos, true, ◌⊎◌, inl, inr, List, length, get_or, set, Result, Ok, Err}
-use Rattle.std.proofs.Common.{IfOk, IfErr, sym, ap, subst, ◌∙◌, arith}
+use Rattle.std.proofs.Common.{◌≡◌, ◌≢◌, ◌<◌, ◌≤◌, ◌+◌, ◌-◌, ℕ, ℤ, pos, true, ◌⊎◌, inl, inr, List, length, get_or, set, Result, Ok, Err, IfOk, IfErr, sym, ap, subst, ◌∙◌, arith}
 use Rattle.std.specs.Prelude.{◌<ℤ◌}
 use Rattle.std.specs.List.{insert, remove}
 use Rattle.std.specs.List.Sorted.{IsSearchInRange, IsBinarySearchResult, IsNonDecreasingBy}
@@ -11,27 +10,17 @@ use Rattle.std.proofs.lemmas.Bool.Decides.{Decides-int_eq}
 use Rattle.std.proofs.lemmas.Cmp.{int_ranked}
 use Rattle.std.proofs.lemmas.List.{length-set, get_or-set_same, get_or-set_other}
 use Rattle.std.proofs.lemmas.List.Sorted.{IsNonDecreasingBy-from_default}
-use Rattle.std.proofs.lemmas.List.Edits.{length-insert, get_or-insert_below, get_or-insert_at, get_or-insert_above, length-remove}
-use Rattle.std.proofs.lemmas.List.Edits.{get_or-remove_below, get_or-remove_above}
+use Rattle.std.proofs.lemmas.List.Edits.{length-insert, get_or-insert_below, get_or-insert_at, get_or-insert_above, length-remove, get_or-remove_below, get_or-remove_above}
 use Rattle.sm_syntax.specs.claim.Stores.{with_element}
 use Rattle.sm_eval.specs.Cells.{listed, index_at, cell_number_at, IsAscending, AreCells}
 use Rattle.sm_eval.specs.CellPlaces.{IsAt, IsGapFor}
 use Rattle.sm_eval.proofs.Integers.{not_below_itself, ranks_rise}
-use Rattle.sm_eval.proofs.Listed.{NoneBefore, NoneAfter, listed_absent, listed_present, listed-set, listed-insert, zero_there}
-use Rattle.sm_eval.proofs.Listed.{listed-remove}
+use Rattle.sm_eval.proofs.Listed.{NoneBefore, NoneAfter, listed_absent, listed_present, listed-set, listed-insert, zero_there, listed-remove}
+use Rattle.sm_lemmas.proofs.Numbers.{order}
 
 -- an order of numbers that are equal to others
 moved : (a b x y : ℤ) → a ≡ x → b ≡ y → x <ℤ y → a <ℤ b
 moved a b x y first second below = subst (λ (v : ℤ). v <ℤ b) (sym first) (subst (λ (v : ℤ). x <ℤ v) (sym second) below)
-
--- a place is before another, that one, or after it
-place_cases : (q p : ℕ) → (q < p) ⊎ ((q ≡ p) ⊎ (p < q))
-place_cases q p = by (cases_lt q p) (cases_eq q p)
-  where
-    by : ((q < p) ⊎ (p ≤ q)) → ((q ≡ p) ⊎ (q ≡ p → ⊥)) → (q < p) ⊎ ((q ≡ p) ⊎ (p < q))
-    by (inl before) other = inl before
-    by (inr after) (inl same) = inr (inl same)
-    by (inr after) (inr differs) = inr (inr (omega arith))
 
 module _ (l : List (ℤ × ℤ)) (ascending : IsAscending l) (i : ℤ) where
   -- a place that isn't later has no later comparison with an index
@@ -217,6 +206,6 @@ module _ (l : List (ℤ × ℤ)) (i : ℤ) (p : ℕ) (gap : IsGapFor l i p) wher
         record {
           ascending =
               λ (q r : ℕ) (lt : q < r) (in_range : r < length (insert l p (i, z))).
-              ascending-insert q r (place_cases q p) (place_cases r p) lt (omega arith);
-          no_zero = λ (q : ℕ) (lt : q < length (insert l p (i, z))). no_zero-insert other q (place_cases q p) (omega arith);
+              ascending-insert q r (order q p) (order r p) lt (omega arith);
+          no_zero = λ (q : ℕ) (lt : q < length (insert l p (i, z))). no_zero-insert other q (order q p) (omega arith);
         }

@@ -6,9 +6,7 @@ use Rattle.std.proofs.lemmas.List.{get_or-set_same, get_or-set_other}
 use Rattle.sm_syntax.specs.declared.tree.Sort.{Sort}
 use Rattle.sm_syntax.specs.claim.Stores.{put}
 use Rattle.sm_syntax.proofs.Puts.{put_is}
-use Rattle.sm_eval.specs.declared.stored_value.StoredValue.{StoredValue}
-use Rattle.sm_eval.specs.declared.stored_value.StoredValue.TheVariants.{Absent}
-use Rattle.sm_eval.specs.StoredValues.{held, sort, values, sorts}
+use Rattle.sm_eval.specs.StoredValues.{held, sort, values, sorts, StoredValue, Absent}
 
 -- a name that has a sort has a stored value
 pub declared_within : (stored : List StoredValue) (x : ℕ) (k : Sort) → sorts stored x ≡ Some k → x < length stored

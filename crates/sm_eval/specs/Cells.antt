@@ -1,7 +1,6 @@
 -- The numbers of an array as a list of cells. Public clauses cite it.
 -- A cell is an index with the number there. An index that isn't listed has 0.
-use Rattle.std.specs.Prelude.{◌≢◌, ◌<◌, ℕ, ℤ, pos, ◌<ℤ◌, if◌then◌else◌, List, [], ◌∷◌, length}
-use Rattle.std.specs.Prelude.{slice_index_or}
+use Rattle.std.specs.Prelude.{◌≢◌, ◌<◌, ℕ, ℤ, pos, ◌<ℤ◌, if◌then◌else◌, List, [], ◌∷◌, length, slice_index_or}
 use Rattle.std.specs.Ordering.{int_eq}
 
 -- the number at an index, 0 where none is listed

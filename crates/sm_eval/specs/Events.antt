@@ -1,18 +1,16 @@
 -- The first event of code, in the order of computing. Public clauses cite it.
 -- An event is an operation that leaves 128 bits, or a loop that takes too many turns. The values
 -- that decide it are the exact ones.
-use Rattle.std.specs.Prelude.{ℕ, zero, suc, ℤ, pos, if◌then◌else◌, Option, Some}
-use Rattle.std.specs.Prelude.{None, Result, Ok, Err}
+use Rattle.std.specs.Prelude.{ℕ, zero, suc, ℤ, pos, if◌then◌else◌, Option, Some, None, Result, Ok, Err}
 use Rattle.sm_num.specs.Range.{exact, fits}
 use Rattle.sm_num.specs.declared.op.Op.{Op}
 use Rattle.sm_num.specs.declared.op.Op.TheVariants.{Add, Sub, Mul}
-use Rattle.sm_syntax.specs.claim.Syntax.{Expression, Lit, Var, Read, Neg, Plus, Minus, Times}
-use Rattle.sm_syntax.specs.claim.Syntax.{Condition, Yes, No, Compare, Not, And, Or}
-use Rattle.sm_syntax.specs.claim.Syntax.{Code, End, Skip, Assign, Write, If, While, Hole}
+use Rattle.sm_syntax.specs.claim.Syntax.{Expression, Lit, Var, Read, Neg, Plus, Minus, Times, Condition, Yes, No, Compare, Not, And, Or, Code, End, Skip, Assign, Write, If, While, Hole}
 use Rattle.sm_syntax.specs.claim.Stores.{number, Store, put}
 use Rattle.sm_syntax.specs.claim.Meaning.{value_of, truth_of, turns, written, run}
-use Rattle.sm_eval.specs.declared.error.EvalError.{EvalError}
-use Rattle.sm_eval.specs.declared.error.EvalError.TheVariants.{Beyond, OutOfTurns}
+pub use Rattle.sm_eval.specs.declared.error.EvalError.{EvalError}
+use Rattle.sm_eval.specs.declared.error.EvalError.TheVariants.{Beyond}
+pub use Rattle.sm_eval.specs.declared.error.EvalError.TheVariants.{Memory, OutOfTurns}
 
 -- this operation, where its exact result leaves 128 bits
 abbrev pub leaves : Op → ℤ → ℤ → Option EvalError

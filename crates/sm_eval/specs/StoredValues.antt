@@ -1,12 +1,12 @@
 -- The store that a program's store stands for. Public clauses cite it.
 -- With the sorts of its names.
 use Rattle.std.specs.Prelude.{ℕ, ℤ, Option, Some, None, List, slice_index_or}
-use Rattle.sm_syntax.specs.declared.tree.Sort.{Sort}
-use Rattle.sm_syntax.specs.declared.tree.Sort.TheVariants.{Num, Arr}
 use Rattle.sm_syntax.specs.claim.Stores as plain
 use Rattle.sm_syntax.specs.text.Sorts.{Sorts}
-use Rattle.sm_eval.specs.declared.stored_value.StoredValue.{StoredValue}
-use Rattle.sm_eval.specs.declared.stored_value.StoredValue.TheVariants.{Absent, Number, Array}
+use Rattle.sm_syntax.specs.declared.tree.Sort.{Sort}
+use Rattle.sm_syntax.specs.declared.tree.Sort.TheVariants.{Num, Arr}
+pub use Rattle.sm_eval.specs.declared.stored_value.StoredValue.{StoredValue}
+pub use Rattle.sm_eval.specs.declared.stored_value.StoredValue.TheVariants.{Absent, Array, Number}
 use Rattle.sm_eval.specs.declared.store.Store.{Store}
 use Rattle.sm_eval.specs.Cells.{listed}
 

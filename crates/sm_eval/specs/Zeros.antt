@@ -1,12 +1,11 @@
 -- Stores in which each declared name has 0. Public clauses cite `zeros`.
 use Rattle.std.specs.Prelude.{◌≡◌, ◌==◌, ℕ, ℤ, pos, if◌then◌else◌, Option, Some, None, List}
 use Rattle.std.specs.Option.{option_or}
-use Rattle.sm_syntax.specs.declared.tree.Sort.{Sort}
-use Rattle.sm_syntax.specs.declared.tree.Sort.TheVariants.{Num, Arr}
 use Rattle.sm_syntax.specs.claim.Stores.{Value, Number, Array, zero_value, Store}
 use Rattle.sm_syntax.specs.text.Sorts.{Sorts}
-use Rattle.sm_eval.specs.declared.stored_value.StoredValue.{StoredValue}
-use Rattle.sm_eval.specs.StoredValues.{values, sorts}
+use Rattle.sm_syntax.specs.declared.tree.Sort.{Sort}
+use Rattle.sm_syntax.specs.declared.tree.Sort.TheVariants.{Num, Arr}
+use Rattle.sm_eval.specs.StoredValues.{values, sorts, StoredValue}
 
 -- 0 as a number, or at each index of an array
 abbrev pub zero_of : Option Sort → Value

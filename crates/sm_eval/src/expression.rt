@@ -5,8 +5,7 @@ ghost use Rattle.sm_syntax.specs.text.Sorts.{IsWellSortedExpression, IsWellSorte
 ghost use Rattle.sm_syntax.specs.claim.Stores as plain;
 ghost use Rattle.sm_syntax.specs.trees.Views.{expression_of, condition_of};
 ghost use Rattle.sm_num.specs.Range.{exact};
-ghost use Rattle.sm_eval.specs.Events.{leaves, before, operation_event, expression_event};
-ghost use Rattle.sm_eval.specs.Events.{condition_event, answer};
+ghost use Rattle.sm_eval.specs.Events.{leaves, before, operation_event, expression_event, condition_event, answer};
 ghost use Rattle.sm_eval.specs.StoredValues.{meaning, sorts_of};
 
 use crate::error::EvalError;

@@ -1,8 +1,7 @@
 // Runs of programs.
 ghost use Rattle.std.specs.Prelude.{◌≡◌, ◌⊎◌, Some, None, IfOk, IfErr, OnOk};
 ghost use Rattle.sm_syntax.specs.claim.Meaning.{run};
-ghost use Rattle.sm_syntax.specs.text.Sorts.{IsWellSortedExpression, IsWellSortedCondition};
-ghost use Rattle.sm_syntax.specs.text.Sorts.{IsWellSorted};
+ghost use Rattle.sm_syntax.specs.text.Sorts.{IsWellSortedExpression, IsWellSortedCondition, IsWellSorted};
 ghost use Rattle.sm_syntax.specs.claim.Syntax.{Assign, End, Write, While};
 ghost use Rattle.sm_syntax.specs.trees.Views.{expression_of, condition_of, statement_of, code_of};
 ghost use Rattle.sm_eval.specs.Events.{event};

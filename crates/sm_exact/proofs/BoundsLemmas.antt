@@ -1,10 +1,7 @@
 -- The least variable of a list, the greatest coefficient among upper bounds, bounds without splinters, and the steps of the rules
 -- of bounds.
-use Rattle.std.proofs.Common.{◌≡◌, ◌+◌, ◌<◌, ◌≤◌, ◌/◌, ◌^◌, ◌==◌, ℕ, zero, suc, ℤ, pos, negsuc, neg_ℤ, nat_abs, ◌-ℤ◌, ◌≤ℤ◌, ◌<ℤ◌, int_lt}
-use Rattle.std.proofs.Common.{Bool, true, false, not, ◌&&◌, if◌then◌else◌, IsTrue, Option, Some, None, List, [], ◌∷◌, ◌++◌, map, length}
-use Rattle.std.proofs.Common.{get_or, take, drop}
-use Rattle.std.proofs.Common.{refl, sym, ap, subst, ◌∙◌, arith, lt-ltb, ltb-true, eqb-true, Vec, Global, drop-cons, drop_of_length-le}
-use Rattle.std.proofs.Common.{add-one}
+use Rattle.std.proofs.Common.{◌≡◌, ◌+◌, ◌<◌, ◌≤◌, ◌/◌, ◌^◌, ◌==◌, ℕ, zero, suc, ℤ, pos, negsuc, neg_ℤ, nat_abs, ◌-ℤ◌, ◌≤ℤ◌, ◌<ℤ◌, int_lt, Bool, true, false, not, ◌&&◌, if◌then◌else◌, IsTrue, Option, None, List, [], ◌∷◌, ◌++◌, map, length}
+use Rattle.std.proofs.Common.{get_or, take, drop, refl, sym, ap, subst, ◌∙◌, arith, lt-ltb, ltb-true, eqb-true, Vec, Global, drop-cons, drop_of_length-le, add-one}
 use Rattle.std.specs.List.{All}
 use Rattle.std.specs.Ordering.{int_eq}
 use Rattle.std.proofs.lemmas.Int.{ints, by_lt_z, to_z-of_z}
@@ -13,28 +10,30 @@ use Rattle.std.proofs.lemmas.Bool.Decides.{Decides-int_eq}
 use Rattle.std.proofs.lemmas.List.Elements.{All-head, All-tail, All-more, All-filter, filter_passes}
 use Rattle.std.specs.Int.{w128}
 use mir.Val.{SFits, to_z, of_z}
+use Rattle.sm_num.specs.Range.{fits_form}
+use Rattle.sm_num.specs.Forms.{Linear}
+use Rattle.sm_num.specs.Combining.{Fits, then_with, computed}
 use Rattle.sm_num.specs.declared.op.Op.{Op}
 use Rattle.sm_num.specs.declared.op.Op.TheVariants.{Sub, Mul}
-use Rattle.sm_num.specs.Range.{exact, fits_form}
-use Rattle.sm_num.specs.Forms.{Linear}
-use Rattle.sm_num.specs.Combining.{Fits, Leaves, then_with, computed}
 use Rattle.sm_num.specs.Eliminating.{is_negative, floor_of}
 use Rattle.sm_num.proofs.RingLemmas.{sums, one_mul, mul_one}
-use Rattle.sm_omega.specs.Counting.{Done, Passed, Outside, Shallow, go_on, with_result, entered}
-use Rattle.sm_omega.specs.Solving.{at, bounds_below, bounds_above, others, lower_bounds, upper_bounds, lesser_first}
-use Rattle.sm_omega.specs.Solving.{least_variable, greatest_of}
+use Rattle.sm_omega.specs.Counting.{Done, go_on, with_result, entered}
+use Rattle.sm_omega.specs.Solving.{at, bounds_below, bounds_above, others, lower_bounds, upper_bounds, lesser_first, least_variable, greatest_of}
 use Rattle.sm_omega.specs.Rules.{Answer, or_refuted, solved, giving, or_else}
-use Rattle.sm_omega.specs.Inequalities.{greatest_bound, least_bound, greatest_at, numbers_to, splinters_at}
-use Rattle.sm_omega.specs.Inequalities.{by_splinters, by_all_splinters, by_bounds, by_variable, standing, shadows}
+use Rattle.sm_omega.specs.Inequalities.{greatest_bound, least_bound, greatest_at, numbers_to, splinters_at, by_splinters, by_all_splinters, by_bounds, by_variable, standing, shadows}
 use Rattle.sm_omega.specs.Exact.{solved_within}
 use Rattle.sm_exact.specs.declared.entry.Entry.{Entry}
 use Rattle.sm_exact.specs.declared.frame.Side.TheVariants.{Below, Above}
-use Rattle.sm_exact.specs.declared.frame.Frame.TheVariants.{Bounds, Dark}
 use Rattle.sm_exact.specs.Entries.{shown, before}
 use Rattle.sm_exact.specs.Rows.{HasNoSplinter}
-use Rattle.sm_exact.specs.Stack.{side_bound, told, answer_of}
+use Rattle.sm_exact.specs.Stack.{side_bound, told, answer_of, Bounds, Dark}
 use Rattle.sm_exact.proofs.EntryLemmas.{standing_before}
 use Rattle.sm_exact.proofs.SplittingLemmas.{filter_twice}
+use Rattle.sm_omega.proofs.OmegaNumbers.{other_above}
+use Rattle.sm_num.proofs.AlikeLemmas.{computed_inside}
+use Rattle.sm_exact.proofs.StepLemmas.{no_more}
+use Rattle.sm_num.proofs.ResultsReduced.{neg_fits}
+use Rattle.sm_exact.proofs.ModularLemmas.{fits_bits}
 
 -- the least variable
 
@@ -55,16 +54,6 @@ least_turn i j fs f ps old new next within here parts before after =
     ∙ sym (ap least_variable (drop-cons fs j f within))
 
 -- the greatest coefficient
-
--- an upper bound has a coefficient above 0
-above_zero : (z : ℤ) → (not (int_eq z (pos 0)) && not (is_negative z)) ≡ true → pos 0 <ℤ z
-above_zero (pos zero) e = absurd cc
-above_zero (pos (suc n)) e = omega (arith, ints)
-above_zero (negsuc n) e = absurd (no (int_eq (negsuc n) (pos 0)) e)
-  where
-    no : (b : Bool) → (not b && not true) ≡ true → ⊥
-    no true e = absurd cc
-    no false e = absurd cc
 
 -- another form has not
 not_above_zero : (z : ℤ) → (not (int_eq z (pos 0)) && not (is_negative z)) ≡ false → z ≤ℤ pos 0
@@ -92,7 +81,7 @@ top_is t (f ∷ fs) = by (bounds_above t f) refl (top_is t fs)
         greatest_at t (if b then f ∷ upper_bounds t fs else upper_bounds t fs)
         ≡ greatest_of (pos 0) (map (at t) (if b then f ∷ upper_bounds t fs else upper_bounds t fs))
     by true e more =
-        ap (λ z. greatest_of z (map (at t) (upper_bounds t fs))) (sym (greater_second (pos 0) (at t f) (above_zero (at t f) e)))
+        ap (λ z. greatest_of z (map (at t) (upper_bounds t fs))) (sym (greater_second (pos 0) (at t f) (other_above (at t f) e)))
     by false e more = more
 
 -- the next form
@@ -161,11 +150,6 @@ numbers_more t i fs f z within here is fits all =
 
 -- splinters
 
--- an operation whose result is in the range
-pub computed_fits : (op : Op) (y z w : ℤ) → exact op y z ≡ w → IsTrue (fits_form w) → computed op y z ≡ Fits w
-computed_fits op y z w is fits =
-    ap (λ x. if fits_form x then Fits x else Leaves op y z) is ∙ ap (λ (b : Bool). if b then Fits w else Leaves op y z) fits
-
 -- how many splinters there are, by the operations
 pub splinters_by : (m b x y z : ℤ) (n : ℕ) → computed Mul m b ≡ Fits x → computed Sub x m ≡ Fits y → computed Sub y b ≡ Fits z →
     numbers_to (floor_of z (nat_abs m)) ≡ n → splinters_at m b ≡ Fits n
@@ -192,18 +176,18 @@ lesser_fits n fits = lt-ltb n (2 ^ 127) (omega (arith, ltb-true (suc n) (2 ^ 127
 no_splinter_above : (n : ℕ) → IsTrue (fits_form (pos (suc n))) → splinters_at (pos 1) (pos (suc n)) ≡ Fits 0
 no_splinter_above n fits =
     splinters_by (pos 1) (pos (suc n)) (pos (suc n)) (pos n) (negsuc 0) 0
-    (computed_fits Mul (pos 1) (pos (suc n)) (pos (suc n)) (one_mul (pos (suc n))) fits)
-    (computed_fits Sub (pos (suc n)) (pos 1) (pos n) (omega (arith, sums)) (lesser_fits n fits))
-    (computed_fits Sub (pos n) (pos (suc n)) (negsuc 0) (omega (arith, sums)) refl)
+    (computed_inside Mul (pos 1) (pos (suc n)) (pos (suc n)) (one_mul (pos (suc n))) fits)
+    (computed_inside Sub (pos (suc n)) (pos 1) (pos n) (omega (arith, sums)) (lesser_fits n fits))
+    (computed_inside Sub (pos n) (pos (suc n)) (negsuc 0) (omega (arith, sums)) refl)
     (minus_one 1)
 
 -- a lower bound's coefficient has size 1
 no_splinter_below : (m : ℤ) → IsTrue (fits_form m) → splinters_at m (pos 1) ≡ Fits 0
 no_splinter_below m fits =
     splinters_by m (pos 1) m (pos 0) (negsuc 0) 0
-    (computed_fits Mul m (pos 1) m (mul_one m) fits)
-    (computed_fits Sub m m (pos 0) (omega (arith, sums)) refl)
-    (computed_fits Sub (pos 0) (pos 1) (negsuc 0) (omega (arith, sums)) refl)
+    (computed_inside Mul m (pos 1) m (mul_one m) fits)
+    (computed_inside Sub m m (pos 0) (omega (arith, sums)) refl)
+    (computed_inside Sub (pos 0) (pos 1) (negsuc 0) (omega (arith, sums)) refl)
     (minus_one (nat_abs m))
 
 -- no bound has a splinter
@@ -254,14 +238,6 @@ none_below t fs range least = λ limit c solve.
     (filter_passes (bounds_below t) fs))
 
 -- the rules of bounds
-
--- there is nothing to go on with
-or_else_none : (answer : Answer) (next : ℕ → Answer) → ((c : ℕ) → next c ≡ Done c None) → or_else answer next ≡ answer
-or_else_none (Done c None) next none = none c
-or_else_none (Done c (Some v)) next none = refl
-or_else_none Passed next none = refl
-or_else_none (Outside op y z) next none = refl
-or_else_none Shallow next none = refl
 
 -- bounds by their lists
 with_none_above : (limit : ℕ) (solve : List (Linear ℕ) → ℕ → Answer) (fs : List (Linear ℕ)) (c t : ℕ) (ls us : List (Linear ℕ)) →
@@ -345,7 +321,7 @@ pub by_close : (limit depth s : ℕ) (fs : List (Linear ℕ)) (c t : ℕ) (os ls
 by_close limit depth s fs c t os ls us lower e first second third above below is same none =
     with_both limit (solved_within limit depth s) fs c t (lower_bounds t fs) (upper_bounds t fs) (subst (λ l. 0 < length l) third above)
     (subst (λ l. 0 < length l) second below)
-    ∙ or_else_none _ _ (λ n. none limit n (solved_within limit depth s))
+    ∙ no_more _ _ (λ n. none limit n (solved_within limit depth s))
     ∙ ap (giving t (greatest_bound t (lower_bounds t fs)))
     (shadows_solved limit depth s fs c t os ls us e first second third is)
     ∙ ap (λ l. giving t (greatest_bound t l) (answer_of limit depth s e))
@@ -358,27 +334,17 @@ none_by_test n l b long is none = sym long ∙ eqb-true n 0 (sym is ∙ none)
 pub some_by_test : (n : ℕ) (l : List (Linear ℕ)) (b : Bool) → n ≡ length l → b ≡ (n == 0) → b ≡ false → 0 < length l
 some_by_test n l b long is none = let apart = eqb-false n 0 (sym is ∙ none) in omega arith
 
--- a number in the range turned round, and less 1
-pub turned_fits : (z : ℤ) → IsTrue (fits_form z) → IsTrue (fits_form (neg_ℤ z))
-turned_fits (pos zero) fits = refl
-turned_fits (pos (suc n)) fits = fits
-turned_fits (negsuc n) fits = fits
-
-pub fits_128 : (z : ℤ) → IsTrue (fits_form z) → SFits w128 z
-fits_128 (pos n) fits = record { sfits = ltb-true n (2 ^ 127) fits }
-fits_128 (negsuc n) fits = record { sfits = let more = ltb-true (suc n) (2 ^ 127) fits in omega arith }
-
 one_less : (n : ℕ) → pos (suc n) -ℤ pos 1 ≡ pos n
 one_less n = omega (arith, sums)
 
 pub less_one_fits : (z : ℤ) → IsTrue (fits_form z) → SFits w128 (z -ℤ pos 1)
 less_one_fits (pos zero) fits = record { sfits = omega arith }
-less_one_fits (pos (suc n)) fits = subst (SFits w128) (sym (one_less n)) (fits_128 (pos n) (lesser_fits n fits))
+less_one_fits (pos (suc n)) fits = subst (SFits w128) (sym (one_less n)) (fits_bits (pos n) (lesser_fits n fits))
 less_one_fits (negsuc n) fits = record { sfits = let more = ltb-true (suc n) (2 ^ 127) fits in omega arith }
 
 -- numbers as calls pass them
 pub passed : (z : ℤ) → IsTrue (fits_form z) → to_z w128 (of_z w128 z) ≡ z
-passed z fits = to_z-of_z w128 z (fits_128 z fits)
+passed z fits = to_z-of_z w128 z (fits_bits z fits)
 
 -- 0 less a number
 pub zero_less : (z : ℤ) → pos 0 -ℤ z ≡ neg_ℤ z
@@ -387,14 +353,14 @@ zero_less z = omega (arith, ints)
 pub zero_less_fits : (z : ℤ) → IsTrue (fits_form z) → SFits w128 (pos 0 -ℤ to_z w128 (of_z w128 z))
 zero_less_fits z fits =
     subst (λ (x : ℤ). SFits w128 (pos 0 -ℤ x)) (sym (passed z fits))
-    (subst (SFits w128) (sym (zero_less z)) (fits_128 (neg_ℤ z) (turned_fits z fits)))
+    (subst (SFits w128) (sym (zero_less z)) (fits_bits (neg_ℤ z) (neg_fits z fits)))
 
 -- a number turned round, as calls pass it
 pub passed_turned : (z y : ℤ) → IsTrue (fits_form z) → z ≡ y → to_z w128 (of_z w128 (pos 0 -ℤ to_z w128 (of_z w128 z))) ≡ neg_ℤ y
 passed_turned z y fits is =
     ap (λ (x : ℤ). to_z w128 (of_z w128 (pos 0 -ℤ x))) (passed z fits)
     ∙ ap (λ (x : ℤ). to_z w128 (of_z w128 x)) (zero_less z)
-    ∙ passed (neg_ℤ z) (turned_fits z fits)
+    ∙ passed (neg_ℤ z) (neg_fits z fits)
     ∙ ap neg_ℤ is
 
 -- a number less 1, as calls pass it

@@ -9,9 +9,8 @@ use Rattle.sm_exact.specs.declared.answer.ExactAnswer.{ExactAnswer}
 use Rattle.sm_exact.specs.declared.deciding.Turned.{Turned}
 use Rattle.sm_exact.specs.declared.deciding.Turned.TheVariants as turned
 use Rattle.sm_exact.specs.declared.entry.Entry.{Entry}
-use Rattle.sm_exact.specs.declared.frame.Frame.{Frame}
 use Rattle.sm_exact.specs.Entries.{shown}
-use Rattle.sm_exact.specs.Stack.{answer_of, all_zero, Awaits, Stands}
+use Rattle.sm_exact.specs.Stack.{answer_of, all_zero, Awaits, Stands, Frame}
 use Rattle.sm_exact.specs.Telling.{TellsExact}
 use Rattle.sm_exact.specs.Valued.{Turns}
 use Rattle.sm_exact.proofs.StackLemmas.{awaits_along}

@@ -1,25 +1,24 @@
 -- Lists on their way: a form that enters stands behind those before it.
-use Rattle.std.proofs.Common.{◌≡◌, ◌+◌, ◌<◌, ◌≤◌, ◌==◌, nat_lt, ℕ, suc, ℤ, Bool, true, false, if◌then◌else◌, ◌&&◌}
-use Rattle.std.proofs.Common.{Option, Some, None, List, [], ◌∷◌, ◌++◌, map, length, get_or, drop, refl, sym, ap, subst, ◌∙◌, arith, Result}
-use Rattle.std.proofs.Common.{Ok, Err, Vec, Global, add-one}
+use Rattle.std.proofs.Common.{◌≡◌, ◌+◌, ◌<◌, ◌≤◌, ◌==◌, nat_lt, ℕ, suc, ℤ, Bool, true, false, if◌then◌else◌, Some, None, List, [], ◌∷◌, ◌++◌, map, length, get_or, drop, refl, sym, ap, subst, ◌∙◌, arith, Result, Ok, Err, Vec, Global}
+use Rattle.std.proofs.Common.{add-one}
 use Rattle.std.proofs.lemmas.Bool.Decides.{Decides-ltb}
 use Rattle.std.specs.Result.{IfOk}
 use Rattle.std.proofs.Math.Dec.{eqb-suc-zero}
 use Rattle.std.proofs.Math.Seq.{drop-cons}
 use Rattle.std.proofs.Math.ListN.{drop_of_length-le}
-use Rattle.sm_num.specs.declared.op.Op.{Op}
-use Rattle.sm_num.specs.declared.error.NumError.{NumError}
 use Rattle.sm_num.specs.declared.error.NumError.TheVariants as error
 use Rattle.sm_num.specs.Errors.{Explains, Returns}
+use Rattle.sm_num.specs.declared.error.NumError.{NumError}
 use Rattle.sm_num.specs.Forms.{Linear}
-use Rattle.sm_num.specs.Combining.{Outcome, Fits, Leaves}
+use Rattle.sm_num.specs.Combining.{Outcome, Fits}
+use Rattle.sm_num.specs.declared.op.Op.{Op}
 use Rattle.sm_num.specs.Tightening.{tightened, is_contradictory, has_no_part}
-use Rattle.sm_omega.specs.Counting.{Decision, Done, Passed, Outside, Shallow, Item, Stay, Enter, Count}
-use Rattle.sm_omega.specs.Counting.{Entered, led, entering, entered, with_result}
+use Rattle.sm_omega.specs.Counting.{Done, Passed, Outside, Item, Stay, Enter, Count, Entered, led, entering, entered, with_result}
 use Rattle.sm_omega.specs.Inequalities.{standing}
 use Rattle.sm_exact.specs.declared.entry.Entry.{Entry}
 use Rattle.sm_exact.specs.declared.entry.Entry.TheVariants as entry
 use Rattle.sm_exact.specs.Entries.{shown, before, going, TellsError}
+use Rattle.std.proofs.lemmas.Bool.{false_from_ne_true}
 
 -- a form more behind others
 pub before_more : (fs : List (Linear ℕ)) (f : Linear ℕ) (rest : Entered) → before (fs ++ f ∷ []) rest ≡ before fs (led f rest)
@@ -147,18 +146,13 @@ pub end_left : (whole : Entered) (limit : ℕ) (item : Linear ℕ → Item) (lef
 end_left whole limit item left out c so_far none =
     so_far ∙ ap (λ l. before out (entered limit (map item l) c)) none ∙ before_done out c
 
--- a test that isn't true is false
-by_false : (b : Bool) → (b ≡ true → ⊥) → b ≡ false
-by_false true never = absurd (never refl)
-by_false false never = refl
-
 -- nothing more is counted
 pub count_passed : (limit c : ℕ) (out : List (Linear ℕ)) (o : Outcome (Linear ℕ)) (rest : List Item) → limit ≤ c →
     before out (entered limit (Count o ∷ rest) c) ≡ Passed
 count_passed limit c out o rest past =
     ap (λ (b : Bool). before out (if b then with_result o (λ (f : Linear ℕ). entering (suc c) (tightened f) (entered limit rest (suc c)))
     else Passed))
-    (by_false (nat_lt c limit) (λ lt. let below = (Decides-ltb c limit).0 lt in absurd (omega arith)))
+    (false_from_ne_true (nat_lt c limit) (λ lt. let below = (Decides-ltb c limit).0 lt in absurd (omega arith)))
     ∙ before_passed out
 
 -- one more is

@@ -1,6 +1,5 @@
 -- Values that frames give: a variable more, and what all frames await.
-use Rattle.std.proofs.Common.{◌≡◌, ◌==◌, ℕ, ℤ, pos, Bool, true, false, if◌then◌else◌, nat_eq, unwrap_or}
-use Rattle.std.proofs.Common.{Option, Some, List, [], ◌∷◌, ◌++◌, refl, sym, ap, subst, ◌∙◌}
+use Rattle.std.proofs.Common.{◌≡◌, ◌==◌, ℕ, ℤ, pos, Bool, true, false, if◌then◌else◌, nat_eq, unwrap_or, Option, Some, List, [], ◌∷◌, ◌++◌, refl, sym, ap, subst, ◌∙◌}
 use Rattle.std.proofs.Math.Path.{fun_ext}
 use Rattle.std.proofs.lemmas.Bool.{eq-eqb, eqb-true}
 use Rattle.sm_num.specs.declared.error.NumError.{NumError}
@@ -9,8 +8,7 @@ use Rattle.sm_num.specs.Combining.{Outcome, Fits}
 use Rattle.sm_omega.specs.Counting.{Done, with_result}
 use Rattle.sm_omega.specs.Solving.{Values, put}
 use Rattle.sm_omega.specs.Rules.{Answer, giving}
-use Rattle.sm_exact.specs.declared.frame.Frame.{Frame}
-use Rattle.sm_exact.specs.Stack.{Awaits}
+use Rattle.sm_exact.specs.Stack.{Awaits, Frame}
 use Rattle.sm_exact.specs.Valued.{values_in, Leads, Fails, FailsAll}
 use Rattle.sm_exact.proofs.StackLemmas.{awaits_less, awaits_outside}
 

@@ -1,24 +1,21 @@
 -- The equation of the modular step, part by part.
-use Rattle.std.proofs.Common.{◌≡◌, ◌+◌, ◌<◌, ◌≤◌, ◌==◌, ◌^◌, ℕ, zero, suc, ℤ, pos, negsuc, neg_ℤ, ◌+ℤ◌, ◌*ℤ◌, nat_lt}
-use Rattle.std.proofs.Common.{Bool, true, false, if◌then◌else◌, IsTrue, Result, Ok, Err, IfOk}
-use Rattle.std.proofs.Common.{List, [], ◌∷◌, ◌++◌, length, get_or, take, drop, refl, sym, ap, subst, ◌∙◌, arith, add-one}
+use Rattle.std.proofs.Common.{◌≡◌, ◌+◌, ◌<◌, ◌≤◌, ◌==◌, ◌^◌, ℕ, zero, suc, ℤ, pos, negsuc, neg_ℤ, ◌+ℤ◌, ◌*ℤ◌, nat_lt, Bool, true, false, if◌then◌else◌, IsTrue, Result, Ok, Err, IfOk, List, [], ◌∷◌, ◌++◌, length, get_or, take, drop, refl}
+use Rattle.std.proofs.Common.{sym, ap, subst, ◌∙◌, arith, add-one, to_z, of_z}
 use Rattle.std.proofs.Math.Seq.{drop-cons}
 use Rattle.std.proofs.lemmas.List.{take_more, append_assoc, append-nil}
 use Rattle.std.proofs.lemmas.Int.{ints, to_z-of_z}
 use Rattle.std.proofs.lemmas.Bool.{ltb-true, eqb-true}
 use Rattle.std.proofs.lemmas.Bool.Decides.{Decides-int_eq}
 use Rattle.std.specs.Int.{w128}
-use Rattle.std.proofs.Common.{to_z, of_z}
 use mir.Val.{SFits}
 use Rattle.std.specs.Ordering.{int_eq}
-use Rattle.sm_num.specs.declared.op.Op.TheVariants.{Add, Mul}
-use Rattle.sm_num.specs.declared.kind.Kind.TheVariants.{Eq}
-use Rattle.sm_num.specs.declared.error.NumError.{NumError}
 use Rattle.sm_num.specs.Range.{fits_form}
 use Rattle.sm_num.specs.Forms.{Linear, AreParts, IsKept}
-use Rattle.sm_num.specs.Combining.{Outcome, Fits, Leaves, then_with, computed, combined_number, with_part, led_by, merged, merged_part}
-use Rattle.sm_num.specs.Combining.{formed, combined}
+use Rattle.sm_num.specs.declared.kind.Kind.TheVariants.{Eq}
+use Rattle.sm_num.specs.Combining.{Outcome, Fits, Leaves, then_with, computed, combined_number, with_part, led_by, merged, merged_part, formed, combined}
+use Rattle.sm_num.specs.declared.op.Op.TheVariants.{Add, Mul}
 use Rattle.sm_num.specs.Errors.{Returns}
+use Rattle.sm_num.specs.declared.error.NumError.{NumError}
 use Rattle.sm_omega.specs.Equalities.{modular_parts, quotient}
 use Rattle.sm_exact.specs.Rows.{AreBelow}
 
@@ -43,7 +40,7 @@ below_from s t [] le below = tt
 below_from s t (p ∷ ps) le below = let lt = below.0 in (omega arith, below_from s t ps le below.1)
 
 -- 1 times a number
-times_one : (c : ℤ) → IsTrue (fits_form c) → computed Mul (pos 1) c ≡ Fits c
+pub times_one : (c : ℤ) → IsTrue (fits_form c) → computed Mul (pos 1) c ≡ Fits c
 times_one c fits =
     let same : pos 1 *ℤ c ≡ c = omega (arith, ints) in
     ap (λ (z : ℤ). if fits_form z then Fits z else Leaves Mul (pos 1) c) same ∙ ap
@@ -67,7 +64,7 @@ and_zero c fits =
     (λ (b : Bool). if b then Fits c else Leaves Add c (pos 0)) fits
 
 -- a number in the range has 128 bits
-fits_bits : (z : ℤ) → IsTrue (fits_form z) → SFits w128 z
+pub fits_bits : (z : ℤ) → IsTrue (fits_form z) → SFits w128 z
 fits_bits (pos n) fits = record { sfits = ltb-true n (2 ^ 127) fits }
 fits_bits (negsuc n) fits = let low = ltb-true (suc n) (2 ^ 127) fits in record { sfits = omega (arith, low) }
 
@@ -82,7 +79,7 @@ number_alone c q fits =
     ∙ and_zero c fits
 
 -- a part that isn't 0
-part_stays : (u : ℕ) (c : ℤ) (ps : List (ℕ × ℤ)) → (c ≡ pos 0 → ⊥) → with_part u c ps ≡ (u, c) ∷ ps
+pub part_stays : (u : ℕ) (c : ℤ) (ps : List (ℕ × ℤ)) → (c ≡ pos 0 → ⊥) → with_part u c ps ≡ (u, c) ∷ ps
 part_stays u c ps some = by (int_eq c (pos 0)) refl
   where
     by : (b : Bool) → int_eq c (pos 0) ≡ b → (if b then ps else (u, c) ∷ ps) ≡ (u, c) ∷ ps

@@ -1,6 +1,5 @@
 -- The forms over places of a branch are those that the exact line decides.
-use Rattle.std.proofs.Common.{◌≡◌, ◌<◌, ◌++◌, ℕ, zero, suc, nat_le, pos, Bool, true, ◌&&◌}
-use Rattle.std.proofs.Common.{Option, Some, None, slice_get, List, [], ◌∷◌, length, refl, sym, ap, subst, ◌∙◌, ⊎_elim}
+use Rattle.std.proofs.Common.{◌≡◌, ◌<◌, ◌++◌, ℕ, zero, suc, nat_le, pos, Bool, true, ◌&&◌, Option, Some, None, slice_get, List, [], ◌∷◌, length, refl, sym, ap, subst, ◌∙◌, ⊎_elim}
 use Rattle.std.specs.List.{filter_map}
 use Rattle.std.proofs.lemmas.List.{append-nil}
 use Rattle.sm_syntax.specs.text.Sorts.{Sorts}
@@ -13,7 +12,6 @@ use Rattle.sm_term.specs.declared.formula.Formula.{Formula}
 use Rattle.sm_term.specs.Tables.{tree_at}
 use Rattle.sm_term.specs.TableLaws.{AreApart}
 use Rattle.sm_term.specs.SameTerms.{same_tree}
-use Rattle.sm_theory.specs.declared.fact.Fact.{Fact}
 use Rattle.sm_theory.specs.declared.fact.Fact.TheVariants as fact
 use Rattle.sm_theory.specs.Facts.{BranchFact, Formal, Sum}
 use Rattle.sm_theory.specs.Lines.{followed, formula_in, form_in}
@@ -22,6 +20,7 @@ use Rattle.sm_theory.specs.TermsOfFormulas.{all_terms}
 use Rattle.sm_theory.specs.ExactLine.{form_by_places, forms_by_places, forms_of_branch, has_no_solution, exact_adds}
 use Rattle.sm_theory.specs.Standing.{StandsAt, HaveOnePlace, IsKeptFor}
 use Rattle.sm_theory.specs.Views.{AllStand}
+use Rattle.sm_theory.specs.declared.fact.Fact.{Fact}
 use Rattle.sm_theory.proofs.PlacedForms.{AreKeptFor, all_placed_are, unplaced}
 use Rattle.sm_theory.proofs.LinearPlaces.{place_of, place_or_not}
 use Rattle.sm_theory.proofs.FormsOfTermsLemmas.{stands_at, one_place}

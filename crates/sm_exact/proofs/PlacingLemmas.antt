@@ -1,15 +1,15 @@
 -- Forms over places: how they are made part by part, and that they are the forms of the exact line.
-use Rattle.std.proofs.Common.{◌≡◌, ◌<◌, ◌≤◌, ℕ, zero, suc, nat_eq, ℤ, pos, ◌+ℤ◌, ◌*ℤ◌, Bool, true, false, ◌||◌, if◌then◌else◌}
-use Rattle.std.proofs.Common.{Option, Some, None, slice_get, List, [], ◌∷◌, ◌++◌, ◌+◌, take, length, get_or, refl, sym, ap, subst, ◌∙◌, ⊎_elim, arith}
+use Rattle.std.proofs.Common.{◌≡◌, ◌<◌, ◌≤◌, ℕ, zero, suc, nat_eq, ℤ, pos, ◌+ℤ◌, ◌*ℤ◌, Bool, true, false, if◌then◌else◌, Option, Some, None, slice_get, List, [], ◌∷◌, ◌++◌, ◌+◌, take, length, get_or, refl, sym, ap, subst, ◌∙◌, ⊎_elim}
+use Rattle.std.proofs.Common.{arith}
 use Rattle.std.specs.Prelude.{IfNone}
 use Rattle.std.specs.List.{list_any, position}
-use Rattle.std.proofs.lemmas.Bool.{cases_Bool}
+use Rattle.std.proofs.lemmas.Bool.{cases_Bool, or_parts}
 use Rattle.std.proofs.lemmas.Int.{ints}
 use Rattle.std.proofs.lemmas.List.{take_more}
 use Rattle.std.proofs.lemmas.List.Quantifiers.{position-Some}
 use Rattle.std.proofs.lemmas.Option.{slice_get-get_or}
-use Rattle.sm_num.specs.declared.kind.Kind.{Kind}
 use Rattle.sm_num.specs.Forms.{Linear, coefficient, sum_of_parts, AreParts, IsKept}
+use Rattle.sm_num.specs.declared.kind.Kind.{Kind}
 use Rattle.sm_num.specs.FormLaws.{same_atom}
 use Rattle.sm_num.specs.Combining.{Outcome, Fits, Leaves, formed, merged, combined_number, combined}
 use Rattle.sm_num.proofs.OutcomeLemmas.{gives_fits, IsSum, combined_number_gives}
@@ -20,7 +20,7 @@ use Rattle.sm_theory.specs.LinearTerms.{constant_form}
 use Rattle.sm_theory.specs.declared.fact.Fact.{Fact}
 use Rattle.sm_theory.specs.declared.fact.Fact.TheVariants as fact
 use Rattle.sm_exact.specs.Placing.{IsAt, HasNoPlace, HavePlaces, ArePlaced, IsPlaced, SomeLacksPlace, FactLacksPlace}
-use Rattle.sm_exact.proofs.CoefficientLemmas.{coefficient_first}
+use Rattle.sm_num.proofs.KeptForms.{coefficient_first}
 
 -- 1 at one atom, 0 at all others
 abbrev pub only_at : ℕ → ℕ → ℤ
@@ -153,17 +153,13 @@ part_counts least (suc i) (p ∷ ps) kept within e =
     part_counts (suc p.0) i ps kept.3 (omega arith) (sym (same.coefficient_past same_atom a p ps t) ∙ e))
     (cases_Bool (same_atom a p.0))
 
-both_false : (b c : Bool) → (b || c) ≡ false → (b ≡ false) × (c ≡ false)
-both_false true c e = absurd cc
-both_false false c e = (refl, e)
-
 -- a number that isn't listed has no place
 pub unlisted : (numbers : List ℕ) (k : ℕ) → list_any (nat_eq k) numbers ≡ false → HasNoPlace numbers k
 unlisted [] k e i at = absurd cc
 unlisted (n ∷ ns) k e zero at =
     let same : k ≡ n = cc in
-    not_both (nat_eq k n) (subst (λ (m : ℕ). same_atom k m ≡ true) same (same_atom_reflexive k)) (both_false (nat_eq k n) (list_any (nat_eq k) ns) e).0
-unlisted (n ∷ ns) k e (suc i) at = unlisted ns k (both_false (nat_eq k n) (list_any (nat_eq k) ns) e).1 i at
+    not_both (nat_eq k n) (subst (λ (m : ℕ). same_atom k m ≡ true) same (same_atom_reflexive k)) (or_parts (nat_eq k n) (list_any (nat_eq k) ns) e).0
+unlisted (n ∷ ns) k e (suc i) at = unlisted ns k (or_parts (nat_eq k n) (list_any (nat_eq k) ns) e).1 i at
 
 -- the place that is found is the number's
 pub found_at : (numbers : List ℕ) (k i : ℕ) → position (nat_eq k) numbers ≡ Some i → IsAt numbers i k

@@ -1,23 +1,21 @@
 -- The dark shadow and the splinter by sums of two forms, and shadows on their way into a list.
-use Rattle.std.proofs.Common.{◌≡◌, ◌+◌, ◌<◌, ◌≤◌, ℕ, suc, ℤ, pos, neg_ℤ, ◌-ℤ◌, Bool, if◌then◌else◌, IsTrue, Some, List, [], ◌∷◌, ◌++◌}
-use Rattle.std.proofs.Common.{map, length, get_or, drop, refl, sym, ap, subst, ◌∙◌, lt-ltb, le-ltb, drop-cons, drop_of_length-le, add-one}
-use Rattle.sm_num.specs.declared.op.Op.{Op}
-use Rattle.sm_num.specs.declared.op.Op.TheVariants.{Add, Mul}
-use Rattle.sm_num.specs.declared.kind.Kind.{Kind}
-use Rattle.sm_num.specs.declared.kind.Kind.TheVariants.{Le, Eq}
-use Rattle.sm_num.specs.declared.error.NumError.{NumError}
+use Rattle.std.proofs.Common.{◌≡◌, ◌+◌, ◌<◌, ◌≤◌, ℕ, suc, ℤ, pos, neg_ℤ, ◌-ℤ◌, Bool, if◌then◌else◌, IsTrue, Some, List, [], ◌∷◌, ◌++◌, map, length, get_or, drop, refl, sym, ap, subst, ◌∙◌, lt-ltb, le-ltb, drop-cons, drop_of_length-le}
+use Rattle.std.proofs.Common.{add-one}
 use Rattle.sm_num.specs.declared.error.NumError.TheVariants as error
 use Rattle.sm_num.specs.Errors.{Explains, Returns}
+use Rattle.sm_num.specs.declared.error.NumError.{NumError}
 use Rattle.std.specs.Prelude.{Result, IfOk}
 use Rattle.std.specs.declared.alloc.AllocError.{AllocError}
 use Rattle.std.proofs.lemmas.Result.{IfOk-weaker}
 use Rattle.sm_num.specs.Range.{exact, fits_form}
 use Rattle.sm_num.specs.Forms.{Linear, IsKept, AreParts}
+use Rattle.sm_num.specs.declared.kind.Kind.{Kind}
+use Rattle.sm_num.specs.declared.kind.Kind.TheVariants.{Le, Eq}
 use Rattle.sm_num.specs.Tightening.{tightened}
-use Rattle.sm_num.specs.Combining.{Outcome, Fits, then_with, computed, combined_number, with_part, led_by, scaled, merged, formed}
-use Rattle.sm_num.specs.Combining.{combined}
-use Rattle.sm_num.proofs.RingLemmas.{one_mul}
-use Rattle.sm_num.proofs.OutcomeLemmas.{with_part_has, gives_fits, computed_gives}
+use Rattle.sm_num.specs.Combining.{Outcome, Fits, then_with, computed, combined_number, led_by, scaled, merged, formed, combined}
+use Rattle.sm_num.specs.declared.op.Op.{Op}
+use Rattle.sm_num.specs.declared.op.Op.TheVariants.{Add, Mul}
+use Rattle.sm_num.proofs.OutcomeLemmas.{gives_fits, computed_gives}
 use Rattle.sm_num.proofs.KeptLemmas.{combined_is_kept}
 use Rattle.sm_omega.specs.Counting.{Item, Count, Entered, Done, Passed, entered, with_result, entering}
 use Rattle.sm_omega.specs.Solving.{at}
@@ -26,38 +24,26 @@ use Rattle.sm_exact.specs.declared.entry.Entry.{Entry}
 use Rattle.sm_exact.specs.declared.entry.Entry.TheVariants as entry
 use Rattle.sm_exact.specs.Entries.{before, going}
 use Rattle.sm_exact.proofs.EntryLemmas.{before_done, before_passed}
-use Rattle.sm_exact.proofs.BoundsLemmas.{computed_fits}
-
--- once a number in the range
-computed_once : (z : ℤ) → IsTrue (fits_form z) → computed Mul (pos 1) z ≡ Fits z
-computed_once z fits = computed_fits Mul (pos 1) z z (one_mul z) fits
-
--- a part whose coefficient isn't 0
-part_stands : (a : ℕ) (z : ℤ) (ps : List (ℕ × ℤ)) → (z ≡ pos 0 → ⊥) → with_part a z ps ≡ (a, z) ∷ ps
-part_stands a z ps some =
-    with_part_has (λ (l : List (ℕ × ℤ)). l ≡ (a, z) ∷ ps) a z ps (λ (none : z ≡ pos 0). absurd (some none)) (λ here. refl)
+use Rattle.sm_exact.proofs.ModularLemmas.{times_one, part_stays}
+use Rattle.sm_num.proofs.Merges.{explains_then}
+use Rattle.sm_num.proofs.OneForm.{merged_once}
 
 -- a part in front of parts, each once
 led_once : (least : ℕ) (p : ℕ × ℤ) (ps : List (ℕ × ℤ)) (rest : Outcome (List (ℕ × ℤ))) → AreParts least (p ∷ ps) → rest ≡ Fits ps →
     led_by p.0 (computed Mul (pos 1) p.1) rest ≡ Fits (p ∷ ps)
 led_once least p ps rest parts is =
-    ap (λ c. led_by p.0 c rest) (computed_once p.1 parts.1) ∙ ap (led_by p.0 (Fits p.1)) is ∙ ap Fits (part_stands p.0 p.1 ps parts.2)
+    ap (λ c. led_by p.0 c rest) (times_one p.1 parts.1) ∙ ap (led_by p.0 (Fits p.1)) is ∙ ap Fits (part_stays p.0 p.1 ps parts.2)
 
 -- parts, each once
 scaled_once : (least : ℕ) (ps : List (ℕ × ℤ)) → AreParts least ps → scaled (pos 1) ps ≡ Fits ps
 scaled_once least [] parts = refl
 scaled_once least (p ∷ ps) parts = led_once least p ps (scaled (pos 1) ps) parts (scaled_once (suc p.0) ps parts.3)
 
--- with nothing beside them
-merged_once : (least : ℕ) (ps : List (ℕ × ℤ)) → AreParts least ps → merged (pos 1) (pos 1) ps [] ≡ Fits ps
-merged_once least [] parts = refl
-merged_once least (p ∷ ps) parts = led_once least p ps (merged (pos 1) (pos 1) ps []) parts (merged_once (suc p.0) ps parts.3)
-
 -- two numbers, each once
 number_once : (y z : ℤ) → IsTrue (fits_form y) → IsTrue (fits_form z) → combined_number (pos 1) y (pos 1) z ≡ computed Add y z
 number_once y z first second =
-    ap (λ o. then_with o (λ (a : ℤ). then_with (computed Mul (pos 1) z) (λ (b : ℤ). computed Add a b))) (computed_once y first)
-    ∙ ap (λ o. then_with o (λ (b : ℤ). computed Add y b)) (computed_once z second)
+    ap (λ o. then_with o (λ (a : ℤ). then_with (computed Mul (pos 1) z) (λ (b : ℤ). computed Add a b))) (times_one y first)
+    ∙ ap (λ o. then_with o (λ (b : ℤ). computed Add y b)) (times_one z second)
 
 -- a form of a number alone
 abbrev pub number_form : ℤ → Linear ℕ
@@ -77,12 +63,6 @@ pub case_by_combine : (l : Linear ℕ) (i : ℕ) → IsTrue (fits_form (pos i)) 
 case_by_combine l i fits kept =
     ap (λ ps. formed ps (combined_number (pos 1) l.constant (pos 1) (pos i)) Eq) (merged_once 0 l.parts kept.parts)
     ∙ ap (λ c. formed (Fits l.parts) c Eq) (number_once l.constant (pos i) kept.constant fits)
-
--- the first operation leaves the range
-pub fails_first : {S T : Type 0} (outcome : Outcome S) (next : S → Outcome T) (e : NumError) → Explains outcome e →
-    Explains (then_with outcome next) e
-fails_first outcome next (error.Beyond op y z) leaves = ap (λ o. then_with o next) leaves
-fails_first outcome next error.Memory leaves = tt
 
 -- it doesn't
 pub goes_first : {S T : Type 0} (outcome : Outcome S) (next : S → Outcome T) (s : S) → outcome ≡ Fits s → then_with outcome next ≡ next s
@@ -111,7 +91,7 @@ pub shadow_fails : (t : ℕ) (l u : Linear ℕ) (a b : ℤ) (e : NumError) → a
     Explains (combined l a u b Le) e → Explains (shadow t l u) e
 shadow_fails t l u a b e first second fails =
     subst (λ (x : ℤ). Explains (shadow_by l u x (neg_ℤ (at t l))) e) first
-    (subst (λ (x : ℤ). Explains (shadow_by l u a x) e) second (fails_first (combined l a u b Le) (behind_sum a b) e fails))
+    (subst (λ (x : ℤ). Explains (shadow_by l u a x) e) second (explains_then (combined l a u b Le) (behind_sum a b) e fails))
 
 -- the shadow, by the product
 pub shadow_is : (t : ℕ) (l u h : Linear ℕ) (a b : ℤ) → a ≡ at t u → b ≡ neg_ℤ (at t l) → combined l a u b Le ≡ Fits h →
@@ -126,7 +106,7 @@ pub product_fails : (t : ℕ) (l u h : Linear ℕ) (a b x z : ℤ) (e : NumError
     z ≡ b -ℤ pos 1 → combined l a u b Le ≡ Fits h → Explains (computed Mul x z) e → Explains (shadow t l u) e
 product_fails t l u h a b x z e first second third fourth is fails =
     subst (λ (o : Outcome (Linear ℕ)). Explains o e) (sym (shadow_is t l u h a b first second is))
-    (fails_first (computed Mul (a -ℤ pos 1) (b -ℤ pos 1)) (behind_product h) e
+    (explains_then (computed Mul (a -ℤ pos 1) (b -ℤ pos 1)) (behind_product h) e
     (subst (λ (n : ℤ). Explains (computed Mul n (b -ℤ pos 1)) e) third
     (subst (λ (n : ℤ). Explains (computed Mul x n) e) fourth fails)))
 

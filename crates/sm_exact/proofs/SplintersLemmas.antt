@@ -1,22 +1,19 @@
 -- The stack with a frame more, and the splinters of bounds one after the other.
-use Rattle.std.proofs.Common.{◌≡◌, ◌<◌, ◌≤◌, ◌+◌, ◌^◌, ℕ, suc, ℤ, pos, negsuc, neg_ℤ, nat_abs, int_lt, IsTrue, Bool, true, false}
-use Rattle.std.proofs.Common.{if◌then◌else◌, None, List, [], ◌∷◌, ◌++◌}
-use Rattle.std.proofs.Common.{length, get_or, drop, refl, sym, ap, subst, ◌∙◌, arith, ltb-true, drop-cons, drop_of_length-le, add-one}
-use Rattle.std.proofs.Common.{le_refl}
+use Rattle.std.proofs.Common.{◌≡◌, ◌<◌, ◌≤◌, ◌+◌, ◌^◌, ℕ, suc, ℤ, pos, negsuc, neg_ℤ, nat_abs, int_lt, Bool, true, false, if◌then◌else◌, None, List, [], ◌∷◌, ◌++◌, length, get_or, drop, refl, sym, ap, subst, ◌∙◌, arith, ltb-true, drop-cons}
+use Rattle.std.proofs.Common.{drop_of_length-le, add-one, le_refl}
 use Rattle.std.specs.Int.{w128}
 use mir.Val.{SFits}
-use Rattle.sm_num.specs.declared.error.NumError.{NumError}
 use Rattle.sm_num.specs.declared.error.NumError.TheVariants as error
 use Rattle.sm_num.specs.Errors.{Explains, Returns}
+use Rattle.sm_num.specs.declared.error.NumError.{NumError}
 use Rattle.std.specs.Prelude.{Result, IfOk}
 use Rattle.std.specs.declared.alloc.AllocError.{AllocError}
 use Rattle.std.proofs.lemmas.Result.{IfOk-weaker}
 use Rattle.std.proofs.lemmas.List.{get_or_default}
 use Rattle.sm_num.specs.Forms.{Linear}
-use Rattle.sm_num.specs.declared.op.Op.TheVariants.{Mul, Sub}
-use Rattle.sm_num.specs.Range.{fits_form}
 use Rattle.sm_num.specs.Eliminating.{floor_of}
 use Rattle.sm_num.specs.Combining.{Outcome, Fits, then_with, computed}
+use Rattle.sm_num.specs.declared.op.Op.TheVariants.{Mul, Sub}
 use Rattle.sm_omega.specs.Counting.{Done, Passed, Item, Count, go_on, with_result, entered}
 use Rattle.sm_omega.specs.Solving.{at, bounds_below, lower_bounds, upper_bounds}
 use Rattle.sm_omega.specs.Rules.{Answer, or_refuted, or_else}
@@ -24,15 +21,14 @@ use Rattle.sm_omega.specs.Inequalities.{greatest_at, numbers_to, splinters_at, s
 use Rattle.sm_omega.specs.Exact.{solved_within}
 use Rattle.sm_exact.specs.declared.entry.Entry.{Entry}
 use Rattle.sm_exact.specs.declared.entry.Entry.TheVariants as entry
-use Rattle.sm_exact.specs.declared.frame.Frame.{Frame}
-use Rattle.sm_exact.specs.declared.frame.Frame.TheVariants.{Splinters}
 use Rattle.sm_exact.specs.declared.frame.Tried.{Tried}
 use Rattle.sm_exact.specs.Entries.{shown, before, going, TellsError}
-use Rattle.sm_exact.specs.Stack.{Awaits, Stands, answer_of, splinters_from, splinters_left}
+use Rattle.sm_exact.specs.Stack.{Awaits, Stands, answer_of, splinters_from, splinters_left, Frame, Splinters}
 use Rattle.sm_exact.proofs.EntryLemmas.{standing_before, going_ends}
 use Rattle.sm_exact.proofs.StackLemmas.{awaits_more}
 use Rattle.sm_exact.proofs.BoundsLemmas.{splinters_by}
-use Rattle.sm_exact.proofs.ShadowsLemmas.{count_passes, SumEnters, sum_enters, fails_first, goes_first}
+use Rattle.sm_exact.proofs.ShadowsLemmas.{count_passes, SumEnters, sum_enters, goes_first}
+use Rattle.sm_num.proofs.Merges.{explains_then}
 
 -- there is no lower bound from a place on
 pub none_left : (limit depth s t : ℕ) (fs : List (Linear ℕ)) (from place c : ℕ) →
@@ -172,14 +168,14 @@ after_product m b x = then_with (computed Sub x m) (after_difference m b)
 
 -- how many splinters there are: an operation leaves the range
 pub count_fails_first : (m b : ℤ) (e : NumError) → Explains (computed Mul m b) e → Explains (splinters_at m b) e
-count_fails_first m b e fails = fails_first (computed Mul m b) (after_product m b) e fails
+count_fails_first m b e fails = explains_then (computed Mul m b) (after_product m b) e fails
 
 pub count_fails_second : (m b x x_passed : ℤ) (e : NumError) → computed Mul m b ≡ Fits x → x_passed ≡ x →
     Explains (computed Sub x_passed m) e →
     Explains (splinters_at m b) e
 count_fails_second m b x x_passed e first same fails =
     subst (λ (o : Outcome ℕ). Explains o e) (sym (goes_first (computed Mul m b) (after_product m b) x first))
-    (fails_first (computed Sub x m) (after_difference m b) e (subst (λ (n : ℤ). Explains (computed Sub n m) e) same fails))
+    (explains_then (computed Sub x m) (after_difference m b) e (subst (λ (n : ℤ). Explains (computed Sub n m) e) same fails))
 
 pub count_fails_third : (m b x x_passed y y_passed : ℤ) (e : NumError) → computed Mul m b ≡ Fits x → x_passed ≡ x →
     computed Sub x_passed m ≡ Fits y →
@@ -188,7 +184,7 @@ count_fails_third m b x x_passed y y_passed e first same second alike fails =
     subst (λ (o : Outcome ℕ). Explains o e)
     (sym (goes_first (computed Mul m b) (after_product m b) x first
     ∙ goes_first (computed Sub x m) (after_difference m b) y (ap (λ (n : ℤ). computed Sub n m) (sym same) ∙ second)))
-    (fails_first (computed Sub y b) (λ (z : ℤ). Fits (numbers_to (floor_of z (nat_abs m)))) e
+    (explains_then (computed Sub y b) (λ (z : ℤ). Fits (numbers_to (floor_of z (nat_abs m)))) e
     (subst (λ (n : ℤ). Explains (computed Sub n b) e) alike fails))
 
 -- none does
@@ -216,11 +212,6 @@ numbers_above (negsuc n) above = absurd cc
 pub few_above : (z : ℤ) → int_lt z (pos 0) ≡ false → SFits w128 z → nat_abs z + 1 ≤ 2 ^ 127
 few_above (pos n) above fits = let less : n < 2 ^ 127 = fits.sfits in omega arith
 few_above (negsuc n) above fits = absurd cc
-
--- the size of a number in the range
-pub size_fits : (z : ℤ) → IsTrue (fits_form z) → nat_abs z < 2 ^ 127
-size_fits (pos n) fits = ltb-true n (2 ^ 127) fits
-size_fits (negsuc n) fits = ltb-true (suc n) (2 ^ 127) fits
 
 -- a form that isn't a lower bound is skipped
 pub skips_one : (t place : ℕ) (fs : List (Linear ℕ)) (f : Linear ℕ) → place < length fs → f ≡ get_or fs place f →

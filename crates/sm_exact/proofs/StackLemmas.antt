@@ -3,9 +3,7 @@ use Rattle.std.proofs.Common.{◌≡◌, ℕ, ℤ, pos, Option, Some, None, List
 use Rattle.sm_num.specs.declared.op.Op.{Op}
 use Rattle.sm_omega.specs.Counting.{Decision, Done, Passed, Outside, Shallow}
 use Rattle.sm_omega.specs.Rules.{Answer}
-use Rattle.sm_exact.specs.declared.frame.Frame.{Frame}
-use Rattle.sm_exact.specs.declared.frame.Frame.TheVariants.{Equation, Bounds, Dark, Splinters}
-use Rattle.sm_exact.specs.Stack.{told, Awaits}
+use Rattle.sm_exact.specs.Stack.{told, Awaits, Frame, Equation, Bounds, Dark, Splinters}
 
 -- a frame more
 pub awaits_more : (limit depth : ℕ) (fs : List Frame) (f : Frame) (a whole : Answer) → Awaits limit fs (told limit depth f a) whole →

@@ -1,6 +1,5 @@
 -- What comes of a turn: one rule, or one step back.
-use Rattle.std.proofs.Common.{◌≡◌, ◌++◌, ◌<◌, ◌≤◌, ◌-◌, ℕ, zero, suc, ℤ, Option, Some, None, List, [], ◌∷◌, refl, sym, ap, subst, ◌∙◌}
-use Rattle.std.proofs.Common.{Vec, Global, Result, Ok, Err, length, get_or, drop, arith}
+use Rattle.std.proofs.Common.{◌≡◌, ◌++◌, ◌<◌, ◌≤◌, ◌-◌, ℕ, zero, suc, ℤ, Option, Some, None, List, [], ◌∷◌, refl, sym, ap, subst, ◌∙◌, Vec, Global, Result, Ok, Err, length, get_or, drop, arith}
 use Rattle.std.specs.Result.{IfOk}
 use Rattle.std.proofs.Math.Seq.{drop-cons}
 use Rattle.std.proofs.Math.ListN.{drop_of_length-le}
@@ -13,9 +12,8 @@ use Rattle.sm_omega.specs.ExactLaws.{AllKept}
 use Rattle.sm_exact.specs.declared.deciding.Turned.{Turned}
 use Rattle.sm_exact.specs.declared.entry.Entry.{Entry}
 use Rattle.sm_exact.specs.declared.entry.Entry.TheVariants as entry
-use Rattle.sm_exact.specs.declared.frame.Frame.{Frame}
 use Rattle.sm_exact.specs.declared.step.Step.{Step}
-use Rattle.sm_exact.specs.Stack.{told, answer_of, all_zero, Awaits, Stands, StepsByRule}
+use Rattle.sm_exact.specs.Stack.{told, answer_of, all_zero, Awaits, Stands, StepsByRule, Frame}
 use Rattle.sm_exact.specs.Valued.{Turns}
 use Rattle.sm_exact.proofs.StackLemmas.{awaits_more, awaits_less, awaits_same, awaits_along, awaits_shallow, awaits_passed, awaits_outside}
 

@@ -1,11 +1,10 @@
 -- The best of bounds, from a place on.
-use Rattle.std.proofs.Common.{◌≡◌, ◌+◌, ◌<◌, ◌≤◌, ℕ, suc, ℤ, pos, unwrap_or, Bool, true, false, if◌then◌else◌}
-use Rattle.std.proofs.Common.{Option, Some, None, List, [], ◌∷◌, filter, length, get_or, drop, refl, sym, ap, subst, ◌∙◌, add-one}
+use Rattle.std.proofs.Common.{◌≡◌, ◌+◌, ◌<◌, ◌≤◌, ℕ, suc, ℤ, pos, unwrap_or, Bool, true, false, if◌then◌else◌, Option, Some, None, List, [], ◌∷◌, filter, length, get_or, drop, refl, sym, ap, subst, ◌∙◌, add-one}
 use Rattle.std.proofs.Math.Seq.{drop-cons}
 use Rattle.std.proofs.Math.ListN.{drop_of_length-le}
-use Rattle.sm_num.specs.declared.error.NumError.{NumError}
 use Rattle.sm_num.specs.declared.error.NumError.TheVariants as error
 use Rattle.sm_num.specs.Errors.{Explains}
+use Rattle.sm_num.specs.declared.error.NumError.{NumError}
 use Rattle.sm_num.specs.Forms.{Linear}
 use Rattle.sm_num.specs.Combining.{Outcome, Fits, Leaves, then_with}
 use Rattle.sm_omega.specs.Solving.{Values, at, rest_of, bound_from, bounds_of, greatest, greatest_of, least, least_of}
@@ -13,6 +12,7 @@ use Rattle.sm_exact.specs.declared.frame.Side.{Side}
 use Rattle.sm_exact.specs.declared.frame.Side.TheVariants.{Below, Above}
 use Rattle.sm_exact.specs.Stack.{side_bound}
 use Rattle.sm_exact.specs.Valued.{bound_at, is_from, better}
+use Rattle.sm_num.proofs.AlikeLemmas.{same_number}
 
 -- the best of numbers and of one that may be missing
 abbrev pub best_of : Side → Option ℤ → List ℤ → ℤ
@@ -31,9 +31,6 @@ best_more Above None z zs = refl
 best_more Below (Some y) z zs = refl
 best_more Above (Some y) z zs = refl
 
-fits_one : (y z : ℤ) → Fits y ≡ Fits z → y ≡ z
-fits_one y z same = cc
-
 -- a form more that bounds the variable from the side
 bound_more : (side : Side) (t : ℕ) (v : Values) (best : Option ℤ) (f : Linear ℕ) (fs : List (Linear ℕ)) (z : ℤ) → is_from side t f ≡ true →
     bound_at t v f ≡ Fits z → bound_behind side t v best (f ∷ fs) ≡ bound_behind side t v (Some (better side best z)) fs
@@ -49,7 +46,7 @@ bound_more side t v best f fs z from fits =
         (λ (zs : List ℤ). Fits (best_of side best zs))
         ≡ then_with os (λ (zs : List ℤ). Fits (best_of side (Some (better side best z)) zs))
     by (Fits x) (Fits zs) e =
-        ap (λ (y : ℤ). Fits (best_of side best (y ∷ zs))) (fits_one (bound_from (at t f) x) z e) ∙ ap Fits (best_more side best z zs)
+        ap (λ (y : ℤ). Fits (best_of side best (y ∷ zs))) (same_number (bound_from (at t f) x) z e) ∙ ap Fits (best_more side best z zs)
     by (Fits x) (Leaves op y w) e = refl
     by (Leaves op y w) os e = absurd cc
 

@@ -1,6 +1,5 @@
 -- Cited by public clauses: what an answer says of whole numbers, and of a branch.
-use Rattle.std.specs.Prelude.{◌≡◌, ◌<◌, ◌≤◌, ◌==◌, ◌⊎◌, ◌↔◌, ℕ, ℤ, pos, if◌then◌else◌}
-use Rattle.std.specs.Prelude.{Some, List, [], ◌∷◌, map}
+use Rattle.std.specs.Prelude.{◌≡◌, ◌<◌, ◌≤◌, ◌==◌, ◌⊎◌, ◌↔◌, ℕ, ℤ, pos, if◌then◌else◌, Some, List, [], ◌∷◌, map}
 use Rattle.sm_num.specs.Forms.{Linear}
 use Rattle.sm_omega.specs.Solving.{Values}
 use Rattle.sm_omega.specs.ExactLaws.{AllHold}

@@ -1,18 +1,15 @@
 -- Private: what is found in lists of forms, and how they are split.
-use Rattle.std.specs.Prelude.{◌≡◌, ◌<◌, ℕ, ℤ, IsTrue, true, false, Option, Some, None, List, []}
-use Rattle.std.specs.Prelude.{◌∷◌, ◌++◌}
-use Rattle.std.specs.Prelude.{length, get_or, drop}
+use Rattle.std.specs.Prelude.{◌≡◌, ◌<◌, ℕ, ℤ, IsTrue, true, false, Option, Some, None, List, [], ◌∷◌, ◌++◌, length, get_or, drop}
 use Rattle.std.specs.List.{remove}
-use Rattle.sm_num.specs.declared.kind.Kind.TheVariants.{Eq}
 use Rattle.sm_num.specs.Range.{fits_form}
 use Rattle.sm_num.specs.Forms.{Linear}
+use Rattle.sm_num.specs.declared.kind.Kind.TheVariants.{Eq}
 use Rattle.sm_num.specs.Tightening.{has_no_part}
 use Rattle.sm_omega.specs.Counting.{Done}
 use Rattle.sm_omega.specs.Solving.{at, has, lower_bounds, upper_bounds, others}
 use Rattle.sm_omega.specs.Rules.{Answer}
 use Rattle.sm_omega.specs.Equalities.{first_equation, beside, least_part}
-use Rattle.sm_omega.specs.Inequalities.{greatest_at}
-use Rattle.sm_omega.specs.Inequalities.{by_all_splinters}
+use Rattle.sm_omega.specs.Inequalities.{greatest_at, by_all_splinters}
 use Rattle.sm_exact.specs.declared.splitting.Sides.{Sides}
 
 -- the first equation with parts stands at a place

@@ -6,15 +6,13 @@ use Rattle.sm_omega.specs.Counting.{Done, go_on}
 use Rattle.sm_omega.specs.Solving.{Values, lower_bounds, upper_bounds}
 use Rattle.sm_omega.specs.Rules.{Answer, or_refuted, giving, or_else}
 use Rattle.sm_omega.specs.Equalities.{value_by}
-use Rattle.sm_omega.specs.Inequalities.{greatest_bound}
-use Rattle.sm_omega.specs.Inequalities.{least_bound, greatest_at, by_splinters, by_all_splinters}
-use Rattle.sm_omega.specs.Inequalities.{by_variable}
+use Rattle.sm_omega.specs.Inequalities.{greatest_bound, least_bound, greatest_at, by_splinters, by_all_splinters, by_variable}
 use Rattle.sm_omega.specs.Exact.{solved_within, by_rule}
 use Rattle.sm_exact.specs.declared.entry.Entry.{Entry}
 use Rattle.sm_exact.specs.declared.frame.Side.{Side}
 use Rattle.sm_exact.specs.declared.frame.Side.TheVariants.{Below, Above}
-use Rattle.sm_exact.specs.declared.frame.Frame.{Frame}
-use Rattle.sm_exact.specs.declared.frame.Frame.TheVariants.{Equation, Bounds, Dark, Splinters}
+pub use Rattle.sm_exact.specs.declared.frame.Frame.{Frame}
+pub use Rattle.sm_exact.specs.declared.frame.Frame.TheVariants.{Bounds, Dark, Equation, Splinters}
 use Rattle.sm_exact.specs.declared.frame.Tried.{Tried}
 use Rattle.sm_exact.specs.declared.step.Step.{Step}
 use Rattle.sm_exact.specs.Entries.{shown}

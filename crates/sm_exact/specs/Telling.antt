@@ -1,6 +1,5 @@
 -- Cited by public clauses: what an answer tells of the decision.
-use Rattle.std.specs.Prelude.{◌≡◌, ◌==◌, nat_lt, ℕ, ℤ, if◌then◌else◌, Some, None}
-use Rattle.std.specs.Prelude.{List, [], ◌∷◌, map}
+use Rattle.std.specs.Prelude.{◌≡◌, ◌==◌, nat_lt, ℕ, ℤ, if◌then◌else◌, Some, None, List, [], ◌∷◌, map}
 use Rattle.sm_num.specs.Forms.{Linear}
 use Rattle.sm_omega.specs.Counting.{Done, Passed, Outside}
 use Rattle.sm_omega.specs.Solving.{Values}

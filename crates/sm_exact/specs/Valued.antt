@@ -1,22 +1,20 @@
 -- Private: values that are found by their variable, and what comes of a turn.
-use Rattle.std.specs.Prelude.{◌≡◌, ℕ, ℤ, pos, int_lt, Bool, if◌then◌else◌}
-use Rattle.std.specs.Prelude.{Option, Some, None, unwrap_or, List}
+use Rattle.std.specs.Prelude.{◌≡◌, ℕ, ℤ, pos, int_lt, Bool, if◌then◌else◌, Option, Some, None, unwrap_or, List}
 use Rattle.sm_num.specs.declared.error.NumError.{NumError}
 use Rattle.sm_num.specs.declared.error.NumError.TheVariants as error
-use Rattle.sm_num.specs.declared.op.Op.TheVariants.{Add, Mul}
 use Rattle.sm_num.specs.Forms.{Linear}
 use Rattle.sm_num.specs.Combining.{Outcome, Fits, then_with, computed}
+use Rattle.sm_num.specs.declared.op.Op.TheVariants.{Add, Mul}
 use Rattle.sm_omega.specs.Counting.{Done, Outside}
 use Rattle.sm_omega.specs.Solving.{Values, at, rest_of, bound_from, bounds_below, bounds_above}
 use Rattle.sm_omega.specs.Rules.{Answer}
 use Rattle.sm_exact.specs.declared.answer.ExactAnswer.{ExactAnswer}
 use Rattle.sm_exact.specs.declared.answer.ExactAnswer.TheVariants as answers
-use Rattle.sm_exact.specs.declared.frame.Frame.{Frame}
 use Rattle.sm_exact.specs.declared.deciding.Turned.{Turned}
 use Rattle.sm_exact.specs.declared.deciding.Turned.TheVariants.{Next, Solved, Ends}
 use Rattle.sm_exact.specs.declared.frame.Side.{Side}
 use Rattle.sm_exact.specs.declared.frame.Side.TheVariants.{Below, Above}
-use Rattle.sm_exact.specs.Stack.{Awaits, Stands, told, all_zero}
+use Rattle.sm_exact.specs.Stack.{Awaits, Stands, told, all_zero, Frame}
 use Rattle.sm_exact.specs.Telling.{TellsExact}
 
 -- the values that are found, 0 where none is

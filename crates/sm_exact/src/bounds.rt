@@ -1,6 +1,5 @@
 // The rules of bounds.
-ghost use Rattle.std.specs.Prelude.{◌≡◌, ◌≤ℤ◌, ℕ, negsuc, int_lt, false, IsTrue, IfOk};
-ghost use Rattle.std.specs.Prelude.{if◌then◌else◌};
+ghost use Rattle.std.specs.Prelude.{◌≡◌, ◌≤ℤ◌, ℕ, negsuc, int_lt, false, IsTrue, IfOk, if◌then◌else◌};
 ghost use Rattle.std.specs.List.{All};
 ghost use Rattle.sm_num.specs.Range.{fits_form};
 ghost use Rattle.sm_omega.specs.Solving.{least_variable, lesser_first, at, upper_bounds};

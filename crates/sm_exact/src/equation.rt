@@ -1,14 +1,12 @@
 // The rule of equations.
-ghost use Rattle.std.specs.Prelude.{◌≡◌, ◌≢◌, ◌<◌, ◌≤◌, ◌&&◌, ℕ, not, true, None, [], ◌∷◌, List};
-ghost use Rattle.std.specs.Prelude.{length, map, nat_abs, nat_lt, pos, if◌then◌else◌, IsTrue, IfOk};
+ghost use Rattle.std.specs.Prelude.{◌≡◌, ◌≢◌, ◌<◌, ◌≤◌, ◌&&◌, ℕ, not, true, None, [], ◌∷◌, List, length, map, nat_abs, nat_lt, pos, if◌then◌else◌, IsTrue, IfOk};
 ghost use Rattle.sm_num.specs.declared.kind.Kind.TheVariants.{Eq};
 ghost use Rattle.sm_num.specs.Combining.{combined};
 ghost use Rattle.sm_num.specs.Eliminating.{is_equation, eliminated};
 ghost use Rattle.sm_num.specs.Tightening.{has_no_part};
 ghost use Rattle.sm_omega.specs.Counting.{Item, Count, entered};
 ghost use Rattle.sm_omega.specs.Solving.{at, has};
-ghost use Rattle.sm_omega.specs.Equalities.{first_equation, least_part, eliminated_item};
-ghost use Rattle.sm_omega.specs.Equalities.{modular_item};
+ghost use Rattle.sm_omega.specs.Equalities.{first_equation, least_part, eliminated_item, modular_item};
 ghost use Rattle.sm_exact.specs.Entries.{shown, before, going};
 ghost use Rattle.sm_exact.specs.Rows.{Finds, IsPartAt};
 ghost use Rattle.sm_exact.specs.Stack.{StepsByRule};

@@ -1,6 +1,5 @@
 // The equation of the modular step.
-ghost use Rattle.std.specs.Prelude.{◌≡◌, ◌==◌, ◌++◌, true, negsuc, neg_ℤ, []};
-ghost use Rattle.std.specs.Prelude.{if◌then◌else◌, IsTrue, IfOk, Ok};
+ghost use Rattle.std.specs.Prelude.{◌≡◌, ◌==◌, ◌++◌, true, negsuc, neg_ℤ, [], if◌then◌else◌, IsTrue, IfOk, Ok};
 ghost use Rattle.sm_num.specs.declared.kind.Kind.TheVariants.{Eq};
 ghost use Rattle.sm_num.specs.Range.{fits_form};
 ghost use Rattle.sm_num.specs.Combining.{with_part};

@@ -1,13 +1,11 @@
 // Forms over the places of their atoms.
-ghost use Rattle.std.specs.Prelude.{◌≡◌, true, false, pos, [], ◌∷◌, ◌++◌, List, IsTrue, IfOk};
-ghost use Rattle.std.specs.Prelude.{nat_eq, IfSome, IfNone, OnOk};
+ghost use Rattle.std.specs.Prelude.{◌≡◌, true, false, pos, [], ◌∷◌, ◌++◌, List, IsTrue, IfOk, nat_eq, IfSome, IfNone, OnOk};
 ghost use Rattle.sm_num.specs.Range.{fits_form};
 ghost use Rattle.sm_num.specs.declared.kind.Kind.TheVariants.{Eq};
 ghost use Rattle.sm_num.specs.Combining.{combined, Fits};
 ghost use Rattle.sm_theory.specs.declared.fact.Fact.{Fact};
 ghost use Rattle.sm_theory.specs.LinearTerms.{atom_form, constant_form};
-ghost use Rattle.sm_exact.specs.Placing.{IsAt, HasNoPlace, HavePlaces, IsPlacedIf};
-ghost use Rattle.sm_exact.specs.Placing.{ArePlacedForms, SomeLacksPlace, FactLacksPlace};
+ghost use Rattle.sm_exact.specs.Placing.{IsAt, HasNoPlace, HavePlaces, IsPlacedIf, ArePlacedForms, SomeLacksPlace, FactLacksPlace};
 
 use sm_num::{Kind, LinForm, combine};
 use sm_numbering::Numbering;

@@ -1,6 +1,5 @@
 // Splinters of lower bounds.
-ghost use Rattle.std.specs.Prelude.{◌≡◌, ◌≤◌, ◌<◌, ◌^◌, ℕ, drop, length, get_or};
-ghost use Rattle.std.specs.Prelude.{pos, [], ◌∷◌, ◌++◌, true, IsTrue, IfOk};
+ghost use Rattle.std.specs.Prelude.{◌≡◌, ◌≤◌, ◌<◌, ◌^◌, ℕ, drop, length, get_or, pos, [], ◌∷◌, ◌++◌, true, IsTrue, IfOk};
 ghost use Rattle.sm_num.specs.Range.{fits_form};
 ghost use Rattle.sm_num.specs.Errors.{Returns};
 ghost use Rattle.sm_num.specs.Forms.{Linear};

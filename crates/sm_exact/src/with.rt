@@ -5,8 +5,7 @@ ghost use Rattle.sm_theory.specs.Facts.{BranchFact};
 ghost use Rattle.sm_theory.specs.ExactLine.{with_exact};
 ghost use Rattle.sm_theory.specs.SortedFacts.{AreFactsSorted};
 ghost use Rattle.sm_theory.specs.Views.{line_in, IsLineWithin, AllStand, StandsIf};
-ghost use Rattle.sm_theory.proofs.ExactLineSound.{with_exact_holds, with_exact_sorted};
-ghost use Rattle.sm_theory.proofs.ExactLineSound.{with_exact_below, with_exact_anywhere};
+ghost use Rattle.sm_theory.proofs.ExactLineSound.{with_exact_holds, with_exact_sorted, with_exact_below, with_exact_anywhere};
 
 use crate::line::check_exact;
 use sm_term::TermTable;

@@ -1,20 +1,18 @@
 -- Formulas put behind formulas, obligations behind obligations, and states behind what waits.
-use Rattle.std.proofs.Common.{◌≡◌, ℕ, zero, suc, ◌+◌, ◌<◌, List, [], ◌∷◌, ◌++◌, length, reverse, take, get_or, sym, ap, ◌∙◌, subst, arith}
-use Rattle.std.proofs.Common.{append_assoc}
-use Rattle.std.proofs.lemmas.List.{map_more, map-append, take-map, reverse-append, length-append}
+use Rattle.std.proofs.Common.{◌≡◌, ℕ, zero, suc, ◌+◌, ◌<◌, List, [], ◌∷◌, ◌++◌, length, reverse, take, get_or, sym, ap, ◌∙◌, subst, arith, append_assoc}
+use Rattle.std.proofs.lemmas.List.{map_more, map-append, take-map, reverse-append}
 use Rattle.sm_syntax.specs.text.Sorts.{Sorts}
-use Rattle.sm_term.specs.declared.formula.Formula.{Formula}
 use Rattle.sm_term.specs.Assertions.{Assertion}
 use Rattle.sm_term.specs.Formulas.{NumberedFormula, numbered, assertion_in, IsFormulaWithin}
+use Rattle.sm_term.specs.declared.formula.Formula.{Formula}
 use Rattle.sm_term.specs.Sorted.{IsFormSorted}
 use Rattle.sm_term.specs.Terms.{Tree}
-use Rattle.sm_plan.specs.declared.opening.Successor.{Successor}
 use Rattle.sm_plan.specs.ReadyStates.{IsFormReady, AreFormsReady}
+use Rattle.sm_plan.specs.declared.opening.Successor.{Successor}
 use Rattle.sm_plan.specs.Views.{forms_in}
 use Rattle.sm_expand.specs.declared.cursor.Cursor.{Cursor}
-use Rattle.sm_expand.specs.declared.due.Due.{Due}
 use Rattle.sm_expand.specs.declared.walk.Waiting.{Waiting}
-use Rattle.sm_expand.specs.Views.{AreDuesReady}
+use Rattle.sm_expand.specs.Views.{AreDuesReady, Due}
 use Rattle.sm_expand.specs.Walks.{waits_with}
 
 module _ (sorts : Sorts) (trees : List Tree) where
@@ -83,11 +81,3 @@ state_put shared all left fewer next plans some less c old new rest w is which p
   ap reverse put ∙ reverse-append old (w ∷ []) ∙ ap (λ (ws : List Waiting). w ∷ ws) h.5
       ∙ ap (λ (ws : List Waiting). ws ++ (waits_with shared h.0 h.1 ++ rest)) one,
 )
-
--- the lists that are left have one length
-pub fewer_left : (left fewer : List Successor) (next : Successor) (some less : List Cursor) (c : Cursor) → left ≡ fewer ++ next ∷ [] →
-    some ≡ less ++ c ∷ [] → length left ≡ length some → length fewer ≡ length less
-fewer_left left fewer next some less c is which h =
-    let a = ap length is ∙ length-append fewer (next ∷ []) in
-    let b = ap length which ∙ length-append less (c ∷ []) in
-    omega arith

@@ -8,10 +8,8 @@ use Rattle.sm_plan.specs.Nodes.{Node, opened_by, rule_of}
 use Rattle.sm_plan.specs.Plans as plain
 use Rattle.sm_plan.specs.Plans.{Wrong, count, expand}
 use Rattle.sm_plan.specs.States.{State}
-use Rattle.sm_expand.specs.declared.cursor.Cursor.{Cursor}
-use Rattle.sm_expand.specs.NumberedPlans.{NumberedPlan, At, node_over, plan_over, plans_over, head, below, list_of}
-use Rattle.sm_expand.specs.NumberedPlans.{IsKeepReady, IsPlanReady}
-use Rattle.sm_expand.specs.Cursors.{numbered_at}
+use Rattle.sm_expand.specs.NumberedPlans.{NumberedPlan, At, node_over, plan_over, plans_over, head, below, list_of, IsKeepReady, IsPlanReady}
+use Rattle.sm_expand.specs.Cursors.{numbered_at, Cursor}
 use Rattle.sm_expand.proofs.PairsLemmas.{plan_is, counted, closed_fails, unfitting_fails}
 
 -- the first node's formula is ready

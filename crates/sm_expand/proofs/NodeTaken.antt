@@ -1,6 +1,5 @@
 -- A node taken for the state that waits first.
-use Rattle.std.proofs.Common.{◌≡◌, ℕ, suc, ◌+◌, ◌≤◌, ◌<◌, ◌&&◌, Bool, Result, Ok, Err, List, [], ◌∷◌, ◌++◌, length, map, take}
-use Rattle.std.proofs.Common.{sym, ap, ◌∙◌, subst, arith}
+use Rattle.std.proofs.Common.{◌≡◌, ℕ, suc, ◌+◌, ◌≤◌, ◌<◌, ◌&&◌, Bool, Result, Ok, Err, List, [], ◌∷◌, ◌++◌, length, map, take, sym, ap, ◌∙◌, subst, arith}
 use Rattle.std.proofs.lemmas.List.{length-append, length-map, length-take-le, map-append, take_all, take-append-le, take-take}
 use Rattle.std.specs.Prelude.{Vec, IfErr, IsErrAnd}
 use Rattle.std.specs.declared.alloc.Global.{Global}
@@ -10,28 +9,23 @@ use Rattle.sm_term.specs.Assertions.{Assertion}
 use Rattle.sm_term.specs.Tables.{TableValue, trees_in, sorts_in}
 use Rattle.sm_term.specs.TableLaws.{ExtendsTable}
 use Rattle.sm_term.specs.Terms.{Tree}
-use Rattle.sm_plan.specs.declared.opening.Opened.{Opened}
-use Rattle.sm_plan.specs.declared.opening.Successor.{Successor}
 use Rattle.sm_plan.specs.Nodes.{rule_of, is_end}
 use Rattle.sm_plan.specs.Plans as plain
 use Rattle.sm_plan.specs.Plans.{Fault, Wrong, joined, due, count, size, sizes, expand, expand_all}
 use Rattle.sm_plan.specs.ReadyStates.{AreFormsReady, AreSuccessorsReady}
+use Rattle.sm_plan.specs.declared.opening.Successor.{Successor}
 use Rattle.sm_plan.specs.States.{State}
 use Rattle.sm_plan.specs.Views.{forms_in, state_in, successor_in, opened_in}
+use Rattle.sm_plan.specs.declared.opening.Opened.{Opened}
 use Rattle.sm_plan.proofs.TablesWiden as widened
-use Rattle.sm_expand.specs.declared.cursor.Cursor.{Cursor}
-use Rattle.sm_expand.specs.declared.due.Due.{Due}
 use Rattle.sm_expand.specs.declared.fault.PlanFault.{PlanFault}
 use Rattle.sm_expand.specs.declared.fault.PlanFault.TheVariants as fault
 use Rattle.sm_expand.specs.declared.walk.Waiting.{Waiting}
-use Rattle.sm_expand.specs.NumberedPlans.{NumberedPlan, At, NumberedPlans, Over, More, node_over, plan_over, plans_over, head, below}
-use Rattle.sm_expand.specs.NumberedPlans.{list_of}
-use Rattle.sm_expand.specs.NumberedPlans.{IsPlanReady, ArePlansReady}
-use Rattle.sm_expand.specs.Cursors.{numbered_at}
-use Rattle.sm_expand.specs.Views.{dues_in, AreDuesReady, FaultTells}
+use Rattle.sm_expand.specs.NumberedPlans.{NumberedPlan, At, NumberedPlans, Over, More, node_over, plan_over, plans_over, head, below, list_of, IsPlanReady, ArePlansReady}
+use Rattle.sm_expand.specs.Cursors.{numbered_at, Cursor}
+use Rattle.sm_expand.specs.Views.{dues_in, AreDuesReady, FaultTells, Due}
 use Rattle.sm_expand.specs.Opens.{OpensAs}
-use Rattle.sm_expand.specs.Walks.{asked, expand_pairs, facts_of, waits_as, waits_with, outcome, weight}
-use Rattle.sm_expand.specs.Walks.{AreNested, AreWaitingReady, IsReadyWith}
+use Rattle.sm_expand.specs.Walks.{asked, expand_pairs, facts_of, waits_as, waits_with, outcome, weight, AreNested, AreWaitingReady, IsReadyWith}
 use Rattle.sm_expand.proofs.PlansWiden.{plans_stay, plans_ready, dues_stay, all_stay, all_ready}
 use Rattle.sm_expand.proofs.PairsLemmas.{joined_assoc, plan_is, counted, due_asked, fitting_expands, all_follow, heavier, below_weighs}
 
@@ -39,7 +33,7 @@ use Rattle.sm_expand.proofs.PairsLemmas.{joined_assoc, plan_is, counted, due_ask
 abbrev pub IsPathOf : List Formula → Waiting → List Formula → Type 0
 IsPathOf path x more = (sorts : Sorts) (trees : List Tree) → forms_in sorts trees more ≡ facts_of sorts trees path x
 
-forms_long : (sorts : Sorts) (trees : List Tree) (fs : List Formula) → length (forms_in sorts trees fs) ≡ length fs
+pub forms_long : (sorts : Sorts) (trees : List Tree) (fs : List Formula) → length (forms_in sorts trees fs) ≡ length fs
 forms_long sorts trees fs = length-map fs _
 
 -- it has what the state shares

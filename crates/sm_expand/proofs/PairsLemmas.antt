@@ -1,6 +1,5 @@
 -- The obligations of a node at a state, and then of what waits.
-use Rattle.std.proofs.Common.{◌≡◌, ℕ, suc, ◌+◌, ◌==◌, ◌&&◌, Bool, if◌then◌else◌, Option, Some, None, Result, Ok, Err}
-use Rattle.std.proofs.Common.{List, [], ◌∷◌, ◌++◌, length, map, take, refl, sym, ap, ◌∙◌, arith, append_assoc}
+use Rattle.std.proofs.Common.{◌≡◌, ℕ, suc, ◌+◌, ◌==◌, ◌&&◌, Bool, if◌then◌else◌, Option, Some, None, Result, Ok, Err, List, [], ◌∷◌, ◌++◌, length, map, take, refl, sym, ap, ◌∙◌, arith, append_assoc}
 use Rattle.std.proofs.lemmas.Bool.{eq-eqb, ne_eqb}
 use Rattle.sm_syntax.specs.text.Sorts.{Sorts}
 use Rattle.sm_term.specs.declared.formula.Formula.{Formula}
@@ -13,11 +12,9 @@ use Rattle.sm_plan.specs.Plans as plain
 use Rattle.sm_plan.specs.Plans.{Due, Fault, Wrong, joined, opened, due, count, size, sizes, expand, expand_all}
 use Rattle.sm_plan.specs.States.{State}
 use Rattle.sm_plan.specs.Views.{forms_in, state_in, successor_in}
-use Rattle.sm_expand.specs.declared.cursor.Cursor.{Cursor}
 use Rattle.sm_expand.specs.declared.walk.Waiting.{Waiting}
-use Rattle.sm_expand.specs.NumberedPlans.{NumberedPlan, At, NumberedPlans, Over, More, node_over, plan_over, plans_over, head, below}
-use Rattle.sm_expand.specs.NumberedPlans.{list_of, plans_before}
-use Rattle.sm_expand.specs.Cursors.{numbered_at}
+use Rattle.sm_expand.specs.NumberedPlans.{NumberedPlan, At, NumberedPlans, Over, More, node_over, plan_over, plans_over, head, below, list_of, plans_before}
+use Rattle.sm_expand.specs.Cursors.{numbered_at, Cursor}
 use Rattle.sm_expand.specs.Walks.{asked, expand_pairs, waits_as, waits_with, size_of, sizes_of, weight}
 
 -- obligations of three

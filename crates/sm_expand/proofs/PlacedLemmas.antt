@@ -2,14 +2,11 @@
 use Rattle.std.proofs.Common.{◌≡◌, ℕ, suc, ◌+◌, ◌<◌, List, [], ◌∷◌, ◌++◌, length, map, reverse, sym, ap, ◌∙◌, subst, arith, append_assoc}
 use Rattle.std.proofs.lemmas.List.{length-append, reverse-append}
 use Rattle.sm_term.specs.Tables.{TableValue, trees_in, sorts_in}
-use Rattle.sm_plan.specs.declared.opening.Successor.{Successor}
 use Rattle.sm_plan.specs.ReadyStates.{AreSuccessorsReady}
-use Rattle.sm_expand.specs.declared.cursor.Cursor.{Cursor}
-use Rattle.sm_expand.specs.NumberedPlans.{NumberedPlan, At, NumberedPlans, Over, More, plan_over, plans_over, below, list_of}
-use Rattle.sm_expand.specs.NumberedPlans.{IsPlanReady, ArePlansReady}
-use Rattle.sm_expand.specs.Cursors.{numbered_at}
-use Rattle.sm_expand.specs.declared.placed.PlacedState.{PlacedState}
-use Rattle.sm_expand.specs.PlacedStates.{ArePlacedReady, weight, placed_with}
+use Rattle.sm_plan.specs.declared.opening.Successor.{Successor}
+use Rattle.sm_expand.specs.NumberedPlans.{NumberedPlan, At, NumberedPlans, Over, More, plan_over, plans_over, below, list_of, IsPlanReady, ArePlansReady}
+use Rattle.sm_expand.specs.Cursors.{numbered_at, Cursor}
+use Rattle.sm_expand.specs.PlacedStates.{ArePlacedReady, weight, placed_with, PlacedState}
 use Rattle.sm_expand.specs.Walks.{size_of, sizes_of}
 
 module _ (v : TableValue) where

@@ -3,17 +3,15 @@ use Rattle.std.proofs.Common.{◌≡◌, ◌==◌, ℕ, Some, None, if◌then◌
 use Rattle.std.specs.declared.alloc.Global.{Global}
 use Rattle.std.specs.Prelude.{Box}
 use Rattle.sm_syntax.specs.declared.tree.Name.{Name}
-use Rattle.sm_syntax.specs.declared.tree.Sort.{Sort}
 use Rattle.sm_syntax.specs.declared.tree.Sort.TheVariants as sort
 use Rattle.sm_syntax.specs.text.Parts.{sort_of}
 use Rattle.sm_syntax.specs.text.Sorts.{Sorts}
+use Rattle.sm_syntax.specs.declared.tree.Sort.{Sort}
 use Rattle.sm_term.specs.Terms.{Tree}
 use Rattle.sm_expand.specs.declared.plan.Last.TheVariants as last
-use Rattle.sm_expand.specs.declared.plan.Plan.{Plan}
-use Rattle.sm_expand.specs.declared.plan.Simple.{Simple}
 use Rattle.sm_expand.specs.declared.plan.Simple.TheVariants as simple
 use Rattle.sm_expand.specs.NumberedPlans.{NumberedPlan, IsKeepReady, IsPlanReady}
-use Rattle.sm_expand.specs.Views.{simple_node, straight_before, numbered_plan, numbered_last}
+use Rattle.sm_expand.specs.Views.{simple_node, straight_before, numbered_plan, numbered_last, Plan, Simple}
 use Rattle.sm_expand.proofs.PlanViews.{plan_is, last_end, last_fork}
 
 simple_ready : (sorts : Sorts) (trees : List Tree) (s : Simple) → IsKeepReady sorts trees (simple_node s)

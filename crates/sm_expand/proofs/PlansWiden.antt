@@ -1,9 +1,9 @@
 -- What waits, and what was asked, stay where the table has more behind.
 use Rattle.std.proofs.Common.{◌≡◌, ℕ, ◌≤◌, nat_le, if◌then◌else◌, List, [], ◌∷◌, ◌++◌, length, map, take, refl, sym, ap, ◌∙◌, subst, arith}
 use Rattle.sm_syntax.specs.text.Sorts.{Sorts}
-use Rattle.sm_term.specs.declared.formula.Formula.{Formula}
 use Rattle.sm_term.specs.Assertions.{Assertion}
 use Rattle.sm_term.specs.Formulas.{NumberedFormula, assertion_in, IsFormulaWithin}
+use Rattle.sm_term.specs.declared.formula.Formula.{Formula}
 use Rattle.sm_term.specs.Sorted.{IsFormSorted}
 use Rattle.sm_term.specs.Tables.{TableValue, trees_in, sorts_in}
 use Rattle.sm_term.specs.TableLaws.{ExtendsTable}
@@ -12,13 +12,10 @@ use Rattle.sm_plan.specs.Nodes as plain
 use Rattle.sm_plan.specs.Plans as tree
 use Rattle.sm_plan.specs.Views.{forms_in, state_in}
 use Rattle.sm_plan.proofs.TablesWiden as widened
-use Rattle.sm_expand.specs.declared.due.Due.{Due}
 use Rattle.sm_expand.specs.declared.walk.Waiting.{Waiting}
-use Rattle.sm_expand.specs.NumberedPlans.{NumberedNode, Step, Abs, Fork, Loop, Block, Dead, Ends}
-use Rattle.sm_expand.specs.NumberedPlans.{NumberedPlan, At, NumberedPlans, Over, More, node_over, plan_over, plans_over}
-use Rattle.sm_expand.specs.NumberedPlans.{IsKeepReady, IsPlanReady, ArePlansReady}
+use Rattle.sm_expand.specs.NumberedPlans.{NumberedNode, Step, Abs, Fork, Loop, Block, Dead, Ends, NumberedPlan, At, NumberedPlans, Over, More, node_over, plan_over, plans_over, IsKeepReady, IsPlanReady, ArePlansReady}
 use Rattle.sm_expand.specs.Cursors.{numbered_at}
-use Rattle.sm_expand.specs.Views.{dues_in, AreDuesReady}
+use Rattle.sm_expand.specs.Views.{dues_in, AreDuesReady, Due}
 use Rattle.sm_expand.specs.Walks.{facts_of, waits_as, AreNested, IsWaitingReady, AreWaitingReady}
 
 module _ (v w : TableValue) (wider : ExtendsTable v w) where

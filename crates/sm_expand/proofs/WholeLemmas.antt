@@ -1,6 +1,5 @@
 -- Where an expansion begins and ends, and the obligations of a task.
-use Rattle.std.proofs.Common.{◌≡◌, ℕ, nat_lt, Bool, true, false, if◌then◌else◌, Option, Result, Ok, Err, List, [], ◌∷◌, ◌++◌}
-use Rattle.std.proofs.Common.{refl, sym, ap, ◌∙◌, append-nil, take, reverse, length}
+use Rattle.std.proofs.Common.{◌≡◌, ℕ, nat_lt, Bool, true, false, if◌then◌else◌, Option, Result, Ok, Err, List, [], ◌∷◌, ◌++◌, refl, sym, ap, ◌∙◌, append-nil, take, reverse, length}
 use Rattle.std.proofs.lemmas.List.{reverse-append}
 use Rattle.std.proofs.Math.Path.{fun_ext}
 use Rattle.std.proofs.lemmas.Bool.{ltb-true, ltb-false, le-leb, lt-leb}
@@ -14,13 +13,11 @@ use Rattle.sm_plan.specs.Plans as plain
 use Rattle.sm_plan.specs.Plans.{Fault, Deep, joined, branches, expand, obligations}
 use Rattle.sm_plan.specs.States.{State, start_state, start_of}
 use Rattle.sm_plan.specs.Views.{forms_in, state_in}
-use Rattle.sm_expand.specs.declared.due.Due.{Due}
-use Rattle.sm_expand.specs.declared.plan.Plan.{Plan}
 use Rattle.sm_expand.specs.declared.walk.Waiting.{Waiting}
 use Rattle.sm_expand.specs.NumberedPlans.{plan_over}
 use Rattle.sm_expand.specs.Cursors.{numbered_at}
 use Rattle.sm_expand.specs.Tasks.{HasParts}
-use Rattle.sm_expand.specs.Views.{numbered_plan, plan_in, dues_in}
+use Rattle.sm_expand.specs.Views.{numbered_plan, plan_in, dues_in, Due, Plan}
 use Rattle.sm_expand.specs.Walks.{outcome, facts_of}
 use Rattle.sm_expand.proofs.PairsLemmas.{joined_none}
 

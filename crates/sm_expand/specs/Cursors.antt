@@ -2,10 +2,10 @@
 use Rattle.std.specs.Prelude.{◌≡◌, ℕ, Option, Some, None, List}
 use Rattle.sm_syntax.specs.text.Sorts.{Sorts}
 use Rattle.sm_term.specs.Terms.{Tree}
-use Rattle.sm_plan.specs.declared.node.NodeRow.{NodeRow}
 use Rattle.sm_plan.specs.Nodes.{Unfit}
 use Rattle.sm_plan.specs.Views.{node_in}
-use Rattle.sm_expand.specs.declared.cursor.Cursor.{Cursor}
+use Rattle.sm_plan.specs.declared.node.NodeRow.{NodeRow}
+pub use Rattle.sm_expand.specs.declared.cursor.Cursor.{Cursor}
 use Rattle.sm_expand.specs.NumberedPlans.{NumberedNode, NumberedPlan, node_over}
 use Rattle.sm_expand.specs.Views.{straight_before, numbered_last}
 

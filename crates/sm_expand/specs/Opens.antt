@@ -3,14 +3,13 @@ use Rattle.std.specs.Prelude.{◌≡◌, ℕ, Some, List, length, map, Vec}
 use Rattle.std.specs.declared.alloc.Global.{Global}
 use Rattle.sm_term.specs.Assertions.{Assertion}
 use Rattle.sm_term.specs.Tables.{TableValue, trees_in, sorts_in}
-use Rattle.sm_plan.specs.declared.opening.Opened.{Opened}
-use Rattle.sm_plan.specs.declared.state.SymState.{SymState}
 use Rattle.sm_plan.specs.Nodes.{opened_by}
 use Rattle.sm_plan.specs.ReadyStates.{AreFormsReady, AreSuccessorsReady}
 use Rattle.sm_plan.specs.Views.{state_in, opened_in}
-use Rattle.sm_expand.specs.declared.cursor.Cursor.{Cursor}
+use Rattle.sm_plan.specs.declared.state.SymState.{SymState}
+use Rattle.sm_plan.specs.declared.opening.Opened.{Opened}
 use Rattle.sm_expand.specs.NumberedPlans.{node_over, head, below, list_of}
-use Rattle.sm_expand.specs.Cursors.{numbered_at}
+use Rattle.sm_expand.specs.Cursors.{numbered_at, Cursor}
 
 -- what node k opens at a state, whatever facts that has, with a place in the plan for each state
 -- that follows; formulas and states of the table as it is then can be gone on from

@@ -1,11 +1,10 @@
 -- Cited by public clauses: states with places in a plan, from which the plan is gone on.
 use Rattle.std.specs.Prelude.{ℕ, ◌+◌, List, [], ◌∷◌}
 use Rattle.sm_term.specs.Tables.{TableValue, trees_in, sorts_in}
-use Rattle.sm_plan.specs.declared.opening.Successor.{Successor}
 use Rattle.sm_plan.specs.ReadyStates.{IsStateReady}
-use Rattle.sm_expand.specs.declared.cursor.Cursor.{Cursor}
-use Rattle.sm_expand.specs.declared.placed.PlacedState.{PlacedState}
-use Rattle.sm_expand.specs.Cursors.{numbered_at}
+use Rattle.sm_plan.specs.declared.opening.Successor.{Successor}
+pub use Rattle.sm_expand.specs.declared.placed.PlacedState.{PlacedState}
+use Rattle.sm_expand.specs.Cursors.{numbered_at, Cursor}
 use Rattle.sm_expand.specs.NumberedPlans.{IsPlanReady}
 use Rattle.sm_expand.specs.Walks.{size_of}
 

@@ -7,18 +7,18 @@ use Rattle.sm_term.specs.Formulas.{numbered}
 use Rattle.sm_plan.specs.Plans as plain
 use Rattle.sm_plan.specs.ReadyStates.{AreFormsReady}
 use Rattle.sm_plan.specs.Views.{forms_in}
-use Rattle.sm_expand.specs.declared.due.Due.{Due}
+pub use Rattle.sm_expand.specs.declared.due.Due.{Due}
 use Rattle.sm_expand.specs.declared.fault.PlanFault.{PlanFault}
 use Rattle.sm_expand.specs.declared.fault.PlanFault.TheVariants as fault
 use Rattle.sm_expand.specs.declared.plan.Last.{Last, Last-F, fold-Last}
 use Rattle.sm_expand.specs.declared.plan.Last.TheOpen as layer
-use Rattle.sm_expand.specs.declared.plan.Plan.{Plan, Plan-F, fold-Plan}
+use Rattle.sm_expand.specs.declared.plan.Plan.{Plan-F, fold-Plan}
+pub use Rattle.sm_expand.specs.declared.plan.Plan.{Plan, fold_out-Plan}
 use Rattle.sm_expand.specs.declared.plan.Plans.{Plans-F}
-use Rattle.sm_expand.specs.declared.plan.Simple.{Simple}
+pub use Rattle.sm_expand.specs.declared.plan.Plans.{Plans, fold-Plans, fold-roll-Plans, fold_out-Plans, out-Plans, roll-Plans}
+pub use Rattle.sm_expand.specs.declared.plan.Simple.{Simple}
 use Rattle.sm_expand.specs.declared.plan.Simple.TheVariants as simple
-use Rattle.sm_expand.specs.NumberedPlans.{NumberedNode, Step, Abs, Fork, Loop, Block, Dead, Ends}
-use Rattle.sm_expand.specs.NumberedPlans.{NumberedPlan, At, Over, More}
-use Rattle.sm_expand.specs.NumberedPlans.{plans_before, plan_over}
+use Rattle.sm_expand.specs.NumberedPlans.{NumberedNode, Step, Abs, Fork, Loop, Block, Dead, Ends, NumberedPlan, At, Over, More, plans_before, plan_over}
 
 -- a simple node
 abbrev pub simple_node : Simple → NumberedNode

@@ -5,18 +5,16 @@ use Rattle.sm_term.specs.declared.formula.Formula.{Formula}
 use Rattle.sm_term.specs.Assertions.{Assertion}
 use Rattle.sm_term.specs.Tables.{TableValue, trees_in, sorts_in}
 use Rattle.sm_term.specs.Terms.{Tree}
-use Rattle.sm_plan.specs.declared.opening.Successor.{Successor}
 use Rattle.sm_plan.specs.Plans as plain
 use Rattle.sm_plan.specs.ReadyStates.{IsStateReady, AreFormsReady}
+use Rattle.sm_plan.specs.declared.opening.Successor.{Successor}
 use Rattle.sm_plan.specs.States.{State}
 use Rattle.sm_plan.specs.Views.{forms_in, state_in}
-use Rattle.sm_expand.specs.declared.cursor.Cursor.{Cursor}
-use Rattle.sm_expand.specs.declared.due.Due.{Due}
 use Rattle.sm_expand.specs.declared.walk.Waiting.{Waiting}
 use Rattle.sm_expand.specs.NumberedPlans as numbers
 use Rattle.sm_expand.specs.NumberedPlans.{NumberedPlan, NumberedPlans, plan_over, IsPlanReady}
-use Rattle.sm_expand.specs.Cursors.{numbered_at}
-use Rattle.sm_expand.specs.Views.{dues_in, AreDuesReady}
+use Rattle.sm_expand.specs.Cursors.{numbered_at, Cursor}
+use Rattle.sm_expand.specs.Views.{dues_in, AreDuesReady, Due}
 
 -- what goals over facts are as an obligation, where there are any
 abbrev pub asked : ℕ → List Assertion → Bool → List Assertion → List plain.Due

@@ -1,6 +1,5 @@
 // Places in a plan.
-ghost use Rattle.std.specs.Prelude.{◌≡◌, List, [], ◌∷◌, ◌++◌, map, true, false, nat_le};
-ghost use Rattle.std.specs.Prelude.{IfOk, IfSome, MatchOption};
+ghost use Rattle.std.specs.Prelude.{◌≡◌, List, [], ◌∷◌, ◌++◌, map, true, false, nat_le, IfOk, IfSome, MatchOption};
 ghost use Rattle.sm_syntax.specs.claim.ConflictFree.{copy_of};
 ghost use Rattle.sm_syntax.specs.text.Sorts.{Sorts};
 ghost use Rattle.sm_syntax.specs.trees.Copies.{copy_named};
@@ -8,8 +7,7 @@ ghost use Rattle.sm_term.specs.Terms.{Tree};
 ghost use Rattle.sm_plan.specs.Nodes.{rule_of, is_end};
 ghost use Rattle.sm_plan.specs.ReadyStates.{IsNodeReady};
 ghost use Rattle.sm_plan.specs.Views.{node_in};
-ghost use Rattle.sm_expand.specs.NumberedPlans.{NumberedNode, node_over, head, below, list_of};
-ghost use Rattle.sm_expand.specs.NumberedPlans.{IsKeepReady};
+ghost use Rattle.sm_expand.specs.NumberedPlans.{NumberedNode, node_over, head, below, list_of, IsKeepReady};
 ghost use Rattle.sm_expand.specs.Views.{numbered_plan, numbered_last, simple_node};
 ghost use Rattle.sm_expand.specs.Cursors.{numbered_at, IsRowOf};
 

@@ -1,6 +1,5 @@
 // One node of a plan.
-ghost use Rattle.std.specs.Prelude.{◌≡◌, ◌+◌, ◌<◌, ◌∷◌, List, length, map, reverse, IfOk, OnOk, OnErr};
-ghost use Rattle.std.specs.Prelude.{IfErr, IfSome, ◌&&◌};
+ghost use Rattle.std.specs.Prelude.{◌≡◌, ◌+◌, ◌<◌, ◌∷◌, List, length, map, reverse, IfOk, OnOk, OnErr, IfErr, IfSome, ◌&&◌};
 ghost use Rattle.sm_syntax.specs.text.Sorts.{Sorts};
 ghost use Rattle.sm_term.specs.Assertions.{Assertion};
 ghost use Rattle.sm_term.specs.Terms.{Tree};

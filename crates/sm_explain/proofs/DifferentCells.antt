@@ -1,6 +1,5 @@
 -- The cells of an array at which four ends differ, among indices.
-use Rattle.std.proofs.Common.{◌≡◌, ◌⊎◌, ℕ, ℤ, pos, Bool, true, false, not, if◌then◌else◌, List, [], ◌∷◌, ◌++◌}
-use Rattle.std.proofs.Common.{refl, sym, ap, ◌∙◌, inl, inr, ⊎_elim}
+use Rattle.std.proofs.Common.{◌≡◌, ◌⊎◌, ℕ, ℤ, pos, Bool, true, false, not, if◌then◌else◌, List, [], ◌∷◌, ◌++◌, refl, sym, ap, ◌∙◌, inl, inr, ⊎_elim}
 use Rattle.std.specs.List.{filter}
 use Rattle.std.proofs.lemmas.Bool.Decides.{Decides-int_eq}
 use Rattle.sm_syntax.specs.claim.ConflictFree.{Copy, O, A, B, M}
@@ -9,6 +8,9 @@ use Rattle.sm_syntax.specs.claim.Stores.{Store}
 use Rattle.sm_explain.specs.Indices.{IsOf, Rise}
 use Rattle.sm_explain.specs.Rows.{agree, cell_rows}
 use Rattle.sm_explain.specs.Tables.{DifferAt, element_rows, AreElementRows}
+use Rattle.sm_syntax.proofs.EachCopy.{each_copy}
+use Rattle.sm_lemmas.proofs.Tests.{not_true}
+use Rattle.sm_lemmas.proofs.Options.{one_of_four}
 
 -- whether four ends have one value at a cell
 abbrev pub agree_at : (Copy → Store) → Cell → Bool
@@ -32,22 +34,10 @@ zeros_agree end cell nought =
 abbrev pub Covers : (Copy → Store) → ℕ → List ℤ → Type 0
 Covers end a indices = (c : Copy) (i : ℤ) → (content (end c) (Element a i) ≡ pos 0) ⊎ IsOf indices i
 
--- a claim holds where it or each of four others holds, and it follows from those four
-four : {P Q R S G : Type 0} → P ⊎ G → Q ⊎ G → R ⊎ G → S ⊎ G → (P → Q → R → S → G) → G
-four {P} {Q} {R} {S} {G} p q r s f =
-    ⊎_elim (λ (x : P). ⊎_elim (λ (y : Q). ⊎_elim (λ (z : R). ⊎_elim (λ (w : S). f x y z w) (λ (g : G). g) s) (λ (g : G). g) r)
-    (λ (g : G). g) q) (λ (g : G). g) p
-
-each_copy : (P : Copy → Type 0) → P O → P A → P B → P M → (c : Copy) → P c
-each_copy P o a b m O = o
-each_copy P o a b m A = a
-each_copy P o a b m B = b
-each_copy P o a b m M = m
-
 covered : (end : Copy → Store) (a : ℕ) (indices : List ℤ) → Covers end a indices → (i : ℤ) → DifferAt end (Element a i) → IsOf indices i
 covered end a indices covers i differ =
     let at = λ (c : Copy). content (end c) (Element a i) in
-    four (covers O i) (covers A i) (covers B i) (covers M i)
+    one_of_four (covers O i) (covers A i) (covers B i) (covers M i)
     (λ (o : at O ≡ pos 0) (of_a : at A ≡ pos 0) (of_b : at B ≡ pos 0) (m : at M ≡ pos 0).
     let agreed : agree_at end (Element a i) ≡ true =
     zeros_agree end (Element a i) (each_copy (λ (c : Copy). at c ≡ pos 0) o of_a of_b m) in
@@ -97,11 +87,6 @@ same_rows names end a (x ∷ xs) = by (agree_at end (Element a x)) refl (same_ro
     by true is rest = rw is rest
     by false is rest = ap (λ (later : List ℕ). cell_rows names end (Element a x) ++ later) rest
 
--- the test is passed where they differ
-passed : (b : Bool) → not b ≡ true → b ≡ false
-passed true e = cc
-passed false e = refl
-
 -- the lines of an array
 pub are_rows : (names : List (List ℕ)) (end : Copy → Store) (a : ℕ) (indices : List ℤ) → Rise indices → Covers end a indices
     → AreElementRows names end a (element_rows names end a indices)
@@ -110,7 +95,7 @@ are_rows names end a indices rise covers = record {
   rise = filter_rises (λ (i : ℤ). not (agree_at end (Element a i))) indices rise;
   each = λ (i : ℤ). (
     λ (o : IsOf (differing end a indices) i).
-        passed (agree_at end (Element a i)) (of_filter (λ (j : ℤ). not (agree_at end (Element a j))) indices i o).1,
+        not_true (agree_at end (Element a i)) (of_filter (λ (j : ℤ). not (agree_at end (Element a j))) indices i o).1,
     λ (differ : DifferAt end (Element a i)).
         filter_of (λ (j : ℤ). not (agree_at end (Element a j))) indices i (covered end a indices covers i differ) (ap not differ),
   );

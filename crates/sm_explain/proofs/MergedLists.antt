@@ -1,7 +1,5 @@
 -- Two rising lists of indices merged, index by index.
-use Rattle.std.proofs.Common.{◌≡◌, ◌≢◌, ◌⊎◌, ◌+◌, ◌<◌, ◌≤◌, ℕ, zero, suc, ℤ, Bool, true, false, if◌then◌else◌, Option, Some, None}
-use Rattle.std.proofs.Common.{List, [], ◌∷◌, ◌++◌, length, drop, refl, sym, ap, subst, ◌∙◌}
-use Rattle.std.proofs.Common.{inl, inr, ⊎_elim, arith, drop_of_length-le}
+use Rattle.std.proofs.Common.{◌≡◌, ◌≢◌, ◌⊎◌, ◌+◌, ◌<◌, ◌≤◌, ℕ, zero, suc, ℤ, Bool, true, false, if◌then◌else◌, Option, Some, None, List, [], ◌∷◌, ◌++◌, length, drop, refl, sym, ap, subst, ◌∙◌, inl, inr, ⊎_elim, arith, drop_of_length-le}
 use Rattle.std.specs.Prelude.{◌<ℤ◌, ◌≤ℤ◌, int_lt, slice_get}
 use Rattle.std.specs.Ordering.{int_eq}
 use Rattle.std.proofs.lemmas.Bool.Decides.{Decides-int_eq, not_from_Decides}
@@ -33,7 +31,7 @@ rise_more (x ∷ xs) i r below = (
 )
 
 -- the first index of a rising list is the least
-first_least : (u : ℤ) (us : List ℤ) → Rise (u ∷ us) → (j : ℤ) → IsOf (u ∷ us) j → u ≤ℤ j
+pub first_least : (u : ℤ) (us : List ℤ) → Rise (u ∷ us) → (j : ℤ) → IsOf (u ∷ us) j → u ≤ℤ j
 first_least u us r j h =
     ⊎_elim (λ (e : j ≡ u). omega (arith, ints)) (λ (o : IsOf us j). let lt : u <ℤ j = r.0 j o in omega (arith, ints)) h
 

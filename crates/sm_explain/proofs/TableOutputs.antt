@@ -1,29 +1,29 @@
 -- Outputs, one behind the other, and the whole table.
-use Rattle.std.proofs.Common.{◌≡◌, ◌+◌, ◌<◌, ◌≤◌, ℕ, true, None, List, [], ◌∷◌, ◌++◌, length, map, take, get_or}
-use Rattle.std.proofs.Common.{refl, sym, ap, subst, ◌∙◌, append_assoc, append-nil, take_all}
+use Rattle.std.proofs.Common.{◌≡◌, ◌+◌, ◌<◌, ◌≤◌, ℕ, true, None, List, [], ◌∷◌, ◌++◌, length, map, take, get_or, refl, sym, ap, subst, ◌∙◌, append_assoc, append-nil, take_all}
 use Rattle.std.proofs.Math.Path.{fun_ext}
 use Rattle.std.proofs.lemmas.List.{take_more, map-append}
 use Rattle.std.specs.Option.{unwrap_or}
-use Rattle.sm_syntax.specs.declared.copies.PerCopy.{PerCopy}
 use Rattle.sm_syntax.specs.declared.tree.Block.{Block}
 use Rattle.sm_syntax.specs.declared.tree.Name.{Name}
-use Rattle.sm_syntax.specs.declared.tree.Sort.{Sort}
-use Rattle.sm_syntax.specs.declared.tree.Sort.TheVariants.{Num}
 use Rattle.sm_syntax.specs.claim.ConflictFree.{Copy}
 use Rattle.sm_syntax.specs.claim.Keeps.{Scalar}
-use Rattle.sm_syntax.specs.claim.Stores.{number, zero_value, Store}
+use Rattle.sm_syntax.specs.claim.Stores.{number, Store}
 use Rattle.sm_syntax.specs.claim.Syntax.{Code}
 use Rattle.sm_syntax.specs.text.Sorts.{Sorts}
+use Rattle.sm_syntax.specs.declared.tree.Sort.{Sort}
+use Rattle.sm_syntax.specs.declared.tree.Sort.TheVariants.{Num}
 use Rattle.sm_syntax.specs.trees.Copies.{of_copy}
-use Rattle.sm_eval.specs.declared.stored_value.StoredValue.{StoredValue}
+use Rattle.sm_syntax.specs.declared.copies.PerCopy.{PerCopy}
 use Rattle.sm_eval.specs.declared.stored_value.StoredValue.TheVariants as stored
 use Rattle.sm_eval.specs.declared.store.Store as code
 use Rattle.sm_eval.specs.StoredValues.{held, sort, stored_value_of, meaning, sorts_of}
+use Rattle.sm_eval.specs.declared.stored_value.StoredValue.{StoredValue}
 use Rattle.sm_replay.specs.FirstBreak.{sorted_by}
 use Rattle.sm_replay.specs.Runs.{code_in, end_in, HaveSort}
 use Rattle.sm_explain.specs.Rows.{cell_rows}
 use Rattle.sm_explain.specs.Tables.{AreOutputRows, AreRows}
 use Rattle.sm_explain.proofs.DifferentCells.{agree_at, zeros_agree}
+use Rattle.sm_replay.proofs.FirstBreakSound.{absent}
 
 -- one output more
 pub rows_more : (names : List (List ℕ)) (end : Copy → Store) (outputs : List (ℕ × Sort)) (o : ℕ × Sort) (text more : List ℕ)
@@ -63,16 +63,6 @@ pub outputs_all : (names : List (List ℕ)) (end : Copy → Store) (sorts : Sort
     → length outputs ≤ n → AreRows names end (sorted sorts (take n outputs)) text → AreRows names end (sorted sorts outputs) text
 outputs_all names end sorts outputs n text past =
     subst (λ (os : List Name). AreRows names end (sorted sorts os) text) (take_all n outputs past)
-
--- a name that isn't declared has 0 in each end, and so no lines
-held_absent : (s : StoredValue) → sort s ≡ None → held s ≡ zero_value
-held_absent stored.Absent is = refl
-held_absent (stored.Number z) is = cc
-held_absent (stored.Array cells) is = cc
-
-absent : (s : code.Store) (x : ℕ) → sorts_of s x ≡ None → meaning s x ≡ zero_value
-unfolding meaning sorts_of
-absent s x is = held_absent (stored_value_of s.stored.items x) is
 
 pub undeclared_rows : (names : List (List ℕ)) (ends : PerCopy code.Store) (x : ℕ) → HaveSort ends x None
     → [] ≡ cell_rows names (end_in ends) (Scalar x)

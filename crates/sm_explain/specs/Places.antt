@@ -1,7 +1,6 @@
 -- Where a place of a text stands, by line and column. Public clauses cite it.
 -- A line feed, the byte 10, ends a line. Lines and columns count from 1, and columns count bytes.
-use Rattle.std.specs.Prelude.{◌≡◌, ◌≢◌, ◌⊎◌, ◌==◌, ◌+◌, ◌≤◌, ◌<◌, ℕ, if◌then◌else◌, List, ◌++◌}
-use Rattle.std.specs.Prelude.{length, map, take, slice_index, slice_range, codes, decimal}
+use Rattle.std.specs.Prelude.{◌≡◌, ◌≢◌, ◌⊎◌, ◌==◌, ◌+◌, ◌≤◌, ◌<◌, ℕ, if◌then◌else◌, List, ◌++◌, length, map, take, slice_index, slice_range, codes, decimal}
 use Rattle.std.specs.List.{count_by}
 use Rattle.sm_explain.specs.declared.places.Place.{Place}
 

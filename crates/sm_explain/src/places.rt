@@ -1,8 +1,6 @@
 // Where a place of a text stands.
-ghost use Rattle.std.specs.Prelude.{◌≡◌, ◌==◌, ◌≤◌, ◌<◌, ◌+◌, ◌++◌, if◌then◌else◌, length, take};
-ghost use Rattle.std.specs.Prelude.{IfOk, OnOk};
-ghost use Rattle.sm_explain.specs.Places.{line_feeds, StartsLine, EndsLine, HasNoFeed, IsPlace};
-ghost use Rattle.sm_explain.specs.Places.{heading, blank_under, margin, IsShown};
+ghost use Rattle.std.specs.Prelude.{◌≡◌, ◌==◌, ◌≤◌, ◌<◌, ◌+◌, ◌++◌, if◌then◌else◌, length, take, IfOk, OnOk};
+ghost use Rattle.sm_explain.specs.Places.{line_feeds, StartsLine, EndsLine, HasNoFeed, IsPlace, heading, blank_under, margin, IsShown};
 
 use itoa::Buffer;
 use std::alloc::{AllocError, Global};

@@ -5,10 +5,7 @@ ghost use Rattle.sm_syntax.specs.trees.Copies.{copy_named};
 ghost use Rattle.sm_replay.specs.Runs.{end_in, HaveSort};
 ghost use Rattle.sm_replay.specs.Verdicts.{cell_of};
 ghost use Rattle.sm_explain.specs.Cells.{cell_text};
-ghost use Rattle.sm_explain.specs.Rows.{agree, loses_change, adds_change, said_if, sentences};
-ghost use Rattle.sm_explain.specs.Rows.{labelled, values_text};
-ghost use Rattle.sm_explain.specs.Rows.{words_of_a, words_of_b, words_of_candidate};
-ghost use Rattle.sm_explain.specs.Rows.{rows, cell_rows};
+ghost use Rattle.sm_explain.specs.Rows.{agree, loses_change, adds_change, said_if, sentences, labelled, values_text, words_of_a, words_of_b, words_of_candidate, rows, cell_rows};
 
 use crate::cells::{put_cell, put_number};
 use sm_eval::Store;

@@ -6,8 +6,7 @@ ghost use Rattle.sm_syntax.specs.text.Parts.{sort_of};
 ghost use Rattle.sm_syntax.specs.trees.Programs.{declared_of};
 ghost use Rattle.sm_replay.specs.Verdicts.{cell_of};
 ghost use Rattle.sm_explain.specs.Merging.{Grows};
-ghost use Rattle.sm_explain.specs.Starts.{start_line, element_lines, AreValueLines};
-ghost use Rattle.sm_explain.specs.Starts.{numbered, AreStartLines};
+ghost use Rattle.sm_explain.specs.Starts.{start_line, element_lines, AreValueLines, numbered, AreStartLines};
 
 use crate::cells::{put_cell, put_number};
 use sm_eval::Store;

@@ -1,22 +1,20 @@
 -- What answers leave in the files.
-use Rattle.std.proofs.Common.{◌≡◌, ◌≢◌, ◌≤◌, ◌<◌, ◌⊎◌, inl, inr, ℕ, List, length, Some, Result, Ok}
-use Rattle.std.proofs.Common.{Err, IfOk, IfErr, refl, sym, ap, subst, ◌∙◌, arith}
+use Rattle.std.proofs.Common.{◌≡◌, ◌≢◌, ◌≤◌, ◌<◌, ◌⊎◌, inl, inr, ℕ, List, length, Some, Result, Ok, Err, IfOk, IfErr, refl, sym, ap, subst, ◌∙◌, arith}
 use Rattle.sm_io.specs.Causes.{HasCause, Rose}
 use Rattle.sm_io.specs.Files.{Known, absent, holds, emptied}
 use Rattle.sm_syntax.specs.text.Parts.{Parts}
 use Rattle.sm_syntax.specs.text.Spells.{Spells}
 use Rattle.sm_text.proofs.Complete.Tasks as text
 use Rattle.sm_answers.specs.Exit.{ExitsWith}
-use Rattle.sm_answers.specs.File.{file_limit, GivesNoTask, GivesTask}
-use Rattle.sm_files.specs.ProofFile.{HoldsFront, HoldsProof, IsTaskIn, LeavesCut, LeavesFront}
-use Rattle.sm_files.specs.ProofFile.{LeavesProof, LeftBy, LeftCut}
-use Rattle.sm_files.specs.Views.{CountsWrites, EndsWith}
-use Rattle.sm_words.specs.Words.{Asked}
 use Rattle.sm_answers.specs.declared.exit.Exit.{Exit}
-use Rattle.sm_answers.specs.declared.exit.Exit.TheVariants as stopped
-use Rattle.sm_answers.specs.declared.status.Reply.{Reply}
+use Rattle.sm_answers.specs.File.{file_limit, GivesNoTask, GivesTask}
 use Rattle.sm_answers.specs.declared.status.Status.{Status}
 use Rattle.sm_answers.specs.declared.status.Status.TheVariants.{Accepted, WriteFault}
+use Rattle.sm_files.specs.ProofFile.{HoldsFront, HoldsProof, IsTaskIn, LeavesCut, LeavesFront, LeavesProof, LeftBy, LeftCut}
+use Rattle.sm_files.specs.Views.{CountsWrites, EndsWith}
+use Rattle.sm_words.specs.Words.{Asked}
+use Rattle.sm_answers.specs.declared.exit.Exit.TheVariants as stopped
+use Rattle.sm_answers.specs.declared.status.Reply.{Reply}
 
 -- ---- results of commands
 
@@ -92,7 +90,7 @@ leaves_same file s old new never nor (inr (t, is, inr (inr h))) = h.1
 
 -- ---- the files of words
 
-same_ask : (p q : Asked) → Some p ≡ Some q → p ≡ q
+pub same_ask : (p q : Asked) → Some p ≡ Some q → p ≡ q
 same_ask p q e = cc
 
 -- ---- an accepted task whose answer could not be printed

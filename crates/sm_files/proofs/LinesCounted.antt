@@ -1,6 +1,5 @@
 -- As many lines end as there are line feeds.
-use Rattle.std.proofs.Common.{◌≡◌, ◌==◌, ◌+◌, ℕ, Bool, true, false, if◌then◌else◌, List, [], ◌∷◌}
-use Rattle.std.proofs.Common.{length, cond, count_by, refl, arith}
+use Rattle.std.proofs.Common.{◌≡◌, ◌==◌, ◌+◌, ℕ, Bool, true, false, if◌then◌else◌, List, [], ◌∷◌, length, cond, count_by, refl, arith}
 use Rattle.std.proofs.lemmas.List.Recursion.{is_count_by}
 use Rattle.sm_proof.specs.Verdicts.{FileLines, in_first_line, lines_in}
 use Rattle.sm_files.specs.Trim.{line_count}

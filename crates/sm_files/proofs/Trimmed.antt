@@ -8,9 +8,7 @@ use Rattle.sm_syntax.specs.claim.ConflictFree.{ConflictFree}
 use Rattle.sm_syntax.specs.text.Parts.{Parts, task_of}
 use Rattle.sm_syntax.specs.text.Spells.{Spells}
 use Rattle.sm_answers.specs.declared.status.Status.{Status}
-use Rattle.sm_answers.specs.declared.status.Status.TheVariants.{Accepted, Conflict, Unknown}
-use Rattle.sm_answers.specs.declared.status.Status.TheVariants.{Refused, Usage, ReadFault, Memory}
-use Rattle.sm_answers.specs.declared.status.Status.TheVariants.{SinkFault, WriteFault}
+use Rattle.sm_answers.specs.declared.status.Status.TheVariants.{Accepted, Conflict, Unknown, Refused, Usage, ReadFault, Memory, SinkFault, WriteFault}
 use Rattle.sm_answers.proofs.Answering.{fault_not_accepted}
 use Rattle.sm_answers.proofs.Statuses.{IsOfCommand, without_task}
 use Rattle.sm_answers.specs.Merges.{IsProved, IsSafeMerge}

@@ -1,6 +1,5 @@
 -- What `trim` leaves in the files.
-use Rattle.std.proofs.Common.{◌≡◌, ◌≢◌, ◌⊎◌, inl, inr, ℕ, List, Result, Ok, Err, IfOk, codes, sym}
-use Rattle.std.proofs.Common.{subst, ◌∙◌}
+use Rattle.std.proofs.Common.{◌≡◌, ◌≢◌, ◌⊎◌, inl, inr, ℕ, List, Result, Ok, Err, IfOk, codes, sym, subst, ◌∙◌}
 use Rattle.std.specs.declared.alloc.AllocError.{AllocError}
 use Rattle.sm_io.specs.Causes.{HasCause, Rose}
 use Rattle.sm_io.specs.Files.{Known, emptied, longer}
@@ -13,8 +12,7 @@ use Rattle.sm_answers.specs.declared.status.Reply.{Reply}
 use Rattle.sm_answers.specs.declared.status.Status.{Status}
 use Rattle.sm_answers.specs.declared.status.Status.TheVariants.{Accepted, WriteFault}
 use Rattle.sm_files.specs.ProofFile.{HoldsProof, IsTaskIn, LeavesProof, LeftBy}
-use Rattle.sm_files.specs.Trim.{HoldsTrimmed, LeavesTrimmed, LeftTrimmed, TellsOfTask, TellsTrimmed}
-use Rattle.sm_files.specs.Trim.{line_count, trimmed_line}
+use Rattle.sm_files.specs.Trim.{HoldsTrimmed, LeavesTrimmed, LeftTrimmed, TellsOfTask, TellsTrimmed, line_count, trimmed_line}
 
 -- ---- a trimmed proof is one that `check` might leave
 

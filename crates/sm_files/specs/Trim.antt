@@ -8,12 +8,11 @@ use Rattle.sm_prune.specs.UsedLines.{HasUsedLines}
 use Rattle.sm_syntax.specs.text.Parts.{Parts}
 use Rattle.sm_write.specs.Versions.{HasVersion}
 use Rattle.sm_answers.specs.File.{FailsToRead, GivesNoTask, GivesTask}
+use Rattle.sm_answers.specs.declared.status.Status.{Status}
+use Rattle.sm_answers.specs.declared.status.Status.TheVariants.{Accepted, Unknown, Refused, WriteFault}
 use Rattle.sm_answers.specs.Readings.{ReadsTask}
 use Rattle.sm_answers.specs.Status.{Says}
 use Rattle.sm_answers.specs.Verify.{rejected_line}
-use Rattle.sm_answers.specs.declared.status.Status.{Status}
-use Rattle.sm_answers.specs.declared.status.Status.TheVariants.{Accepted, Unknown, Refused}
-use Rattle.sm_answers.specs.declared.status.Status.TheVariants.{WriteFault}
 use Rattle.sm_files.specs.ProofFile.{IsTaskIn, LeftCut}
 use Rattle.sm_words.specs.Lines.{line_of}
 

@@ -1,6 +1,5 @@
 // What `trim` answers to a task's file and a proof's, and what it leaves in another.
-ghost use Rattle.std.specs.Prelude.{◌≡◌, ◌≢◌, ◌==◌, ℕ, List, IfOk, IfErr, IfSome, OnErr};
-ghost use Rattle.std.specs.Prelude.{count_by};
+ghost use Rattle.std.specs.Prelude.{◌≡◌, ◌≢◌, ◌==◌, ℕ, List, IfOk, IfErr, IfSome, OnErr, count_by};
 ghost use Rattle.sm_io.specs.Causes.{HasCause};
 ghost use Rattle.sm_io.specs.Reads.{ReadsWhole};
 ghost use Rattle.sm_proof.specs.Verdicts.{Passes, subject_of};
@@ -12,9 +11,7 @@ ghost use Rattle.sm_write.specs.Versions.{HasVersion};
 ghost use Rattle.sm_answers.specs.Exit.{ExitsWith};
 ghost use Rattle.sm_check.specs.Checkable.{IsCheckable};
 ghost use Rattle.sm_files.specs.ProofFile.{LeavesFront, LeftCut};
-ghost use Rattle.sm_files.specs.Trim.{AnswersPassing, AnswersTrim, GivesNoProof, IsProofRead};
-ghost use Rattle.sm_files.specs.Trim.{line_count, trimmed_line, LeavesTrimmed, LeftTrimmed};
-ghost use Rattle.sm_files.specs.Trim.{TellsOfTask, TellsTrimmed, Trims, TrimsByReads};
+ghost use Rattle.sm_files.specs.Trim.{AnswersPassing, AnswersTrim, GivesNoProof, IsProofRead, line_count, trimmed_line, LeavesTrimmed, LeftTrimmed, TellsOfTask, TellsTrimmed, Trims, TrimsByReads};
 ghost use Rattle.sm_files.specs.Views.{CountsWrites, EndsWith};
 
 use crate::writing::write_proof;

@@ -1,16 +1,17 @@
 -- A solution of the forms without an atom, and of the sums in which it cancels, gives one of all.
-use Rattle.std.proofs.Common.{◌≡◌, ◌⊎◌, inl, inr, ℕ, ◌*◌, ◌<◌, ◌==◌, ℤ, pos, negsuc, neg_ℤ, nat_abs, ◌+ℤ◌, ◌*ℤ◌, ◌≤ℤ◌, ◌<ℤ◌, Bool, true, false, not, ◌&&◌, ◌||◌, if◌then◌else◌, IsTrue, Option, Some, None, List, [], ◌∷◌, filter, refl, sym, ap, subst, ◌∙◌, ⊎_elim, arith, eq-zero-or-pos, mul-pos}
+use Rattle.std.proofs.Common.{◌≡◌, ◌⊎◌, inl, inr, ℕ, ◌*◌, ◌<◌, ◌==◌, ℤ, pos, negsuc, neg_ℤ, nat_abs, ◌+ℤ◌, ◌*ℤ◌, ◌≤ℤ◌, ◌<ℤ◌, Bool, true, false, not, ◌&&◌, ◌||◌, if◌then◌else◌, IsTrue, Option, Some, None, List, [], ◌∷◌, filter, refl, sym}
+use Rattle.std.proofs.Common.{ap, subst, ◌∙◌, ⊎_elim, arith, eq-zero-or-pos, mul-pos}
 use Rattle.std.specs.List.{find}
 use Rattle.std.specs.Ordering.{int_eq}
 use Rattle.std.proofs.lemmas.Bool.{cases_Bool, eqb-true, and_parts}
 use Rattle.std.proofs.lemmas.Bool.Decides.{Decides-int_eq}
+use Rattle.sm_num.specs.Forms.{Linear, Satisfies}
 use Rattle.sm_num.specs.declared.kind.Kind.{Kind}
 use Rattle.sm_num.specs.declared.kind.Kind.TheVariants.{Le, Eq}
-use Rattle.sm_num.specs.Forms.{Linear, Satisfies}
 use Rattle.sm_num.specs.Combining.{Fits}
 use Rattle.sm_num.specs.Eliminating.{is_equation, is_negative, signs_alike, multipliers, kind_of_sum, eliminated}
 use Rattle.sm_num.proofs.RingLemmas.{sums, mul-neg_left, mul-neg_right}
-use Rattle.sm_num.proofs.SameAtomLemmas.{zero_test, other_test, not_both}
+use Rattle.sm_num.proofs.SameAtomLemmas.{zero_test, not_both}
 use Rattle.sm_num.proofs.EliminationSound.{multipliers_cancel}
 use Rattle.sm_num.proofs.EliminationParts.{multipliers_positive}
 use Rattle.sm_fm.specs.Elimination.{Placed, coefficient_at, has_atom, is_below, is_above, is_pivot, pairs_with, pairs}
@@ -18,6 +19,9 @@ use Rattle.sm_fm.specs.Solutions.{HoldsOver}
 use Rattle.sm_fm.proofs.MembershipLemmas.{IsIn, in_filter, from_filter, found, not_found, in_map, in_crossed}
 use Rattle.sm_fm.proofs.BoundLemmas.{above_zero, below_zero, square_some, pivot_value, pivot_itself, bounds_cross, Greatest, greatest}
 use Rattle.sm_fm.proofs.ValueLemmas.{rest_over, raised, raised_value, raised_holds, sum_says}
+use Rattle.sm_fm.proofs.WithLemmas.{below_some}
+use Rattle.sm_lemmas.proofs.Tests.{not_true}
+use Rattle.sm_num.proofs.OneForm.{negative_below, equation_is}
 
 -- placed forms have a solution
 pub record SolutionOf (forms : List Placed) : Type 0 where
@@ -47,11 +51,6 @@ none_there z lacks = (Decides-int_eq z (pos 0)).0 (by (int_eq z (pos 0)) lacks)
     by true e = refl
     by false e = absurd cc
 
--- signs by their tests
-negative_below : (z : ℤ) → is_negative z ≡ true → z <ℤ pos 0
-negative_below (pos n) e = absurd cc
-negative_below (negsuc n) e = omega (arith, sums)
-
 other_above : (z : ℤ) → (z ≡ pos 0 → ⊥) → is_negative z ≡ false → pos 0 <ℤ z
 other_above (pos n) some e =
     let size : 0 < n = ⊎_elim (λ (zero : n ≡ 0). absurd (some (ap pos zero))) (λ (h : 0 < n). h) (eq-zero-or-pos n) in omega (arith, sums)
@@ -61,22 +60,10 @@ negative_some : (z : ℤ) → is_negative z ≡ true → z ≡ pos 0 → ⊥
 negative_some (pos n) e zero = absurd cc
 negative_some (negsuc n) e zero = absurd cc
 
--- so such a number is there
-negative_has : (z : ℤ) → is_negative z ≡ true → not (int_eq z (pos 0)) ≡ true
-negative_has z e = ap not (other_test z (negative_some z e))
-
-pub not_true : (b : Bool) → not b ≡ true → b ≡ false
-not_true true e = absurd cc
-not_true false e = refl
-
 -- kinds by their test
 is_le : (kind : Kind) → is_equation kind ≡ false → kind ≡ Le
 is_le Le e = refl
 is_le Eq e = absurd cc
-
-is_eq : (kind : Kind) → is_equation kind ≡ true → kind ≡ Eq
-is_eq Le e = absurd cc
-is_eq Eq e = refl
 
 -- the sum of a form with an equation is of the form's kind
 kind_with_equation : (kind : Kind) → kind_of_sum kind Eq ≡ kind
@@ -123,7 +110,7 @@ module _ (t d : ℕ) (v : ℕ → ℤ) (forms : List Placed) (some : 0 < d)
       let b = coefficient_at t pivot in
       let s = rest_over d v t pivot.form in
       let parts = and_parts (is_equation pivot.form.kind) (has_atom t pivot) is_one in
-      let equation = is_eq pivot.form.kind parts.0 in
+      let equation = equation_is pivot.form.kind parts.0 in
       let present = some_there b parts.1 in
       all_raised (nat_abs b * nat_abs b) (neg_ℤ (b *ℤ s)) (square_some b present)
       (λ (f : Placed) (is : IsIn f forms) (has : has_atom t f ≡ true).
@@ -198,7 +185,7 @@ module _ (t d : ℕ) (v : ℕ → ℤ) (forms : List Placed) (some : 0 < d)
         let below = from_filter (is_below t) f forms first in
         let above = from_filter (is_above t) g forms second in
         let parts = and_parts (has_atom t g) (not (is_below t g)) above.1 in
-        let has = negative_has a below.1 in
+        let has = below_some a below.1 in
         let says = sum_says f.form g.form made.sum t d v made.is made.holds in
         let positive = multipliers_positive a b f.form.kind g.form.kind (negative_some a below.1) (some_there b parts.0)
         (with_signs (is_equation f.form.kind) (is_equation g.form.kind) (is_negative a) (is_negative b) below.1

@@ -1,9 +1,9 @@
 -- Eliminations worked by hand and by the definitions.
 use Rattle.std.proofs.Common.{◌≡◌, ℕ, ℤ, pos, negsuc, true, false, List, [], ◌∷◌, refl}
 use Rattle.sm_num.specs.declared.op.Op.TheVariants.{Add}
+use Rattle.sm_num.specs.Forms.{Linear}
 use Rattle.sm_num.specs.declared.kind.Kind.{Kind}
 use Rattle.sm_num.specs.declared.kind.Kind.TheVariants.{Le, Eq}
-use Rattle.sm_num.specs.Forms.{Linear}
 use Rattle.sm_num.specs.Eliminating.{gcd}
 use Rattle.sm_fm.specs.Elimination.{Cancels, GoesBeyond, events}
 

@@ -1,16 +1,15 @@
 -- What a set knows of forms, and which atoms a sum lacks.
-use Rattle.std.proofs.Common.{◌≡◌, ◌≢◌, ⊎_elim, ℕ, suc, Bool, true, false, ◌||◌, [], ◌∷◌, ◌++◌}
-use Rattle.std.proofs.Common.{Result, Ok, Err, List, refl, sym, ap, ◌∙◌, arith}
+use Rattle.std.proofs.Common.{◌≡◌, ◌≢◌, ⊎_elim, ℕ, suc, Bool, true, false, ◌||◌, [], ◌∷◌, ◌++◌, Result, Ok, Err, List, refl, sym, ap, ◌∙◌, arith}
 use Rattle.std.specs.List.{list_any}
 use Rattle.std.specs.Result.{IfOk}
 use Rattle.std.proofs.lemmas.Bool.{cases_eq}
 use Rattle.std.proofs.lemmas.Bool.Decides.{same_from_decides}
 use Rattle.std.proofs.lemmas.List.Folds.{list_any-append}
-use Rattle.sm_num.specs.declared.error.NumError.{NumError}
 use Rattle.sm_num.specs.Forms.{Linear, coefficient, IsKept}
 use Rattle.sm_num.specs.FormLaws.{same_atom}
 use Rattle.sm_num.specs.Eliminating.{eliminated}
 use Rattle.sm_num.specs.Errors.{Returns}
+use Rattle.sm_num.specs.declared.error.NumError.{NumError}
 use Rattle.sm_num.proofs.KeptLemmas.{eliminated_takes_atom, eliminated_adds_no_atom}
 use Rattle.sm_fm.specs.Elimination.{same_form}
 use Rattle.sm_fm.specs.declared.known.Known.{Known}

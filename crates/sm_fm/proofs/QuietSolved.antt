@@ -8,8 +8,9 @@ use Rattle.sm_fm.specs.Elimination.{Placed, has_atom, pairs, forms_without, take
 use Rattle.sm_fm.specs.Solutions.{EachForm, HoldsOver, AreBelow, IsGiven, AreQuiet, QuietHasSolution}
 use Rattle.sm_fm.proofs.MembershipLemmas.{IsIn, in_filter, from_pairs}
 use Rattle.sm_fm.proofs.ValueLemmas.{partless_holds}
-use Rattle.sm_fm.proofs.BackSubstitution.{SolutionOf, AreApart, not_true, atom_solves}
+use Rattle.sm_fm.proofs.BackSubstitution.{SolutionOf, AreApart, atom_solves}
 use Rattle.sm_fm.proofs.SummedLemmas.{IsSane, IsState, AreSummed, summed, state_without}
+use Rattle.sm_lemmas.proofs.Tests.{not_true}
 
 -- forms over no atom have any solution
 none_left : (t atoms : ℕ) (forms : List Placed) (count : ℕ) → t ≡ atoms → IsState t atoms forms count → SolutionOf forms

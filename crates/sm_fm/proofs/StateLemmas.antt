@@ -1,8 +1,6 @@
 -- What is left of a state as it goes on.
-use Rattle.std.proofs.Common.{◌≡◌, ◌<◌, ◌-◌, ℕ, zero, suc, IsTrue}
-use Rattle.std.proofs.Common.{Some, List, [], ◌∷◌, ◌++◌, map, length, get_or}
-use Rattle.std.proofs.Common.{refl, sym, ap, subst, ◌∙◌, arith}
-use Rattle.std.specs.List.{All, slice_get}
+use Rattle.std.proofs.Common.{◌≡◌, ◌<◌, ◌-◌, ℕ, zero, suc, IsTrue, List, [], ◌∷◌, ◌++◌, map, length, sym, ap, subst, ◌∙◌, arith}
+use Rattle.std.specs.List.{All}
 use Rattle.std.proofs.lemmas.List.{length_push}
 use Rattle.std.proofs.lemmas.List.Elements.{All-weaker}
 use Rattle.sm_num.specs.Forms.{Linear}
@@ -90,9 +88,3 @@ module _ (forms : List (Linear ℕ)) (h : Linear ℕ) where
       (both_stay atoms t ps all)
       ∙ ap (λ (n : ℕ). after_sum forms t more ps (standing more_forms t) n) grown
       ∙ ap (λ (l : List Placed). after_sum forms t more ps l (suc (length forms))) (standing_grows forms h t (told_lacks t h lacks))
-
--- the element at a place
-pub slice_get_is : {A : Type 0} (xs : List A) (n : ℕ) (d : A) → n < length xs → slice_get xs n ≡ Some (get_or xs n d)
-slice_get_is [] n d lt = absurd (omega arith)
-slice_get_is (x ∷ xs) zero d lt = refl
-slice_get_is (x ∷ xs) (suc n) d lt = slice_get_is xs n d (omega arith)

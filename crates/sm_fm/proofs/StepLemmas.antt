@@ -1,6 +1,5 @@
 -- What a step gives, by how the sum of its pair was dealt with.
-use Rattle.std.proofs.Common.{◌≡◌, ℕ, Some, List, [], ◌∷◌, ◌++◌, Result, Ok, Err, if◌then◌else◌}
-use Rattle.std.proofs.Common.{sym, ap, ◌∙◌}
+use Rattle.std.proofs.Common.{◌≡◌, ℕ, Some, List, [], ◌∷◌, ◌++◌, Result, Ok, Err, if◌then◌else◌, sym, ap, ◌∙◌}
 use Rattle.std.specs.List.{slice_get}
 use Rattle.sm_num.specs.declared.error.NumError.{NumError}
 use Rattle.sm_num.specs.declared.error.NumError.TheVariants.{Beyond, Memory}
@@ -14,7 +13,7 @@ use Rattle.sm_fm.specs.Elimination.{Cancels}
 use Rattle.sm_fm.specs.Places.{no_form, form_at}
 use Rattle.sm_fm.specs.Taking.{Taking, Gives}
 use Rattle.sm_fm.specs.States.{events_left, events_of_sum, taking, TakesPair, Finishes}
-use Rattle.sm_fm.proofs.StateLemmas.{slice_get_is}
+use Rattle.std.proofs.lemmas.Option.{slice_get-get_or}
 
 -- the sum of the first pair is the next event
 pub gives_sum : (old mid new : State) (p : ℕ × ℕ) (atom : TermId) (result : Result ElimStep NumError) → TakesPair old mid p →
@@ -32,10 +31,10 @@ gives_sum old mid new p atom (Ok (Line f g t kept contradiction)) takes is done 
       atom_is = ap (λ (l : List TermId). slice_get l mid.atom) (sym takes.atoms_are) ∙ is ∙ ap Some (sym done.2.2);
       first_is =
           ap (slice_get old.forms.items) done.2.0 ∙ ap (λ (l : List (Linear ℕ)). slice_get l p.0) (sym takes.forms_are)
-          ∙ slice_get_is mid.forms.items p.0 no_form takes.pair.pair.first;
+          ∙ slice_get-get_or mid.forms.items p.0 no_form takes.pair.pair.first;
       second_is =
           ap (slice_get old.forms.items) done.2.1 ∙ ap (λ (l : List (Linear ℕ)). slice_get l p.1) (sym takes.forms_are)
-          ∙ slice_get_is mid.forms.items p.1 no_form takes.pair.pair.second;
+          ∙ slice_get-get_or mid.forms.items p.1 no_form takes.pair.pair.second;
       cancels = takes.pair.pair.cancels;
       sum_is = done.1;
       contradiction_is = settled.contradiction_is;

@@ -4,9 +4,9 @@ use Rattle.std.specs.List.{list_any}
 use Rattle.std.specs.Ordering.{int_eq}
 use Rattle.std.proofs.lemmas.Bool.{eqb-true, eqb-false, and_parts}
 use Rattle.std.proofs.lemmas.Bool.Decides.{Decides-int_eq}
+use Rattle.sm_num.specs.Forms.{Linear, IsKept, coefficient}
 use Rattle.sm_num.specs.declared.kind.Kind.{Kind}
 use Rattle.sm_num.specs.declared.kind.Kind.TheVariants.{Le, Eq}
-use Rattle.sm_num.specs.Forms.{Linear, IsKept, coefficient}
 use Rattle.sm_num.specs.FormLaws.{same_atom}
 use Rattle.sm_num.specs.Combining.{Outcome, Fits, Leaves}
 use Rattle.sm_num.specs.Eliminating.{eliminated}
@@ -19,7 +19,8 @@ use Rattle.sm_fm.specs.Elimination.{Placed, Cancels, same_list, same_kind, same_
 use Rattle.sm_fm.specs.Solutions.{HoldsOver, AreQuiet}
 use Rattle.sm_fm.proofs.MembershipLemmas.{IsIn, from_filter, in_first, in_second, from_both, some_passes}
 use Rattle.sm_fm.proofs.ValueLemmas.{partless_holds}
-use Rattle.sm_fm.proofs.BackSubstitution.{AreApart, none_there, not_true}
+use Rattle.sm_fm.proofs.BackSubstitution.{AreApart, none_there}
+use Rattle.sm_lemmas.proofs.Tests.{not_true}
 
 -- equal tests, equal forms
 same_list_is : (ps qs : List (ℕ × ℤ)) → same_list ps qs ≡ true → ps ≡ qs

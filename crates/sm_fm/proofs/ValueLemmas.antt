@@ -5,9 +5,9 @@ use Rattle.std.specs.Ordering.{int_eq}
 use Rattle.std.proofs.lemmas.Bool.{ltb-false}
 use Rattle.std.proofs.lemmas.Bool.Decides.{Decides-int_eq}
 use lib.IntN.{*ℤ_comm}
+use Rattle.sm_num.specs.Forms.{Linear, Satisfies, sum_of_parts, coefficient, parts_without, without}
 use Rattle.sm_num.specs.declared.kind.Kind.{Kind}
 use Rattle.sm_num.specs.declared.kind.Kind.TheVariants.{Le, Eq}
-use Rattle.sm_num.specs.Forms.{Linear, Satisfies, sum_of_parts, coefficient, parts_without, without}
 use Rattle.sm_num.specs.FormLaws.{same_atom}
 use Rattle.sm_num.specs.Combining.{Fits}
 use Rattle.sm_num.specs.Eliminating.{multipliers, kind_of_sum, eliminated}

@@ -1,6 +1,5 @@
 -- The pairs in which an atom cancels are those of the forms that have it.
-use Rattle.std.proofs.Common.{◌≡◌, ◌==◌, ℕ, ℤ, pos, negsuc, Bool, true, false, not, cond, ◌&&◌, Option, Some, None, List, [], ◌∷◌, map}
-use Rattle.std.proofs.Common.{refl, ap, ◌∙◌}
+use Rattle.std.proofs.Common.{◌≡◌, ◌==◌, ℕ, ℤ, pos, negsuc, Bool, true, false, not, cond, ◌&&◌, Option, Some, None, List, [], ◌∷◌, map, refl, ap, ◌∙◌}
 use Rattle.std.specs.List.{filter, find}
 use Rattle.std.specs.Ordering.{int_eq}
 use Rattle.sm_num.specs.Eliminating.{is_equation, is_negative}
@@ -34,7 +33,7 @@ module _ (test wide : Placed → Bool) (more : (f : Placed) → test f ≡ true 
       by false false is here rest = rest
 
 -- a number below 0 isn't 0
-below_some : (z : ℤ) → is_negative z ≡ true → not (int_eq z (pos 0)) ≡ true
+pub below_some : (z : ℤ) → is_negative z ≡ true → not (int_eq z (pos 0)) ≡ true
 below_some (pos n) e = absurd cc
 below_some (negsuc n) e = refl
 

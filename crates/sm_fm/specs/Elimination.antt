@@ -1,16 +1,14 @@
 -- Cited by public clauses: how atoms are taken out of linear forms, one after the other, in the
 -- order of a list. An atom's number is its place there.
-use Rattle.std.specs.Prelude.{ℕ, zero, suc, ◌==◌, ℤ, pos}
-use Rattle.std.specs.Prelude.{Bool, true, false, ◌&&◌, not, if◌then◌else◌}
-use Rattle.std.specs.Prelude.{Option, Some, None, List, [], ◌∷◌, ◌++◌, map, length}
+use Rattle.std.specs.Prelude.{ℕ, zero, suc, ◌==◌, ℤ, pos, Bool, true, false, ◌&&◌, not, if◌then◌else◌, Option, Some, None, List, [], ◌∷◌, ◌++◌, map, length}
 use Rattle.std.specs.List.{filter, find, list_any}
 use Rattle.std.specs.Ordering.{int_eq}
-use Rattle.sm_num.specs.declared.op.Op.{Op}
+use Rattle.sm_num.specs.Forms.{Linear, coefficient}
 use Rattle.sm_num.specs.declared.kind.Kind.{Kind}
 use Rattle.sm_num.specs.declared.kind.Kind.TheVariants.{Le, Eq}
-use Rattle.sm_num.specs.Forms.{Linear, coefficient}
 use Rattle.sm_num.specs.FormLaws.{same_atom}
 use Rattle.sm_num.specs.Combining.{Outcome, Fits, Leaves}
+use Rattle.sm_num.specs.declared.op.Op.{Op}
 use Rattle.sm_num.specs.Eliminating.{is_equation, is_negative, eliminated}
 use Rattle.sm_num.specs.Tightening.{has_no_part, is_contradictory}
 

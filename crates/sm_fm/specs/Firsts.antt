@@ -1,6 +1,5 @@
 -- Private: the forms that stand, the atoms with which they begin, and their places by these.
-use Rattle.std.specs.Prelude.{◌≡◌, ◌<◌, ℕ, zero, suc, ◌==◌, pos, Bool, true, ◌&&◌, not}
-use Rattle.std.specs.Prelude.{List, [], ◌∷◌, ◌++◌, map, length, get_or, set, Vec}
+use Rattle.std.specs.Prelude.{◌≡◌, ◌<◌, ℕ, zero, suc, ◌==◌, pos, Bool, true, ◌&&◌, not, List, [], ◌∷◌, ◌++◌, map, length, get_or, set, Vec}
 use Rattle.std.specs.List.{filter, range_with_len}
 use Rattle.std.specs.Ordering.{int_eq}
 use Rattle.std.specs.declared.alloc.Global.{Global}

@@ -1,12 +1,11 @@
 -- Private: two forms are the same where they are equal, so they are found alike.
-use Rattle.std.proofs.Common.{◌≡◌, ◌==◌, ◌&&◌, ℕ, ℤ, true, List, [], ◌∷◌, ◌++◌}
-use Rattle.std.proofs.Common.{refl, ap}
+use Rattle.std.proofs.Common.{◌≡◌, ◌==◌, ◌&&◌, ℕ, ℤ, true, List, [], ◌∷◌, ◌++◌, refl, ap}
 use Rattle.std.specs.Ordering.{int_eq}
 use Rattle.std.specs.Bool.{Decides}
 use Rattle.std.proofs.lemmas.Bool.Decides.{Decides-and, Decides-eqb, Decides-int_eq}
+use Rattle.sm_num.specs.Forms.{Linear}
 use Rattle.sm_num.specs.declared.kind.Kind.{Kind}
 use Rattle.sm_num.specs.declared.kind.Kind.TheVariants.{Le, Eq}
-use Rattle.sm_num.specs.Forms.{Linear}
 use Rattle.sm_fm.specs.Elimination.{same_list, same_kind, same_form}
 use Rattle.std.specs.Cmp.{IsEquivalence}
 use Rattle.sm_term.specs.RowLaws.{equivalence_by}

@@ -1,9 +1,8 @@
 -- Private: forms by their places in one list, and the pairs of them that are left.
-use Rattle.std.specs.Prelude.{◌<◌, ℕ, ◌==◌, pos, Bool, ◌&&◌, not, IsTrue}
-use Rattle.std.specs.Prelude.{Option, Some, None, List, [], ◌∷◌, ◌++◌, map, length}
+use Rattle.std.specs.Prelude.{◌<◌, ℕ, ◌==◌, pos, Bool, ◌&&◌, not, IsTrue, Option, Some, None, List, [], ◌∷◌, ◌++◌, map, length}
 use Rattle.std.specs.List.{filter, find, slice_index_or, All}
-use Rattle.sm_num.specs.declared.kind.Kind.TheVariants.{Le}
 use Rattle.sm_num.specs.Forms.{Linear}
+use Rattle.sm_num.specs.declared.kind.Kind.TheVariants.{Le}
 use Rattle.sm_num.specs.FormLaws.{same_atom}
 use Rattle.sm_num.specs.Eliminating.{can_cancel}
 use Rattle.sm_fm.specs.declared.roles.Role.{Role}

@@ -1,6 +1,5 @@
 -- Private: the state of an elimination, and what is left to happen from there.
-use Rattle.std.specs.Prelude.{◌≡◌, ◌<◌, ◌+◌, ℕ, suc, pos, Bool, if◌then◌else◌, List, [], ◌∷◌}
-use Rattle.std.specs.Prelude.{◌++◌, map, length, Result, Ok, Err}
+use Rattle.std.specs.Prelude.{◌≡◌, ◌<◌, ◌+◌, ℕ, suc, pos, Bool, if◌then◌else◌, List, [], ◌∷◌, ◌++◌, map, length, Result, Ok, Err}
 use Rattle.std.specs.List.{All}
 use Rattle.sm_num.specs.Forms.{Linear, coefficient}
 use Rattle.sm_num.specs.FormLaws.{same_atom}

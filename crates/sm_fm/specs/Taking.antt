@@ -1,6 +1,5 @@
 -- Cited by public clauses: what an elimination is seen as, and what a step of it gives.
-use Rattle.std.specs.Prelude.{◌≡◌, ℕ, Bool, IsTrue, if◌then◌else◌, Some, List, [], ◌∷◌, ◌++◌}
-use Rattle.std.specs.Prelude.{length, Result, Ok, Err, slice_get}
+use Rattle.std.specs.Prelude.{◌≡◌, ℕ, Bool, IsTrue, if◌then◌else◌, Some, List, [], ◌∷◌, ◌++◌, length, Result, Ok, Err, slice_get}
 use Rattle.sm_num.specs.declared.error.NumError.{NumError}
 use Rattle.sm_num.specs.declared.error.NumError.TheVariants.{Beyond, Memory}
 use Rattle.sm_num.specs.Forms.{Linear}

@@ -1,11 +1,9 @@
 // The roles that forms play where an atom is taken out.
-ghost use Rattle.std.specs.Prelude.{◌≡◌, if◌then◌else◌, Some, None, [], ◌∷◌, ◌++◌, length};
-ghost use Rattle.std.specs.Prelude.{IfOk, OnOk};
+ghost use Rattle.std.specs.Prelude.{◌≡◌, if◌then◌else◌, Some, None, [], ◌∷◌, ◌++◌, length, IfOk, OnOk};
 ghost use Rattle.sm_num.specs.Forms.{coefficient};
 ghost use Rattle.sm_num.specs.FormLaws.{same_atom};
 ghost use Rattle.sm_fm.specs.Elimination.{is_pivot};
-ghost use Rattle.sm_fm.specs.Places.{plays, places_of, pivot_place, AreWithin};
-ghost use Rattle.sm_fm.specs.Places.{place_pairs_with, place_pairs};
+ghost use Rattle.sm_fm.specs.Places.{plays, places_of, pivot_place, AreWithin, place_pairs_with, place_pairs};
 
 use crate::pairs::Pairs;
 use sm_num::{Kind, LinForm};

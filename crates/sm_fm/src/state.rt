@@ -1,6 +1,5 @@
 // The state of an elimination, and its steps.
-ghost use Rattle.std.specs.Prelude.{◌≡◌, ◌≢◌, ◌<◌, ℕ, suc, [], length};
-ghost use Rattle.std.specs.Prelude.{IfOk, IfErr, OnOk};
+ghost use Rattle.std.specs.Prelude.{◌≡◌, ◌≢◌, ◌<◌, ℕ, suc, [], length, IfOk, IfErr, OnOk};
 ghost use Rattle.sm_num.specs.declared.error.NumError.TheVariants.{Memory};
 ghost use Rattle.sm_num.specs.Forms.{Linear};
 ghost use Rattle.sm_num.specs.Combining.{Outcome};
@@ -9,8 +8,7 @@ ghost use Rattle.sm_fm.specs.declared.step.ElimStep.TheVariants as step;
 ghost use Rattle.sm_fm.specs.Elimination.{events, is_new};
 ghost use Rattle.sm_fm.specs.Firsts.{standing};
 ghost use Rattle.sm_fm.specs.Taking.{Gives};
-ghost use Rattle.sm_fm.specs.States.{events_left, taking, stopped, with_form, Lacks, IsSound};
-ghost use Rattle.sm_fm.specs.States.{TakesPair, Settles, Finishes};
+ghost use Rattle.sm_fm.specs.States.{events_left, taking, stopped, with_form, Lacks, IsSound, TakesPair, Settles, Finishes};
 
 use crate::entry::enter;
 use crate::firsts::{list_firsts, next_atom};

@@ -1,19 +1,19 @@
 -- Where a text is cut before one of its tokens, its front has the tokens before, whatever stands on a line behind it.
-use Rattle.std.proofs.Common.{◌≡◌, ℕ, suc, ◌+◌, ◌<◌, Bool, true, false, true≢false, Option, Some, None, is_some, option_map, List, [], ◌∷◌, ◌++◌, length}
-use Rattle.std.proofs.Common.{length-append, append_assoc, append-nil, if◌then◌else◌, refl, sym, ap, subst, ◌∙◌, arith}
+use Rattle.std.proofs.Common.{◌≡◌, ℕ, ◌+◌, ◌<◌, Bool, true, false, true≢false, Option, Some, None, is_some, option_map, List, [], ◌∷◌, ◌++◌, length, length-append, append_assoc, if◌then◌else◌, refl, sym, ap, subst, ◌∙◌, arith}
 use Rattle.std.proofs.lemmas.Slice.Eq.{bytes_eq-Decides}
 use Rattle.std.specs.List.{find, list_all}
 use Rattle.std.specs.Str.{bytes_eq}
 use Rattle.sm_syntax.specs.declared.symbol.Mark.{Mark}
-use Rattle.sm_syntax.specs.declared.token.LexFault.{LexFault}
-use Rattle.sm_syntax.specs.declared.token.Token.{Token}
+use Rattle.sm_syntax.specs.text.Tokens.{Table, entry, signs, lexed, mark_of_sign, is_in_line, is_word_byte}
 use Rattle.sm_syntax.specs.declared.token.TokenKind.{TokenKind}
 use Rattle.sm_syntax.specs.declared.token.TokenKind.TheVariants.{Word, Number, Sign}
-use Rattle.sm_syntax.specs.text.Tokens.{Table, entry, signs, lexed, mark_of_sign, is_in_line, is_word_byte, is_word_start}
+use Rattle.sm_syntax.specs.declared.token.Token.{Token}
+use Rattle.sm_syntax.specs.declared.token.LexFault.{LexFault}
 use Rattle.sm_text.specs.lexing.Cutting.{begins, IsToken, Ends, IsCutInto, end, space, comment, token, fault}
 use Rattle.sm_text.proofs.Cut.Exact.{tokens_are_cut}
 use Rattle.sm_text.proofs.Cut.Standing.{is_sign_text, sign_text}
 use Rattle.sm_text.proofs.RoundTrip.PieceTokens.{both-left, both-right}
+use Rattle.std.proofs.lemmas.Bool.{false_from_ne_true}
 
 -- nothing, or what begins with a line feed
 pub data IsApart : List ℕ → Type 0 where
@@ -53,10 +53,6 @@ feed_in_line : (text rest : List ℕ) → list_all is_in_line (text ++ 10 ∷ re
 feed_in_line [] rest h = true≢false (sym h)
 feed_in_line (b ∷ text) rest h = feed_in_line text rest (both-right (is_in_line b) (list_all is_in_line (text ++ 10 ∷ rest)) h)
 
-false_or : (b : Bool) → (b ≡ true → ⊥) → b ≡ false
-false_or true isnt = absurd (isnt refl)
-false_or false isnt = refl
-
 -- none has three bytes
 three_bytes : (text : List ℕ) (x y : ℕ) (rest : List ℕ) → 0 < length text → is_sign_text (text ++ x ∷ y ∷ rest) ≡ true → ⊥
 three_bytes [] x y rest some h = omega (arith, some)
@@ -73,7 +69,7 @@ sign_still text x behind other some h [] rest e more = absurd (omega (arith, mor
 sign_still text x behind other some h (y ∷ []) rest e more =
     subst (λ (z : ℕ). is_some (mark_of_sign (text ++ z ∷ [])) ≡ false) (head_same x y other rest e) (h (x ∷ []) behind refl (omega arith))
 sign_still text x behind other some h (y ∷ z ∷ m) rest e more =
-    false_or (is_some (mark_of_sign (text ++ y ∷ z ∷ m)))
+    false_from_ne_true (is_some (mark_of_sign (text ++ y ∷ z ∷ m)))
     (λ is. three_bytes text y z m some (sign_text (text ++ y ∷ z ∷ m) is))
 
 pub sign_apart : (text c : List ℕ) → IsApart c → Ends Sign text c
@@ -81,7 +77,7 @@ sign_apart text _ nothing [] rest e more = absurd (omega (arith, more))
 sign_apart text _ nothing (y ∷ m) rest e more = absurd (omega (arith, ap length e))
 sign_apart text _ (line c) [] rest e more = absurd (omega (arith, more))
 sign_apart text _ (line c) (y ∷ m) rest e more =
-    false_or (is_some (mark_of_sign (text ++ y ∷ m)))
+    false_from_ne_true (is_some (mark_of_sign (text ++ y ∷ m)))
     (λ is. feed_in_line text m (subst (λ (z : ℕ). list_all is_in_line (text ++ z ∷ m) ≡ true) (sym (head_same 10 y c (m ++ rest) e))
     (sign_in_line (text ++ y ∷ m) is)))
 
@@ -135,10 +131,10 @@ none_before : (before after : List Token) → [] ≡ before ++ after → (before
 none_before [] after e = (refl, sym e)
 none_before (b ∷ before) after e = absurd (omega (arith, ap length e))
 
-token_head : (t u : Token) (ts us : List Token) → (t ∷ ts) ≡ u ∷ us → t ≡ u
+pub token_head : (t u : Token) (ts us : List Token) → (t ∷ ts) ≡ u ∷ us → t ≡ u
 token_head t u ts us e = cc
 
-token_tail : (t u : Token) (ts us : List Token) → (t ∷ ts) ≡ u ∷ us → ts ≡ us
+pub token_tail : (t u : Token) (ts us : List Token) → (t ∷ ts) ≡ u ∷ us → ts ≡ us
 token_tail t u ts us e = cc
 
 -- where no bytes are left, or a fault stands

@@ -1,18 +1,17 @@
 -- What the reading of a text tells of whether some task begins with it, or is it.
-use Rattle.std.proofs.Common.{◌≡◌, ℕ, ◌<◌, ◌==◌, Bool, true, false, true≢false, Option, Some, None, List, [], ◌∷◌, ◌++◌, length, map}
-use Rattle.std.proofs.Common.{append_assoc, append-nil, eq-eqb, eqb-true, refl, sym, ap, subst, ◌∙◌, arith}
+use Rattle.std.proofs.Common.{◌≡◌, ℕ, ◌<◌, ◌==◌, Bool, true, false, true≢false, Option, Some, None, List, [], ◌∷◌, ◌++◌, length, map, append_assoc, append-nil, eq-eqb, eqb-true, refl, sym, ap, subst, ◌∙◌, arith}
 use Rattle.std.specs.Prelude.{Decides}
-use Rattle.sm_syntax.specs.declared.symbol.Symbol.{Symbol}
-use Rattle.sm_syntax.specs.declared.token.LexFault.{LexFault}
-use Rattle.sm_syntax.specs.declared.token.Token.{Token}
 use Rattle.sm_syntax.specs.text.MarkedSymbols.{plain}
+use Rattle.sm_syntax.specs.declared.symbol.Symbol.{Symbol}
 use Rattle.sm_syntax.specs.text.Parts.{Parts}
 use Rattle.sm_syntax.specs.text.Spells.{IsInGrammar}
 use Rattle.sm_syntax.specs.text.Symbols.{names_of, symbol_of, symbols_of}
 use Rattle.sm_syntax.specs.text.Tokens.{lexed}
-use Rattle.sm_text.specs.declared.error.TextError.{TextError}
+use Rattle.sm_syntax.specs.declared.token.Token.{Token}
+use Rattle.sm_syntax.specs.declared.token.LexFault.{LexFault}
 use Rattle.sm_text.specs.declared.error.TextError.TheVariants as error
 use Rattle.sm_text.specs.parsing.Places.{AreTasks, IsFault, IsFirstFault, IsUnexpected, IsViable, IsWhole, Stands, at_token, at_end}
+use Rattle.sm_text.specs.declared.error.TextError.{TextError}
 use Rattle.sm_text.specs.parsing.Places.Sources.{all_symbols, whole_text}
 use Rattle.sm_text.proofs.Complete.Parsers.{unmarked-plain}
 use Rattle.sm_text.proofs.FirstFault.Ordered.{Ascends, before_end, behind-ascends, lexed-ascends, map-append, symbols-map}

@@ -1,6 +1,5 @@
 -- The line of what could stand behind a text: kind by kind, and that there is one.
-use Rattle.std.proofs.Common.{◌≡◌, ℕ, ◌+◌, ◌<◌, ◌≤◌, Bool, true, false, true≢false, List, [], ◌∷◌, ◌++◌, length, take, get_or, codes}
-use Rattle.std.proofs.Common.{append_assoc, append-nil, take_all, refl, sym, ap, subst, ◌∙◌}
+use Rattle.std.proofs.Common.{◌≡◌, ℕ, ◌+◌, ◌<◌, ◌≤◌, Bool, true, false, true≢false, List, [], ◌∷◌, ◌++◌, length, take, get_or, codes, append_assoc, append-nil, take_all, refl, sym, ap, subst, ◌∙◌}
 use Rattle.std.proofs.lemmas.List.{take_more}
 use Rattle.sm_follow.specs.Following.{could, could_not, none, AreThose, CouldStand, IsFollowLine}
 use Rattle.sm_follow.specs.Kinds.{kinds, shown}

@@ -1,15 +1,13 @@
 -- A token on a line of its own is cut whole, and what is known of a text that ends with one.
-use Rattle.std.proofs.Common.{◌≡◌, ◌≢◌, ℕ, ◌+◌, ◌<◌, ◌≤◌, ◌^◌, true, false, nat_le, nat_lt, None, List, [], ◌∷◌, ◌++◌, length, append-nil, codes}
-use Rattle.std.proofs.Common.{refl, sym, subst, ◌∙◌, arith}
-use Rattle.std.proofs.lemmas.Bool.Decides.{nat_tests}
+use Rattle.std.proofs.Common.{◌≡◌, ℕ, ◌+◌, ◌^◌, true, false, nat_le, None, List, [], ◌∷◌, ◌++◌, length, append-nil, codes, refl, sym, subst, ◌∙◌}
 use Rattle.std.specs.List.{list_all}
 use Rattle.std.specs.Str.Parse.{digits_value}
 use Rattle.sm_syntax.specs.declared.symbol.Mark.{Mark}
 use Rattle.sm_syntax.specs.declared.symbol.Mark.TheVariants as mark
-use Rattle.sm_syntax.specs.declared.token.Token.{Token}
+use Rattle.sm_syntax.specs.text.Tokens.{is_word_byte, is_word_start, mark_of_sign, signs}
 use Rattle.sm_syntax.specs.declared.token.TokenKind.{TokenKind}
 use Rattle.sm_syntax.specs.declared.token.TokenKind.TheVariants.{Word, Number, Sign}
-use Rattle.sm_syntax.specs.text.Tokens.{is_word_byte, is_word_start, mark_of_sign, signs}
+use Rattle.sm_syntax.specs.declared.token.Token.{Token}
 use Rattle.sm_text.specs.lexing.Cutting.{begins, IsToken, Ends, IsCutInto, end, space, token}
 use Rattle.sm_text.specs.printing.Pieces.{spelling}
 use Rattle.sm_text.proofs.RoundTrip.PieceTokens.{mark_kind}
@@ -19,15 +17,10 @@ use Rattle.sm_follow.specs.Views.{NestsLast, NestsNowhere}
 use Rattle.sm_follow.specs.declared.kinds.Kind.TheVariants as kind
 use Rattle.sm_follow.proofs.Fronts.{nothing, line, sign_apart}
 use Rattle.sm_follow.proofs.Reached.{front_taken, last_nests, lexed_longer, nowhere}
-
-below : (a b : ℕ) → nat_lt a b ≡ true → a < b
-below a b h = grind (arith, nat_tests)
-
-within : (a b : ℕ) → nat_le a b ≡ true → a ≤ b
-within a b h = grind (arith, nat_tests)
+use Rattle.sm_lemmas.proofs.Tests.{le_from_test, lt_from_test}
 
 word_token : (w : List ℕ) → begins is_word_start w ≡ true → list_all is_word_byte w ≡ true → nat_le (length w) 64 ≡ true → IsToken Word w
-word_token w start all short = (record { start = start; bytes = all }, within (length w) 64 short)
+word_token w start all short = (record { start = start; bytes = all }, le_from_test (length w) 64 short)
 
 -- a reserved word or a sign is a token
 mark_token : (m : Mark) → IsToken (mark_kind m) (spelling m)
@@ -72,7 +65,7 @@ mark_token mark.Either = refl
 
 number_token : IsToken Number (codes "1")
 number_token =
-    (record { some = below 0 (length (codes "1")) refl; digits = refl }, below (digits_value 10 (codes "1")) (2 ^ 127) refl)
+    (record { some = lt_from_test 0 (length (codes "1")) refl; digits = refl }, lt_from_test (digits_value 10 (codes "1")) (2 ^ 127) refl)
 
 -- nothing goes on with a token at the end
 ends_there : (kind : TokenKind) (w : List ℕ) → Ends kind w []

@@ -3,8 +3,8 @@
 use Rattle.std.specs.Prelude.{◌≡◌, ℕ, None, List, [], ◌∷◌, ◌++◌, take, codes}
 use Rattle.sm_syntax.specs.text.Symbols.{symbols_of}
 use Rattle.sm_syntax.specs.text.Tokens.{lexed}
-use Rattle.sm_text.specs.declared.error.TextError.{TextError}
 use Rattle.sm_text.specs.parsing.Places.{place_of, AreTasks, IsFirstFault, IsViable, IsWhole}
+use Rattle.sm_text.specs.declared.error.TextError.{TextError}
 use Rattle.sm_text.specs.parsing.Places.Sources.{whole_text}
 use Rattle.sm_follow.specs.Kinds.{kinds, sample, shown}
 use Rattle.sm_follow.specs.declared.kinds.Kind.{Kind}

@@ -2,8 +2,7 @@
 ghost use Rattle.std.specs.Prelude.{◌<◌, ◌^◌, [], ◌∷◌, Decides, length, IfOk, OnOk};
 ghost use Rattle.sm_text.specs.parsing.Places.{AreTasks, IsRefusal};
 ghost use Rattle.sm_text.specs.parsing.Places.Sources.{whole_text};
-ghost use Rattle.sm_follow.specs.Following.{AreThose, CouldStand, EndsAtFault, IsBegun};
-ghost use Rattle.sm_follow.specs.Following.{IsComplete, IsFollowLine, behind_line};
+ghost use Rattle.sm_follow.specs.Following.{AreThose, CouldStand, EndsAtFault, IsBegun, IsComplete, IsFollowLine, behind_line};
 ghost use Rattle.sm_follow.specs.Kinds.{kinds, sample};
 ghost use Rattle.sm_follow.specs.Views.{Grows, NestsLast, NestsNowhere};
 

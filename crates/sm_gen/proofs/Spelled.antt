@@ -1,6 +1,5 @@
 -- The canonical text of a task that is made up spells it.
-use Rattle.std.proofs.Common.{◌≡◌, ℕ, zero, suc, pos, ◌+◌, ◌<◌, ◌≤◌, ◌^◌, Bool, true, false, ◌&&◌, List, [], ◌∷◌, ◌++◌}
-use Rattle.std.proofs.Common.{map, unwrap_or, slice_get, Option, refl, sym, ap, ap₂, ◌∙◌, subst, arith, lit<}
+use Rattle.std.proofs.Common.{◌≡◌, ℕ, zero, suc, pos, ◌+◌, ◌<◌, ◌≤◌, ◌^◌, Bool, true, false, ◌&&◌, List, [], ◌∷◌, ◌++◌, map, unwrap_or, slice_get, Option, refl, sym, ap, ap₂, ◌∙◌, subst, arith, lit<}
 use Rattle.std.proofs.lemmas.Bool.Decides.{nat_tests}
 use Rattle.std.proofs.lemmas.Fmt.{decimal_is_IsNumeral, length-decimal-le}
 use Rattle.std.proofs.lemmas.Str.Parse.{digit_from_value}
@@ -9,10 +8,10 @@ use Rattle.std.specs.List.{range_with_len, list_all, position_or_len, AllByRecur
 use Rattle.std.specs.Str.{bytes_eq}
 use Rattle.std.specs.Str.Parse.{AllDigits}
 use Rattle.sm_syntax.specs.claim.ConflictFree.{Copy, O, A, B, M}
-use Rattle.sm_syntax.specs.declared.symbol.Symbol.{Symbol}
 use Rattle.sm_syntax.specs.declared.symbol.Symbol.TheVariants as s
 use Rattle.sm_syntax.specs.declared.tree.Sort.TheVariants.{Num}
 use Rattle.sm_syntax.specs.text.MarkedSymbols.{plain}
+use Rattle.sm_syntax.specs.declared.symbol.Symbol.{Symbol}
 use Rattle.sm_syntax.specs.text.Parts.{Parts}
 use Rattle.sm_syntax.specs.text.Symbols.{is_among, with_text}
 use Rattle.sm_syntax.specs.text.TaskGrammar.{with_sort, IsTask}
@@ -22,8 +21,7 @@ use Rattle.sm_text.specs.printing.Canonical.{task_pieces}
 use Rattle.sm_text.specs.printing.Named.{HasText}
 use Rattle.sm_text.specs.printing.Pieces.{pieces_text}
 use Rattle.sm_text.proofs.RoundTrip.CodeSpelled.{Fits, IsPrintable}
-use Rattle.sm_text.proofs.RoundTrip.Content.{content_of, content_used, content_listed, content_declared, content_filled, content_of_lists}
-use Rattle.sm_text.proofs.RoundTrip.Content.{content_of_task, task_content}
+use Rattle.sm_text.proofs.RoundTrip.Content.{content_of, content_used, content_listed, content_declared, content_filled, content_of_lists, content_of_task, task_content}
 use Rattle.sm_text.proofs.RoundTrip.Spelled.{task_written}
 use Rattle.sm_text.proofs.RoundTrip.Symbols.{names_by, IsIn}
 use Rattle.sm_text.proofs.RoundTrip.TaskApart.{task_relexed}

@@ -1,13 +1,11 @@
 -- The task that a seed and a size make. Public clauses cite it.
 -- Each copy counts `i` up to `n`. Then it sets each of `x1`, `x2` and so on to `n`, or to `n` and a
 -- number where it has the edit of that hole.
-use Rattle.std.specs.Prelude.{ℕ, zero, suc, pos, ◌+◌, Bool, true, false, None, List, [], ◌∷◌, ◌++◌}
-use Rattle.std.specs.Prelude.{map, codes}
+use Rattle.std.specs.Prelude.{ℕ, zero, suc, pos, ◌+◌, Bool, true, false, None, List, [], ◌∷◌, ◌++◌, map, codes}
 use Rattle.std.specs.Fmt.{decimal}
 use Rattle.std.specs.List.{range_with_len}
 use Rattle.sm_syntax.specs.claim.ConflictFree.{Copy}
-use Rattle.sm_syntax.specs.claim.Syntax.{Expression, Lit, Var, Plus, Compare}
-use Rattle.sm_syntax.specs.claim.Syntax.{Code, End, Assign, While, Hole}
+use Rattle.sm_syntax.specs.claim.Syntax.{Expression, Lit, Var, Plus, Compare, Code, End, Assign, While, Hole}
 use Rattle.sm_syntax.specs.declared.tree.Cmp.TheVariants.{Lt}
 use Rattle.sm_syntax.specs.declared.tree.Sort.TheVariants.{Num}
 use Rattle.sm_syntax.specs.text.Parts.{Parts}

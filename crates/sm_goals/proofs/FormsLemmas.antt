@@ -3,9 +3,9 @@ use Rattle.std.proofs.Common.{◌≡◌, ℕ, zero, suc, ◌+◌, ◌<◌, Some,
 use Rattle.std.proofs.lemmas.List.{take_more, length-map, get_or-map}
 use Rattle.std.proofs.lemmas.Option.{same_Some}
 use Rattle.sm_syntax.specs.text.Sorts.{Sorts}
-use Rattle.sm_term.specs.declared.formula.Formula.{Formula}
 use Rattle.sm_term.specs.Assertions.{Assertion}
 use Rattle.sm_term.specs.Formulas.{NumberedFormula, numbered, assertion_in}
+use Rattle.sm_term.specs.declared.formula.Formula.{Formula}
 use Rattle.sm_term.specs.Sorted.{AreFormsSorted}
 use Rattle.sm_term.specs.Tables.{TableValue, trees_in, sorts_in}
 use Rattle.sm_term.specs.Terms.{Tree}
@@ -37,16 +37,6 @@ pub ready_found : (sorts : Sorts) (trees : List Tree) (fs : List Formula) (i : �
 ready_found sorts trees [] i f e r = absurd cc
 ready_found sorts trees (x ∷ fs) zero f e r = subst (IsFormReady sorts trees) (same_Some x f e) r.0
 ready_found sorts trees (x ∷ fs) (suc i) f e r = ready_found sorts trees fs i f e r.1
-
--- the formula at a place
-pub form_at : (sorts : Sorts) (trees : List Tree) (fs : List Formula) (i : ℕ) (f : Formula) → AreFormsReady sorts trees fs →
-    i < length fs → f ≡ get_or fs i f → IsFormReady sorts trees f
-form_at sorts trees fs i f ready h e = subst (IsFormReady sorts trees) (sym e) (go fs i ready h)
-  where
-    go : (fs : List Formula) (i : ℕ) → AreFormsReady sorts trees fs → i < length fs → IsFormReady sorts trees (get_or fs i f)
-    go [] i r l = absurd (let no : i < 0 = l in omega arith)
-    go (x ∷ xs) zero r l = r.0
-    go (x ∷ xs) (suc i) r l = let fewer : i < length xs = omega (arith, l) in go xs i r.1 fewer
 
 -- an equal list
 pub goals_ready : (v : TableValue) (asks given : List Formula) → given ≡ asks → AreFormsReady (sorts_in v) (trees_in v) asks →

@@ -9,8 +9,8 @@ use Rattle.sm_term.specs.TableLaws.{AddsTerms}
 use Rattle.sm_term.specs.Terms.{Tree}
 use Rattle.sm_plan.specs.ReadyStates.{AreFormsReady}
 use Rattle.sm_plan.proofs.TablesWiden as widened
-use Rattle.sm_expand.specs.declared.due.Due.{Due}
 use Rattle.sm_expand.specs.Views.{AreDuesReady}
+use Rattle.sm_expand.specs.declared.due.Due.{Due}
 use Rattle.sm_solve.specs.declared.fact_base.FactBase.{FactBase}
 use Rattle.sm_list.specs.Parts.{all_numbered, assertions_in}
 use Rattle.sm_solve.specs.Sharing.{IsFactBase}

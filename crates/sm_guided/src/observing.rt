@@ -1,11 +1,9 @@
 // Runs that are watched: they note the difference of each comparison in a guard.
 ghost use Rattle.std.specs.Prelude.{◌≡◌, OnOk};
 ghost use Rattle.sm_eval.specs.StoredValues.{sorts_of};
-ghost use Rattle.sm_syntax.specs.claim.Syntax.{End};
-ghost use Rattle.sm_syntax.specs.text.Sorts.{IsWellSorted, IsWellSortedExpression};
-ghost use Rattle.sm_syntax.specs.text.Sorts.{IsWellSortedCondition};
+ghost use Rattle.sm_syntax.specs.claim.Syntax.{End, Write};
+ghost use Rattle.sm_syntax.specs.text.Sorts.{IsWellSorted, IsWellSortedExpression, IsWellSortedCondition};
 ghost use Rattle.sm_syntax.specs.trees.Views.{expression_of, condition_of, statement_of, code_of};
-ghost use Rattle.sm_syntax.specs.claim.Syntax.{Write};
 
 use crate::halt::Leave;
 use crate::places::{Line, Outline, places_behind};

@@ -1,6 +1,5 @@
 -- Lists that stand in others, in any order or in the same one.
-use Rattle.std.proofs.Common.{◌≡◌, inl, inr, ℕ, zero, suc, ◌+◌, ◌==◌, Bool, true, false, ◌||◌, Option, Some, None}
-use Rattle.std.proofs.Common.{List, [], ◌∷◌, ◌++◌, length, slice_get, refl, sym, ap, ◌∙◌, subst}
+use Rattle.std.proofs.Common.{◌≡◌, inl, inr, ℕ, zero, suc, ◌+◌, ◌==◌, Bool, true, false, ◌||◌, Option, Some, None, List, [], ◌∷◌, ◌++◌, length, slice_get, refl, sym, ap, ◌∙◌, subst}
 use Rattle.std.specs.Prelude.{option_to_list}
 use Rattle.std.proofs.lemmas.Bool.Decides.{Decides-eqb}
 use Rattle.sm_syntax.specs.claim.ConflictFree.{Copy}
@@ -10,9 +9,11 @@ use Rattle.sm_term.specs.Slots.{at_stores, all_at_stores}
 use Rattle.sm_term.specs.Symbolic.{SymbolicStore}
 use Rattle.sm_sketch.specs.Choices.{picked}
 use Rattle.sm_houdini.specs.Obligations.{StandIn}
-use Rattle.sm_houdini.proofs.DroppedLemmas.{map_at, either_left, either_right, number_itself}
+use Rattle.sm_houdini.proofs.DroppedLemmas.{map_at}
 use Rattle.sm_houdini.proofs.PairedLemmas.{IsKept}
-use Rattle.sm_houdini.proofs.PlacesLemmas.{found_left, found_right}
+use Rattle.std.proofs.lemmas.Bool.{or_left, or_right}
+use Rattle.sm_lemmas.proofs.Tests.{itself as number_itself}
+use Rattle.sm_lemmas.proofs.Lists.{get_in_first, get_in_second}
 
 -- each formula is one of others
 abbrev pub Among : List Assertion → List Assertion → Type 0
@@ -22,8 +23,8 @@ pub among_itself : (fs : List Assertion) → Among fs fs
 among_itself fs i f e = (i, e)
 
 pub among_append : (fs gs xs ys : List Assertion) → Among fs gs → Among xs ys → Among (fs ++ xs) (gs ++ ys)
-among_append [] gs xs ys h g i f e = let m = g i f e in (length gs + m.0, found_right gs ys m.0 ∙ m.1)
-among_append (x ∷ fs) gs xs ys h g zero f e = let m = h 0 f e in (m.0, found_left gs ys m.0 f m.1)
+among_append [] gs xs ys h g i f e = let m = g i f e in (length gs + m.0, get_in_second gs ys m.0 ∙ m.1)
+among_append (x ∷ fs) gs xs ys h g zero f e = let m = h 0 f e in (m.0, get_in_first gs ys m.0 f m.1)
 among_append (x ∷ fs) gs xs ys h g (suc i) f e =
     among_append fs gs xs ys (λ (n : ℕ) (y : Assertion) (d : slice_get fs n ≡ Some y). h (suc n) y d) g i f e
 
@@ -44,13 +45,13 @@ number_of ts [] i f e = absurd cc
 number_of ts (m ∷ ns) i f e =
     by (slice_get ts m) refl i e
     (λ (k : ℕ) (g : slice_get (picked ts ns) k ≡ Some f).
-    let r = number_of ts ns k f g in (r.0, either_right (r.0 == m) (is_in ns r.0) r.1, r.2))
+    let r = number_of ts ns k f g in (r.0, or_right (r.0 == m) (is_in ns r.0) r.1, r.2))
   where
     by : (o : Option Assertion) → slice_get ts m ≡ o → (k : ℕ) → slice_get (option_to_list o ++ picked ts ns) k ≡ Some f →
         ((j : ℕ) → slice_get (picked ts ns) j ≡ Some f → (n : ℕ) × (is_in (m ∷ ns) n ≡ true) × (slice_get ts n ≡ Some f)) →
         (n : ℕ) × (is_in (m ∷ ns) n ≡ true) × (slice_get ts n ≡ Some f)
     by None same k g later = later k g
-    by (Some h) same zero g later = (m, either_left (m == m) (is_in ns m) (number_itself m), same ∙ g)
+    by (Some h) same zero g later = (m, or_left (m == m) (is_in ns m) (number_itself m), same ∙ g)
     by (Some h) same (suc k) g later = later k g
 
 -- a template whose number is there is picked
@@ -66,7 +67,7 @@ picked_has ts (m ∷ ms) n f h e = by (n == m) refl h (λ (g : is_in ms n ≡ tr
         (0, ap (λ (o : Option Assertion). slice_get (option_to_list o ++ picked ts ms) 0) there)
     by false same g later =
         let r = later g in
-        (length (option_to_list (slice_get ts m)) + r.0, found_right (option_to_list (slice_get ts m)) (picked ts ms) r.0 ∙ r.1)
+        (length (option_to_list (slice_get ts m)) + r.0, get_in_second (option_to_list (slice_get ts m)) (picked ts ms) r.0 ∙ r.1)
 
 -- more numbers pick more templates
 pub among_picked : (ts : List Assertion) (ns ms : List ℕ) → ((n : ℕ) → is_in ns n ≡ true → is_in ms n ≡ true) →
@@ -121,6 +122,6 @@ stand_in_has (x ∷ ns) (y ∷ ms) n (inl h) e =
     by (n == x) (ap (λ (k : ℕ). n == k) (sym h.0)) e (stand_in_has ns ms n h.1)
   where
     by : (b : Bool) → (n == y) ≡ b → (b || is_in ns n) ≡ true → (is_in ns n ≡ true → is_in ms n ≡ true) → is_in (y ∷ ms) n ≡ true
-    by true same g later = either_left (n == y) (is_in ms n) same
-    by false same g later = either_right (n == y) (is_in ms n) (later g)
-stand_in_has (x ∷ ns) (y ∷ ms) n (inr h) e = either_right (n == y) (is_in ms n) (stand_in_has (x ∷ ns) ms n h e)
+    by true same g later = or_left (n == y) (is_in ms n) same
+    by false same g later = or_right (n == y) (is_in ms n) (later g)
+stand_in_has (x ∷ ns) (y ∷ ms) n (inr h) e = or_right (n == y) (is_in ms n) (stand_in_has (x ∷ ns) ms n h e)

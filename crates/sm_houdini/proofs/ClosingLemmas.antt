@@ -1,6 +1,5 @@
 -- Goals that close, over a table that widens, and what a node's goals do to marks.
-use Rattle.std.proofs.Common.{◌≡◌, ℕ, zero, suc, ◌+◌, ◌<◌, ◌≤◌, ◌==◌, Bool, true, false, not, ◌&&◌, ◌||◌, Option, Some, None}
-use Rattle.std.proofs.Common.{List, [], ◌∷◌, ◌++◌, length, take, get_or, slice_get, option_map, refl, sym, ap, ◌∙◌, subst, arith}
+use Rattle.std.proofs.Common.{◌≡◌, ℕ, zero, suc, ◌+◌, ◌<◌, ◌≤◌, ◌==◌, Bool, true, false, not, ◌&&◌, ◌||◌, Option, Some, None, List, [], ◌∷◌, ◌++◌, length, take, get_or, slice_get, option_map, refl, sym, ap, ◌∙◌, subst, arith}
 use Rattle.std.proofs.lemmas.Bool.{eq-eqb, eqb-true}
 use Rattle.std.proofs.lemmas.List.{length-take-le, take_more, map-set, get_or-map}
 use Rattle.std.proofs.Math.ListN.{set}
@@ -8,8 +7,8 @@ use Rattle.std.specs.Prelude.{Vec, Result, Ok, Err, IfOk}
 use Rattle.std.specs.declared.alloc.AllocError.{AllocError}
 use Rattle.std.specs.declared.alloc.Global.{Global}
 use Rattle.sm_syntax.specs.text.Sorts.{Sorts}
-use Rattle.sm_term.specs.declared.formula.Formula.{Formula}
 use Rattle.sm_term.specs.Formulas.{numbered, assertion_in}
+use Rattle.sm_term.specs.declared.formula.Formula.{Formula}
 use Rattle.sm_term.specs.Tables.{TableValue, trees_in, sorts_in}
 use Rattle.sm_term.specs.TableLaws.{ExtendsTable}
 use Rattle.sm_term.specs.Terms.{Tree}
@@ -17,15 +16,15 @@ use Rattle.sm_plan.specs.Plans as plain
 use Rattle.sm_plan.specs.ReadyStates.{AreFormsReady}
 use Rattle.sm_plan.specs.Views.{forms_in}
 use Rattle.sm_plan.proofs.TablesWiden as widened
-use Rattle.sm_expand.specs.declared.due.Due.{Due}
 use Rattle.sm_expand.specs.Views.{due_in}
+use Rattle.sm_expand.specs.declared.due.Due.{Due}
 use Rattle.sm_sketch.specs.Choices.{Choice}
 use Rattle.sm_solve.specs.declared.reach.Reach.{Reach}
-use Rattle.sm_houdini.specs.declared.marks.Marked.{Marked}
 use Rattle.sm_houdini.specs.Closing.{closing, closes_at, stays_at, owner_in}
-use Rattle.sm_houdini.specs.Marks.{all_marked, still_marked, rows}
+use Rattle.sm_houdini.specs.Marks.{all_marked, still_marked, rows, Marked}
 use Rattle.sm_houdini.specs.Rounds.{is_site, closes_if}
 use Rattle.sm_houdini.proofs.MarkedLemmas.{still_more, still_both, marked_same, all_same}
+use Rattle.sm_houdini.proofs.NodeLemmas.{with_true}
 
 -- the goal at a place
 goal_at : (sorts : Sorts) (trees : List Tree) (fs : List Formula) (i : ℕ) (o : Option Formula) → slice_get fs i ≡ o →
@@ -85,10 +84,6 @@ other_site s r h = by (s == r) refl
     by true e = let same : s ≡ r = eqb-true s r e in absurd (let no : suc s ≤ s = subst (λ (n : ℕ). suc s ≤ n) (sym same) h in omega (arith, no))
     by false e = e
 
-and_true : (b : Bool) → b ≡ (b && true)
-and_true true = refl
-and_true false = refl
-
 pub site_judged : (passes : ℕ → ℕ → Bool) (others : ℕ → Bool) (site s : ℕ) (choice : Choice) (row : List Marked) → site < length choice →
     row ≡ still_marked others 0 (get_or (all_marked passes s choice) site []) →
     set (all_marked passes s choice) site row
@@ -103,14 +98,14 @@ site_judged passes others zero s (ns ∷ choice) row h e =
     let rest = all_same passes (λ (r i : ℕ). passes r i && (not (s + 0 == r) || others i)) (suc s) choice
     (λ (r i : ℕ) (l : suc s ≤ r).
     let apart : (s + 0 == r) ≡ false = ap (λ (n : ℕ). n == r) here ∙ other_site s r l in
-    and_true (passes r i) ∙ ap (λ (b : Bool). passes r i && (not b || others i)) (sym apart)) in
+    with_true (passes r i) ∙ ap (λ (b : Bool). passes r i && (not b || others i)) (sym apart)) in
     λ k. first k ∷ rest k
 site_judged passes others (suc site) s (ns ∷ choice) row h e =
     let fewer : site < length choice = omega (arith, h) in
     let place : suc s + site ≡ s + suc site = omega arith in
     let here : (s + suc site == s) ≡ false = later s site in
     let first = marked_same (passes s) (λ (j : ℕ). passes s j && (not (s + suc site == s) || others j)) 0 ns
-    (λ (j : ℕ). and_true (passes s j) ∙ ap (λ (b : Bool). passes s j && (not b || others j)) (sym here)) in
+    (λ (j : ℕ). with_true (passes s j) ∙ ap (λ (b : Bool). passes s j && (not b || others j)) (sym here)) in
     let rest = site_judged passes others site (suc s) choice row fewer e
     ∙ ap (λ (n : ℕ). all_marked (λ (r i : ℕ). passes r i && (not (n == r) || others i)) (suc s) choice) place in
     λ k. first k ∷ rest k
@@ -134,7 +129,7 @@ none_judged passes stays choice h = go 0 choice (λ (r i : ℕ) (l : 0 ≤ r) (m
         let low : s ≤ s = omega arith in
         let high : s < s + length (ns ∷ rest) = omega arith in
         let first = marked_same (passes s) (λ (j : ℕ). passes s j && stays s j) 0 ns
-        (λ (j : ℕ). and_true (passes s j) ∙ ap (λ (b : Bool). passes s j && b) (sym (g s j low high))) in
+        (λ (j : ℕ). with_true (passes s j) ∙ ap (λ (b : Bool). passes s j && b) (sym (g s j low high))) in
         let more = go (suc s) rest (λ (r i : ℕ) (l : suc s ≤ r) (m : r < suc s + length rest).
         let a : s ≤ r = omega (arith, l) in let b : r < s + length (ns ∷ rest) = omega (arith, m) in g r i a b) in
         λ k. first k ∷ more k

@@ -1,6 +1,5 @@
 -- What is kept is the choice of a round, and each template that isn't kept was refuted in a round.
-use Rattle.std.proofs.Common.{◌≡◌, ◌⊎◌, inl, inr, ℕ, zero, suc, ◌+◌, ◌==◌, ◌<◌, Bool, true, false, not, ◌&&◌, ◌||◌, if◌then◌else◌}
-use Rattle.std.proofs.Common.{Option, Some, None, Result, Ok, Err, List, [], ◌∷◌, ◌++◌, map, length, slice_get, refl, sym, ap, ◌∙◌, subst}
+use Rattle.std.proofs.Common.{◌≡◌, ◌⊎◌, inl, inr, ℕ, zero, suc, ◌+◌, ◌==◌, ◌<◌, Bool, true, false, not, ◌&&◌, ◌||◌, if◌then◌else◌, Option, Some, None, Result, Ok, Err, List, [], ◌∷◌, ◌++◌, map, length, slice_get, refl, sym, ap, ◌∙◌, subst}
 use Rattle.std.proofs.Common.{arith}
 use Rattle.std.specs.Prelude.{unwrap_or, option_to_list}
 use Rattle.std.specs.List.{list_all, range_with_len}
@@ -19,9 +18,10 @@ use Rattle.sm_product.specs.Products.{sketch_of}
 use Rattle.sm_houdini.specs.Laws.{AllAskChosen, round_at, IsRefuted, DroppedAreRefuted}
 use Rattle.sm_houdini.specs.Obligations.{AsksChosen}
 use Rattle.sm_houdini.specs.Owners.{owner_of}
-use Rattle.sm_houdini.specs.Rounds.{dues_in, dues_of, is_site, closes_if, holds_at, numbers_kept, sites_kept, next_round, total, same_choice}
-use Rattle.sm_houdini.specs.Rounds.{settled, kept}
+use Rattle.sm_houdini.specs.Rounds.{dues_in, dues_of, is_site, closes_if, holds_at, numbers_kept, sites_kept, next_round, total, same_choice, settled, kept}
 use Rattle.sm_houdini.proofs.OwnersLemmas.{owners_ask}
+use Rattle.std.proofs.lemmas.Bool.{or_right, or_left, or_from}
+use Rattle.sm_lemmas.proofs.Tests.{itself}
 
 -- rounds from a round end with one
 module _ (closes : List Assertion → Assertion → Bool) (t : Parts) where
@@ -51,26 +51,15 @@ full_at [] s = refl
 full_at (ts ∷ sites) zero = refl
 full_at (ts ∷ sites) (suc s) = full_at sites s
 
-pub either_right : (a b : Bool) → b ≡ true → (a || b) ≡ true
-either_right true b e = refl
-either_right false b e = e
-
-pub either_left : (a b : Bool) → a ≡ true → (a || b) ≡ true
-either_left true b e = refl
-either_left false b e = absurd cc
-
-pub number_itself : (n : ℕ) → (n == n) ≡ true
-number_itself n = grind (arith, nat_tests)
-
 range_has : (k len n : ℕ) → n < len → is_in (range_with_len k len) (k + n) ≡ true
 range_has k zero n less = absurd (omega (arith, less))
 range_has k (suc len) zero less =
     let same : k + 0 ≡ k = omega arith in
-    either_left (k + 0 == k) (is_in (range_with_len (k + 1) len) (k + 0))
-    (ap (λ (m : ℕ). m == k) same ∙ number_itself k)
+    or_left (k + 0 == k) (is_in (range_with_len (k + 1) len) (k + 0))
+    (ap (λ (m : ℕ). m == k) same ∙ itself k)
 range_has k (suc len) (suc n) less =
     let same : k + 1 + n ≡ k + suc n = omega arith in
-    either_right (k + suc n == k) (is_in (range_with_len (k + 1) len) (k + suc n))
+    or_right (k + suc n == k) (is_in (range_with_len (k + 1) len) (k + suc n))
     (subst (λ (m : ℕ). is_in (range_with_len (k + 1) len) m ≡ true) same (range_has (k + 1) len n (omega (arith, less))))
 
 -- numbers below one
@@ -109,8 +98,8 @@ number_kept passes i (m ∷ ns) zero n e h =
   where
     by : (b : Bool) → b ≡ true → is_in (if b then m ∷ numbers_kept passes (suc i) ns else numbers_kept passes (suc i) ns) n ≡ true
     by true f =
-        either_left (n == m) (is_in (numbers_kept passes (suc i) ns) n)
-        (ap (λ (k : ℕ). n == k) (same_Some m n e) ∙ number_itself n)
+        or_left (n == m) (is_in (numbers_kept passes (suc i) ns) n)
+        (ap (λ (k : ℕ). n == k) (same_Some m n e) ∙ itself n)
     by false f = absurd cc
 number_kept passes i (m ∷ ns) (suc j) n e h =
     let same : suc i + j ≡ i + suc j = omega arith in
@@ -118,7 +107,7 @@ number_kept passes i (m ∷ ns) (suc j) n e h =
   where
     by : (b : Bool) → is_in (numbers_kept passes (suc i) ns) n ≡ true →
         is_in (if b then m ∷ numbers_kept passes (suc i) ns else numbers_kept passes (suc i) ns) n ≡ true
-    by true f = either_right (n == m) (is_in (numbers_kept passes (suc i) ns) n) f
+    by true f = or_right (n == m) (is_in (numbers_kept passes (suc i) ns) n) f
     by false f = f
 
 -- no number stands twice
@@ -126,14 +115,10 @@ abbrev AreOnce : List ℕ → Type 0
 AreOnce [] = Unit {0}
 AreOnce (n ∷ ns) = (is_in ns n ≡ false) × AreOnce ns
 
-neither : (a b : Bool) → a ≡ false → b ≡ false → (a || b) ≡ false
-neither true b e f = absurd cc
-neither false b e f = f
-
 range_without : (k len n : ℕ) → n < k → is_in (range_with_len k len) n ≡ false
 range_without k zero n less = refl
 range_without k (suc len) n less =
-    neither (n == k) (is_in (range_with_len (k + 1) len) n) (other n k less) (range_without (k + 1) len n (omega (arith, less)))
+    or_from (n == k) (is_in (range_with_len (k + 1) len) n) (other n k less) (range_without (k + 1) len n (omega (arith, less)))
   where
     other : (m l : ℕ) → m < l → (m == l) ≡ false
     other m l h = grind (arith, nat_tests, h)
@@ -151,7 +136,7 @@ kept_without passes i (m ∷ ns) n h = by (n == m) refl h (passes i) (kept_witho
         (is_in ns n ≡ false → is_in (numbers_kept passes (suc i) ns) n ≡ false) →
         is_in (if c then m ∷ numbers_kept passes (suc i) ns else numbers_kept passes (suc i) ns) n ≡ false
     by true e g c later = absurd cc
-    by false e g true later = neither (n == m) (is_in (numbers_kept passes (suc i) ns) n) e (later g)
+    by false e g true later = or_from (n == m) (is_in (numbers_kept passes (suc i) ns) n) e (later g)
     by false e g false later = later g
 
 kept_once : (passes : ℕ → Bool) (i : ℕ) (ns : List ℕ) → AreOnce ns → AreOnce (numbers_kept passes i ns)
@@ -166,8 +151,8 @@ kept_once passes i (n ∷ ns) h = by (passes i) (kept_once passes (suc i) ns h.1
 -- what has a place is there
 in_place : (ns : List ℕ) (j n : ℕ) → slice_get ns j ≡ Some n → is_in ns n ≡ true
 in_place [] j n e = absurd cc
-in_place (m ∷ ns) zero n e = either_left (n == m) (is_in ns n) (ap (λ (k : ℕ). n == k) (same_Some m n e) ∙ number_itself n)
-in_place (m ∷ ns) (suc j) n e = either_right (n == m) (is_in ns n) (in_place ns j n e)
+in_place (m ∷ ns) zero n e = or_left (n == m) (is_in ns n) (ap (λ (k : ℕ). n == k) (same_Some m n e) ∙ itself n)
+in_place (m ∷ ns) (suc j) n e = or_right (n == m) (is_in ns n) (in_place ns j n e)
 
 -- where its place doesn't pass, it isn't kept
 number_gone : (passes : ℕ → Bool) (i : ℕ) (ns : List ℕ) (j n : ℕ) → AreOnce ns → slice_get ns j ≡ Some n → passes (i + j) ≡ false →
@@ -193,7 +178,7 @@ number_gone passes i (m ∷ ns) (suc j) n once e h =
         absurd
         (different
         (sym (in_place ns j n e) ∙ subst (λ (k : ℕ). is_in ns k ≡ false) (sym ((Decides-eqb n m).0 f)) once.0))
-    by true false f g = neither (n == m) (is_in (numbers_kept passes (suc i) ns) n) f g
+    by true false f g = or_from (n == m) (is_in (numbers_kept passes (suc i) ns) n) f g
     by false c f g = g
 
 pub there_is : (us : List Assertion) (k : ℕ) → k < length us → (f : Assertion) × (slice_get us k ≡ Some f)

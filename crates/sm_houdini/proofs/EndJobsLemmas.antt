@@ -1,10 +1,9 @@
 -- What runs of a node's goals come to, one after another, over the one table.
-use Rattle.std.proofs.Common.{◌≡◌, ℕ, zero, suc, ◌+◌, ◌-◌, ◌*◌, ◌/◌, ◌%◌, ◌<◌, ◌≤◌, pos, true, false, List, [], ◌∷◌, ◌++◌, length, map, take, drop, get_or}
-use Rattle.std.proofs.Common.{refl, sym, ap, ◌∙◌, subst, zero-add, zero-mul, suc-mul, mul_comm, mul-le-mul_right, arith}
+use Rattle.std.proofs.Common.{◌≡◌, ℕ, zero, suc, ◌+◌, ◌-◌, ◌*◌, ◌/◌, ◌%◌, ◌<◌, ◌≤◌, pos, true, false, List, [], ◌∷◌, ◌++◌, length, map, take, drop, get_or, refl, sym, ap, ◌∙◌, subst, zero-add, zero-mul, suc-mul, mul_comm, mul-le-mul_right}
+use Rattle.std.proofs.Common.{arith}
 use Rattle.std.proofs.Math.Seq.{take-add}
-use Rattle.std.proofs.lemmas.List.{map-append, append_assoc, append-nil, drop-drop, drop-map}
-use Rattle.std.proofs.lemmas.List.{take-map, take_all, drop_all, take-append-drop, take-append-le}
-use Rattle.std.proofs.lemmas.List.{drop_more, length-append, length-drop, length-take-le, get_or-take, get_or-drop, take_at}
+use Rattle.std.proofs.lemmas.List.{map-append, append_assoc, append-nil, drop-drop, drop-map, take-map, take_all, drop_all, take-append-drop, take-append-le, drop_more, length-append, length-drop, length-take-le, get_or-take, get_or-drop}
+use Rattle.std.proofs.lemmas.List.{take_at}
 use Rattle.std.proofs.lemmas.Grind.{div_ceil_times}
 use Rattle.std.proofs.lemmas.Nat.{div-mul-add, mod-mul-add}
 use Rattle.std.proofs.lemmas.Option.{slice_get_within, get_or_from_slice_get}
@@ -14,16 +13,16 @@ use Rattle.std.specs.declared.alloc.Global.{Global}
 use Rattle.std.specs.declared.alloc.AllocError.{AllocError}
 use Rattle.sm_syntax.specs.text.Sorts.{Sorts}
 use Rattle.sm_par.specs.Results.{StandInOrder}
-use Rattle.sm_term.specs.declared.formula.Formula.{Formula}
-use Rattle.sm_term.specs.declared.term.TermId.{TermId}
 use Rattle.sm_term.specs.Assertions.{Assertion}
 use Rattle.sm_term.specs.Formulas.{numbered, assertion_in}
+use Rattle.sm_term.specs.declared.formula.Formula.{Formula}
 use Rattle.sm_term.specs.Tables.{TableValue, trees_in, sorts_in, tree_at}
+use Rattle.sm_term.specs.declared.term.TermId.{TermId}
 use Rattle.sm_term.specs.TableLaws.{ExtendsTable}
 use Rattle.sm_term.specs.Tails.{row_trees, AreRowsSound, trees_numbered}
 use Rattle.sm_term.specs.Terms.{Tree, Lit}
-use Rattle.sm_cert.specs.declared.tree.CertTree.{CertTree}
 use Rattle.sm_cert.specs.Views.{certificate_in, lines_of, AreLinesWithin}
+use Rattle.sm_cert.specs.declared.tree.CertTree.{CertTree}
 use Rattle.sm_plan.specs.ReadyStates.{AreFormsReady}
 use Rattle.sm_plan.specs.Views.{forms_in}
 use Rattle.sm_expand.specs.declared.due.Due as program
@@ -46,9 +45,13 @@ use Rattle.sm_houdini.specs.declared.ending.Stop.{Stop}
 use Rattle.sm_houdini.specs.declared.run_ends.RunEnd.{RunEnd}
 use Rattle.sm_houdini.proofs.ClosingLemmas.{ok_map}
 use Rattle.sm_houdini.proofs.DealtNodes.{placed_inside, dealt_placed}
-use Rattle.sm_houdini.proofs.EndLemmas.{collected_stays, within_append, short_append, forms_count, different, Ended}
+use Rattle.sm_houdini.proofs.EndLemmas.{collected_stays, within_append, short_append, Ended}
 use Rattle.sm_houdini.proofs.LoopLemmas.{taken}
 use Rattle.sm_houdini.proofs.SimpleWritable.{certified_append}
+use Rattle.sm_terms.proofs.ListingLemmas.{below-append}
+use Rattle.sm_lemmas.proofs.Lists.{range_more}
+use Rattle.sm_expand.proofs.NodeTaken.{forms_long}
+use Rattle.sm_houdini.proofs.TotalsLemmas.{different}
 
 -- the terms with the numbers from one on
 range_trees : (trees : List Tree) (a n : ℕ) → a + n ≤ length trees → trees_at trees (range_with_len a n) ≡ take n (drop a trees)
@@ -61,10 +64,6 @@ range_trees trees a (suc n) h =
 range_below : (a n m : ℕ) → a + n ≤ m → AreBelow m (range_with_len a n)
 range_below a zero m h = tt
 range_below a (suc n) m h = (omega (arith, h), range_below (a + 1) n m (omega (arith, h)))
-
-below_append : (n : ℕ) (ms ns : List ℕ) → AreBelow n ms → AreBelow n ns → AreBelow n (ms ++ ns)
-below_append n [] ns a b = b
-below_append n (m ∷ ms) ns a b = (a.0, below_append n ms ns a.1 b)
 
 -- what a term's number has
 some_is : (a b : Option Tree) (x : Tree) → a ≡ b → b ≡ Some x → a ≡ Some x
@@ -91,13 +90,6 @@ made_below trees (i ∷ ids) (t ∷ made) e =
     let here : slice_get trees i.0 ≡ Some t = ap (λ (l : List (Option Tree)). get_or l 0 (Some t)) e in
     let rest : trees_numbered trees ids ≡ map Some made = ap (drop 1) e in
     (slice_get_within trees i.0 t here, made_below trees ids made rest)
-
--- one number more
-range_more : (a n : ℕ) → range_with_len a (suc n) ≡ range_with_len a n ++ (a + n) ∷ []
-range_more a zero = ap (λ (k : ℕ). k ∷ []) (let e : a ≡ a + 0 = omega arith in e)
-range_more a (suc n) =
-    let last : (a + 1) + n ≡ a + suc n = omega arith in
-    ap (λ (ks : List ℕ). a ∷ ks) (range_more (a + 1) n ∙ ap (λ (k : ℕ). range_with_len (a + 1) n ++ k ∷ []) last)
 
 pub number_more : (ts new : List TermId) (t : TermId) (n : ℕ) → numbers_of ts ≡ range_with_len 0 n → t.0 ≡ n → new ≡ ts ++ t ∷ [] →
     numbers_of new ≡ range_with_len 0 (n + 1)
@@ -131,7 +123,7 @@ terms_adopted v w wider from behind made ids all stored is =
       trees_are = ap (trees_at new) is ∙ map-append (tree_at new) (range_with_len 0 from) (numbers_of ids)
           ∙ (λ k. first k ++ made_trees new ids made stored k);
       below = subst (AreBelow (length new)) (sym is)
-          (below_append (length new) (range_with_len 0 from) (numbers_of ids) (range_below 0 from (length new) there)
+          (below-append (length new) (range_with_len 0 from) (numbers_of ids) (range_below 0 from (length new) there)
           (made_below new ids made stored));
     }
 
@@ -400,7 +392,7 @@ pub runs_done : (v w : TableValue) (reach : Reach) (d : program.Due) (asks : Lis
 runs_done v w reach d asks runs ends i over goals new collected closes =
     let W = walk (sorts_in v) reach (due_in (sorts_in v) (trees_in v) d).facts in
     let all = forms_in (sorts_in v) (trees_in v) asks in
-    let count = forms_count (sorts_in v) (trees_in v) asks in
+    let count = forms_long (sorts_in v) (trees_in v) asks in
     let more : length runs * ends.size ≤ i * ends.size = mul-le-mul_right ends.size over in
     let covers = ends.covers in
     let past : length all ≤ i * ends.size = omega (arith, count, more, covers) in (

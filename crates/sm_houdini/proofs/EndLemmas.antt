@@ -1,21 +1,20 @@
 -- Goals that close or stop a search, and certificates that are collected.
-use Rattle.std.proofs.Common.{◌≡◌, ℕ, zero, suc, ◌+◌, ◌<◌, ◌≤◌, Bool, true, false, if◌then◌else◌, None}
-use Rattle.std.proofs.Common.{List, [], ◌∷◌, ◌++◌, map, length, take, drop, get_or, refl, sym, ap, ◌∙◌, subst, arith}
+use Rattle.std.proofs.Common.{◌≡◌, ℕ, zero, suc, ◌+◌, ◌<◌, ◌≤◌, Bool, true, false, if◌then◌else◌, None, List, [], ◌∷◌, ◌++◌, map, length, take, drop, get_or, refl, sym, ap, ◌∙◌, subst, arith}
 use Rattle.std.specs.Prelude.{Option, Some, is_some, MatchOption, Result, IfOk}
 use Rattle.std.specs.declared.alloc.AllocError.{AllocError}
 use Rattle.std.proofs.lemmas.List.{map-append, append_assoc, drop_more, drop-map, take-map, take_all, drop_all}
 use Rattle.sm_syntax.specs.text.Sorts.{Sorts}
-use Rattle.sm_term.specs.declared.formula.Formula.{Formula}
 use Rattle.sm_term.specs.Assertions.{Assertion, negate}
 use Rattle.sm_term.specs.Formulas.{numbered, assertion_in}
+use Rattle.sm_term.specs.declared.formula.Formula.{Formula}
 use Rattle.sm_term.specs.Tables.{TableValue, trees_in, sorts_in}
 use Rattle.sm_term.specs.TableLaws.{ExtendsTable}
 use Rattle.sm_term.specs.Terms.{Tree}
 use Rattle.sm_theory.specs.Facts.{as_facts}
-use Rattle.sm_cert.specs.declared.tree.CertTree.{CertTree}
 use Rattle.sm_cert.specs.Certificates.{Certificate, Closes}
 use Rattle.sm_cert.specs.NamedTerms.{EachTerm}
 use Rattle.sm_cert.specs.Views.{certificate_in, lines_of, AreLinesWithin}
+use Rattle.sm_cert.specs.declared.tree.CertTree.{CertTree}
 use Rattle.sm_plan.specs.Plans.{Due}
 use Rattle.sm_plan.specs.ReadyStates.{AreFormsReady}
 use Rattle.sm_plan.specs.Views.{forms_in}
@@ -24,29 +23,28 @@ use Rattle.sm_expand.specs.declared.due.Due as program
 use Rattle.sm_expand.specs.Views.{due_in, dues_in, AreDuesReady}
 use Rattle.sm_solve.specs.declared.solving.Answer.{Answer}
 use Rattle.sm_solve.specs.declared.solving.Answer.TheVariants as answers
-use Rattle.sm_solve.specs.Answers.{Tells, Certifies, NamesOnly}
+use Rattle.sm_solve.specs.Answers.{Tells, Certifies, NamesOnly, terms_walked}
 use Rattle.sm_list.specs.Parts.{all_numbered, assertions_in}
 use Rattle.sm_solve.specs.Walk.{walk}
-use Rattle.sm_replay.specs.declared.verdict.Verdict.{Verdict}
-use Rattle.sm_solve.specs.Answers.{terms_walked}
 use Rattle.sm_solve.specs.declared.reach.Reach.{Reach}
+use Rattle.sm_replay.specs.declared.verdict.Verdict.{Verdict}
 use Rattle.sm_list.specs.Branches.{IsOneOf}
 use Rattle.sm_judge.specs.Forms.{Walked}
 use Rattle.sm_write.specs.TreesWithin.{AreTreesWithin}
 use Rattle.sm_write.specs.Writable.{IsShort, AreShort}
 use Rattle.sm_write.proofs.TreesStay.{trees_stay, trees_wider}
 use Rattle.sm_houdini.specs.Certified.{asked, IsCertified, AreCertified}
-use Rattle.sm_houdini.specs.Collected.{AreCollected, goals_with, stop_in, GoalStops, GoalCloses, RunStops, RunCloses, GoalsStop, GoalsClose}
-use Rattle.sm_houdini.specs.Collected.{FinalStops, FinalCloses, AreInsideClosed}
-use Rattle.sm_houdini.specs.Outcomes.{Outcome, Accepted, Conflict, Open, Steps}
-use Rattle.sm_houdini.specs.Outcomes.{Coefficient, TooMany, goal_outcome, goals_outcome, final_outcome}
+use Rattle.sm_houdini.specs.Collected.{AreCollected, goals_with, stop_in, GoalStops, GoalCloses, RunStops, RunCloses, GoalsStop, GoalsClose, FinalStops, FinalCloses, AreInsideClosed}
+use Rattle.sm_houdini.specs.Outcomes.{Outcome, Accepted, Conflict, Open, Steps, Coefficient, TooMany, goal_outcome, goals_outcome, final_outcome}
 use Rattle.sm_houdini.specs.declared.ending.Stop.{Stop}
 use Rattle.sm_houdini.proofs.LoopLemmas.{taken}
 use Rattle.sm_goals.proofs.FormsLemmas.{forms_same}
 use Rattle.sm_houdini.proofs.ClosingLemmas.{due_stays}
 use Rattle.sm_goals.proofs.NodesLemmas.{facts_at}
-use Rattle.sm_goals.proofs.FormsLemmas.{form_at}
 use Rattle.sm_houdini.proofs.SimpleWritable.{certified_append}
+use Rattle.sm_expand.proofs.NodeTaken.{forms_long}
+use Rattle.sm_houdini.proofs.TotalsLemmas.{different}
+use Rattle.sm_plan.proofs.FillingForms.{ready_at}
 
 pub within_append : (n : ℕ) (xs ys : List CertTree) → AreTreesWithin n xs → AreTreesWithin n ys → AreTreesWithin n (xs ++ ys)
 within_append n [] ys a b = b
@@ -96,9 +94,6 @@ collected_more v w wider goals trees new facts goal tree is before within closes
 map_count : {X Y : Type 0} (F : X → Y) (xs : List X) → length (map F xs) ≡ length xs
 map_count F [] = refl
 map_count F (x ∷ xs) = ap suc (map_count F xs)
-
-pub forms_count : (sorts : Sorts) (trees : List Tree) (fs : List Formula) → length (forms_in sorts trees fs) ≡ length fs
-forms_count sorts trees fs = map_count (λ (f : Formula). assertion_in sorts trees (numbered f)) fs
 
 -- lists over a table, one item further
 pub further : {X Y : Type 0} (F : X → Y) (xs : List X) (i : ℕ) (x : X) → i < length xs → x ≡ get_or xs i x →
@@ -166,7 +161,7 @@ goal_stopped v w reach node at facts goal a s given same tells stops =
 goal_stays : (v u : TableValue) → ExtendsTable v u → (fs : List Formula) (i : ℕ) (f : Formula) → AreFormsReady (sorts_in v) (trees_in v) fs →
     i < length fs → f ≡ get_or fs i f →
     assertion_in (sorts_in u) (trees_in u) (numbered f) ≡ assertion_in (sorts_in v) (trees_in v) (numbered f)
-goal_stays v u wider fs i f ready h e = widened.assertion_stays v u wider (numbered f) (form_at (sorts_in v)
+goal_stays v u wider fs i f ready h e = widened.assertion_stays v u wider (numbered f) (ready_at (sorts_in v)
     (trees_in v) fs i f ready h e).0
 
 -- the goals so far and one more, which closes
@@ -241,10 +236,6 @@ goal_stops v u wider reach first i at d asks f s known ready h e same stops late
     (further (λ (x : Formula). assertion_in (sorts_in v) (trees_in v) (numbered x)) asks i f h e)
     ∙ sym (λ k. goal_outcome d.node (same k) (walk (wider.sorts k) reach (facts k) (goal k)) next) ∙ stops next
 
--- by what the goal came to
-pub different : {A : Type 0} → true ≡ false → A
-different e = absurd cc
-
 pub goal_passed : (v u w : TableValue) → ExtendsTable v u → (reach : Reach) (first i at : ℕ) (d : program.Due) (asks : List Formula)
     (f : Formula) →
     AreFormsReady (sorts_in v) (trees_in v) d.facts.list.items → AreFormsReady (sorts_in v) (trees_in v) asks →
@@ -308,7 +299,7 @@ pub goals_done : (v w : TableValue) (reach : Reach) (first i : ℕ) (d : program
 goals_done v w reach first i d asks h goals new collected closes =
     let W = walk (sorts_in v) reach (due_in (sorts_in v) (trees_in v) d).facts in
     let gs = forms_in (sorts_in v) (trees_in v) asks in
-    let count = forms_count (sorts_in v) (trees_in v) asks in
+    let count = forms_long (sorts_in v) (trees_in v) asks in
     let past : length gs ≤ i = omega (arith, count, h) in (
       (λ (later : Outcome (ℕ × Verdict)).
           closes later ∙ ap (λ (l : List Assertion). goals_outcome W d.node (first + i) l later) (drop_all i gs past)),

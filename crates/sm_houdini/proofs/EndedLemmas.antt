@@ -11,9 +11,9 @@ use Rattle.sm_plan.specs.Plans as plain
 use Rattle.sm_plan.specs.Plans.{Due, Fault, obligations}
 use Rattle.sm_plan.specs.SortedStates.{IsTaskSorted}
 use Rattle.sm_plan.specs.Starts.{AreNumbered}
-use Rattle.sm_expand.specs.declared.plan.Plan.{Plan}
 use Rattle.sm_expand.specs.NumberedPlans.{IsPlanReady}
 use Rattle.sm_expand.specs.Views.{numbered_plan, plan_in}
+use Rattle.sm_expand.specs.declared.plan.Plan.{Plan}
 use Rattle.sm_expand.proofs.PlansWiden.{plan_stays, plan_ready}
 use Rattle.sm_moves.proofs.SetsLemmas.{Each}
 use Rattle.sm_product.specs.ProductPlans.{plan_of}

@@ -4,17 +4,16 @@ use Rattle.std.specs.Prelude.{Result, IfOk}
 use Rattle.std.specs.declared.alloc.AllocError.{AllocError}
 use Rattle.sm_par.specs.Results.{StandInOrder}
 use Rattle.sm_term.specs.Tables.{TableValue, trees_in, sorts_in}
-use Rattle.sm_expand.specs.declared.due.Due.{Due}
 use Rattle.sm_expand.specs.Views.{due_in, dues_in}
+use Rattle.sm_expand.specs.declared.due.Due.{Due}
 use Rattle.sm_sketch.specs.Choices.{Choice}
 use Rattle.sm_sketch.specs.ChoiceViews.{choice_in}
 use Rattle.sm_solve.specs.declared.reach.Reach.{Reach}
-use Rattle.sm_houdini.specs.declared.marks.Marked.{Marked}
 use Rattle.sm_houdini.specs.declared.marks.Marks.{Marks}
 use Rattle.sm_houdini.specs.Closing.{closing, closes_at, owner_in}
 use Rattle.sm_houdini.specs.GoalJobs.{RoundGoalsValue, TellsShare, holds_at_shared}
 use Rattle.sm_houdini.specs.Known.{AreKnown}
-use Rattle.sm_houdini.specs.Marks.{all_marked, in_share, rows}
+use Rattle.sm_houdini.specs.Marks.{all_marked, in_share, rows, Marked}
 use Rattle.sm_houdini.specs.NodeJobs.{NodeGoalsValue, TellsNodes, holds_but, holds_in_job, is_left_out, all_below}
 use Rattle.sm_houdini.specs.Rounds.{holds_at}
 use Rattle.sm_houdini.proofs.MarkedLemmas.{all_same}

@@ -1,13 +1,12 @@
 -- The plan of what is kept has obligations where that of all templates has.
-use Rattle.std.proofs.Common.{◌≡◌, ℕ, zero, suc, ◌+◌, ◌-◌, ◌/◌, ◌≤◌, ◌<◌, max, Bool, true, false, if◌then◌else◌, ℤ}
-use Rattle.std.proofs.Common.{Result, Ok, Err, List, [], ◌∷◌, ◌++◌, take, drop, length, slice_get, refl, sym, ap, ◌∙◌, subst, arith}
+use Rattle.std.proofs.Common.{◌≡◌, ℕ, zero, suc, ◌+◌, ◌-◌, ◌/◌, ◌≤◌, ◌<◌, max, Bool, true, false, if◌then◌else◌, ℤ, Result, Ok, Err, List, [], ◌∷◌, ◌++◌, take, drop, length, slice_get, refl, sym, ap, ◌∙◌, subst, arith}
 use Rattle.std.specs.Prelude.{option_to_list}
 use Rattle.std.proofs.lemmas.Bool.Decides.{nat_tests}
 use Rattle.std.proofs.lemmas.List.{length-take, length-drop, take-append-drop}
-use Rattle.sm_syntax.specs.declared.tree.Cmp.{Cmp}
 use Rattle.sm_syntax.specs.declared.tree.Cmp.TheVariants as cmp
 use Rattle.sm_syntax.specs.declared.tree.Sort.{Sort}
 use Rattle.sm_syntax.specs.claim.Syntax.{Expression, Code}
+use Rattle.sm_syntax.specs.declared.tree.Cmp.{Cmp}
 use Rattle.sm_syntax.specs.claim.ConflictFree.{Copy}
 use Rattle.sm_syntax.specs.text.Parts.{Parts, task_of}
 use Rattle.sm_term.specs.Assertions.{Assertion}
@@ -21,8 +20,7 @@ use Rattle.sm_moves.proofs.SetsLemmas.{Each}
 use Rattle.sm_template.specs.Guards.{slots, weaker}
 use Rattle.sm_template.proofs.TemplatesLemmas.{HoldsOfTemplates, of_block_templates, of_loop_templates, each_take, each_drop}
 use Rattle.sm_sketch.specs.Choices.{Choice, chosen_at, picked, halved, conjoined, kept_by}
-use Rattle.sm_sketch.specs.Sketches.{SketchNode, Plain, LoopSite, BlockSite, Sketch, Draw, Sketches, Over, More}
-use Rattle.sm_sketch.specs.Sketches.{site_at, sites_of, plan_with, plans_with}
+use Rattle.sm_sketch.specs.Sketches.{SketchNode, Plain, LoopSite, BlockSite, Sketch, Draw, Sketches, Over, More, site_at, sites_of, plan_with, plans_with}
 use Rattle.sm_sketch.proofs.PickedLemmas.{each_picked}
 use Rattle.sm_product.specs.Laws.{AreKept}
 use Rattle.sm_product.specs.ProductPlans.{plan_of, full_choice}
@@ -34,6 +32,7 @@ use Rattle.sm_houdini.specs.Laws.{round_at, KeptExpands}
 use Rattle.sm_houdini.specs.Owners.{owner_of}
 use Rattle.sm_houdini.specs.Rounds.{dues_of, holds_at, numbers_kept, kept}
 use Rattle.sm_houdini.proofs.DroppedLemmas.{sites_at, kept_round}
+use Rattle.sm_lemmas.proofs.Numbers.{half_less}
 
 -- how many formulas some have, and one more for each
 sum_nodes : List Assertion → ℕ
@@ -50,9 +49,6 @@ unfolding sum_nodes
 sum_length [] = omega arith
 sum_length (f ∷ fs) = omega (arith, sum_length fs)
 
-less_half : (n m : ℕ) → suc (suc n) ≤ suc m → (suc (suc n) / 2 ≤ m) × (suc (suc n) - suc (suc n) / 2 ≤ m)
-less_half n m h = (omega arith, omega arith)
-
 some_half : (n : ℕ) → (0 < suc (suc n) / 2) × (0 < suc (suc n) - suc (suc n) / 2)
 some_half n = (omega arith, omega arith)
 
@@ -65,7 +61,7 @@ halved_nodes (suc n) (f ∷ []) few some = omega arith
 halved_nodes (suc n) (f ∷ g ∷ rest) few some =
     let fs = f ∷ g ∷ rest in
     let half = length fs / 2 in
-    let small = less_half (length rest) n few in
+    let small = half_less (length rest) n few in
     let any = some_half (length rest) in
     let first = length-take half fs in
     let second = length-drop half fs in

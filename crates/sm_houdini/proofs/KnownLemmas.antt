@@ -1,37 +1,36 @@
 -- What a round tells of the goals that the next one asks.
-use Rattle.std.proofs.Common.{◌≡◌, ℕ, zero, suc, ◌+◌, ◌==◌, ◌<◌, ◌≤◌, Bool, true, false, not, ◌&&◌, ◌||◌, Option, Some, None, ◌⊎◌, inl, inr}
-use Rattle.std.proofs.Common.{option_map, List, [], ◌∷◌, ◌++◌, map, length, get_or, slice_get, refl, sym, ap, ◌∙◌, subst, arith}
+use Rattle.std.proofs.Common.{◌≡◌, ℕ, zero, suc, ◌+◌, ◌==◌, ◌<◌, ◌≤◌, Bool, true, false, not, ◌&&◌, ◌||◌, Option, Some, None, ◌⊎◌, inl, inr, option_map, List, [], ◌∷◌, ◌++◌, map, length, get_or, slice_get, refl, sym, ap, ◌∙◌, subst, arith}
 use Rattle.std.specs.List.{list_all}
 use Rattle.std.specs.Prelude.{Vec, IfSome}
 use Rattle.std.specs.declared.alloc.Global.{Global}
 use Rattle.std.proofs.lemmas.List.{length-map}
-use Rattle.std.proofs.lemmas.Bool.{and_parts}
+use Rattle.std.proofs.lemmas.Bool.{and_parts, or_right}
 use Rattle.std.proofs.lemmas.Bool.Decides.{nat_tests}
 use Rattle.sm_syntax.specs.text.Sorts.{Sorts}
 use Rattle.sm_term.specs.Assertions.{Assertion}
 use Rattle.sm_term.specs.Formulas.{NumberedFormula, numbered, assertion_in}
+use Rattle.sm_term.specs.declared.formula.Formula.{Formula}
 use Rattle.sm_term.specs.Tables.{TableValue, trees_in, sorts_in}
 use Rattle.sm_term.specs.TableLaws.{ExtendsTable}
 use Rattle.sm_term.specs.Terms.{Tree}
-use Rattle.sm_term.specs.declared.formula.Formula.{Formula}
 use Rattle.sm_plan.specs.Plans as plain
 use Rattle.sm_plan.specs.ReadyStates.{AreFormsReady}
 use Rattle.sm_plan.specs.Views.{forms_in}
-use Rattle.sm_expand.specs.declared.due.Due.{Due}
 use Rattle.sm_expand.specs.Views.{due_in, dues_in, AreDuesReady}
+use Rattle.sm_expand.specs.declared.due.Due.{Due}
 use Rattle.sm_expand.proofs.PlansWiden.{dues_stay, dues_ready}
 use Rattle.sm_sketch.specs.Choices.{Choice}
 use Rattle.sm_list.specs.Parts.{all_numbered}
 use Rattle.sm_solve.specs.declared.reach.Reach.{Reach}
 use Rattle.sm_houdini.specs.declared.asked.Asked.{Asked}
-use Rattle.sm_houdini.specs.declared.marks.Marked.{Marked}
 use Rattle.sm_houdini.specs.Closing.{closing, closes_at, stays_at, owner_in}
 use Rattle.sm_houdini.specs.Known.{IsAsked, IsAskedBefore, AreKnown, ClosesAll, is_flagged}
-use Rattle.sm_houdini.specs.Marks.{marked, all_marked, is_there, has_mark, rows}
+use Rattle.sm_houdini.specs.Marks.{marked, all_marked, is_there, has_mark, rows, Marked}
 use Rattle.sm_houdini.specs.Rounds.{is_site, closes_if, holds_at}
 use Rattle.sm_houdini.proofs.ClosingLemmas.{closes_stays}
 use Rattle.sm_houdini.proofs.LoopLemmas.{get_any}
 use Rattle.sm_houdini.proofs.MarkedLemmas.{all_same}
+use Rattle.sm_lemmas.proofs.Tests.{itself}
 
 -- a mark that is there passes
 there_passes : (p : ℕ → Bool) (j : ℕ) (ns : List ℕ) (i : ℕ) → is_there (slice_get (marked p j ns) i) ≡ true → p (j + i) ≡ true
@@ -81,9 +80,6 @@ all_at {X} p [] k d e h = absurd (let no : k < 0 = h in omega arith)
 all_at {X} p (x ∷ xs) zero d e h = (and_parts (p x) (list_all p xs) e).0
 all_at {X} p (x ∷ xs) (suc k) d e h =
     let less : k < length xs = omega (arith, h) in all_at p xs k d (and_parts (p x) (list_all p xs) e).1 less
-
-itself : (n : ℕ) → (n == n) ≡ true
-itself n = grind (arith, nat_tests)
 
 owned_closes : (sorts : Sorts) (reach : Reach) (owner : plain.Due → Option ℕ) (d : plain.Due) (s i : ℕ) → owner d ≡ Some s →
     (not (is_site (owner d) s) || closes_if (closing sorts reach d.facts) (slice_get d.goals i)) ≡ true →
@@ -145,11 +141,6 @@ asked_closes v reach owners a k old site m asked there owned row j marked =
     owned_closes sorts reach (owner_in owners) x site j owned
     (sym (ap p same) ∙ all_at p (dues_in sorts trees a.dues.items) k x all inside)
 
--- the goals of a node that are known to close take no mark away
-or_true : (a b : Bool) → b ≡ true → (a || b) ≡ true
-or_true true b e = refl
-or_true false b e = e
-
 and_held : (a b : Bool) → b ≡ true → a ≡ (a && b)
 and_held true b e = sym e
 and_held false b e = refl
@@ -161,7 +152,7 @@ known_judged sorts reach passes owners d choice rs known e =
     e ∙ all_same passes (λ (s i : ℕ). passes s i && stays_at sorts reach (owner_in owners) d s i) 0 choice
     (λ (s i : ℕ) (l : 0 ≤ s).
     and_held (passes s i) (stays_at sorts reach (owner_in owners) d s i)
-    (or_true (not (is_site (owner_in owners d) s)) (closes_at sorts reach d i) (known i)))
+    (or_right (not (is_site (owner_in owners d) s)) (closes_at sorts reach d i) (known i)))
 
 -- goals that are the same over the same facts
 forms_are : (sorts : Sorts) (trees : List Tree) (fs : List Formula) →

@@ -1,15 +1,14 @@
 -- In the states of a plan whose kept formulas have no new value and no summary, no summary has more arguments than there are names.
-use Rattle.std.proofs.Common.{◌≡◌, ◌≤◌, ◌<◌, ℕ, zero, suc, ◌+◌, ◌-◌, ◌==◌, ◌&&◌, ◌||◌, nat_le, not, Bool, true, false, if◌then◌else◌}
-use Rattle.std.proofs.Common.{Option, Some, None, List, [], ◌∷◌, map, filter, length, refl, ap, subst, arith}
+use Rattle.std.proofs.Common.{◌≡◌, ◌≤◌, ◌<◌, ℕ, zero, suc, ◌+◌, ◌-◌, ◌==◌, ◌&&◌, ◌||◌, nat_le, not, Bool, true, false, if◌then◌else◌, Option, Some, None, List, [], ◌∷◌, map, filter, length, refl, ap, subst, arith}
 use Rattle.std.specs.List.{flat_map, range_with_len}
 use Rattle.std.proofs.lemmas.Option.{same_Some}
 use Rattle.sm_syntax.specs.Assigns.{assigns}
 use Rattle.sm_syntax.specs.claim.ConflictFree.{Copy, Task}
 use Rattle.sm_syntax.specs.claim.Syntax as syntax
 use Rattle.sm_syntax.specs.claim.Syntax.{Condition, Code, append}
-use Rattle.sm_syntax.specs.declared.tree.Sort.{Sort}
 use Rattle.sm_syntax.specs.text.Parts.{sort_of}
 use Rattle.sm_syntax.specs.text.Sorts.{Sorts, IsWellSorted}
+use Rattle.sm_syntax.specs.declared.tree.Sort.{Sort}
 use Rattle.sm_deps.specs.Inputs.{needed, greatest, inputs}
 use Rattle.sm_deps.specs.Names.{code_names}
 use Rattle.sm_deps.proofs.InputsDeclared.{inputs_declared, assigned_declared}
@@ -21,8 +20,7 @@ use Rattle.sm_term.specs.Symbolic.{SymbolicStore, with_term, term_of, form_of}
 use Rattle.sm_term.specs.Terms.{Tree, Havoc, Write, Fun}
 use Rattle.sm_plan.specs.Copies.{Copies, copies, each, has, is_inhabited, subsets, no_copies}
 use Rattle.sm_plan.specs.Limits.{is_kept}
-use Rattle.sm_plan.specs.Nodes.{Node, Step, Abs, Fork, Loop, Block, Dead, Ends, Unfit, Opened, opened_by, where_true, after_step}
-use Rattle.sm_plan.specs.Nodes.{both_ways}
+use Rattle.sm_plan.specs.Nodes.{Node, Step, Abs, Fork, Loop, Block, Dead, Ends, Unfit, Opened, opened_by, where_true, after_step, both_ways}
 use Rattle.sm_plan.specs.Plans.{Plan, At, Plans, Over, More, size}
 use Rattle.sm_plan.specs.SortedStates.{IsStateSorted, AreStatesSorted, IsTaskSorted}
 use Rattle.sm_plan.specs.Starts.{AreNumbered}
@@ -41,8 +39,10 @@ use Rattle.sm_write.specs.PlanStates.{states_opened, plan_states, plans_states}
 use Rattle.sm_write.specs.Seen.{IsBuilt}
 use Rattle.sm_write.specs.Writable.{EachKept}
 use Rattle.sm_write.proofs.BuiltTerms.{IsStoreBuilt, term_built, form_built, negate_sides, conj_sides, sides_append}
-use Rattle.sm_houdini.proofs.LeanTerms.{is_lean, are_lean, both_true, le_true, Lean, built_lean, all_at_lean}
+use Rattle.sm_houdini.proofs.LeanTerms.{is_lean, are_lean, Lean, built_lean, all_at_lean}
 use Rattle.sm_houdini.proofs.NamedGoals.{AreSimple, AreAllSimple, outputs_simple}
+use Rattle.std.proofs.lemmas.Bool.{and_from}
+use Rattle.sm_lemmas.proofs.Tests.{le_true}
 
 -- numbers of a range that pass a test and are below another are no more than that one
 few_pass : (p : ℕ → Bool) (most k n : ℕ) → ((x : ℕ) → p x ≡ true → x < most) → length (filter p (range_with_len k n)) ≤ most - k
@@ -100,14 +100,14 @@ module _ (ds : List (ℕ × Sort)) (numbered : AreNumbered ds) where
   present_lean : (s : SymbolicStore) → Store s → (names : List ℕ) → are_lean most (next.present s names) ≡ true
   present_lean s all [] = refl
   present_lean s all (x ∷ names) =
-      both_true (is_lean most (s x)) (are_lean most (next.present s names)) (built_lean most (s x) (all x)) (present_lean s all names)
+      and_from (is_lean most (s x)) (are_lean most (next.present s names)) (built_lean most (s x) (all x)) (present_lean s all names)
 
   summarized_lean : (c : Code) (s : SymbolicStore) → IsWellSorted sorts c → Store s → Store (next.summarized c s)
   summarized_lean c s well all x =
       choice_lean (assigns c x) (Fun c x (next.present s (inputs c x))) (s x)
       (λ (h : assigns c x ≡ true).
       let count = present_few s (inputs c x) in
-      both_true (nat_le (length (terms_given (next.present s (inputs c x)))) most) (are_lean most (next.present s (inputs c x)))
+      and_from (nat_le (length (terms_given (next.present s (inputs c x)))) most) (are_lean most (next.present s (inputs c x)))
       (le_true (length (terms_given (next.present s (inputs c x)))) most (omega (arith, count, inputs_few ds numbered c x well h)))
       (present_lean s all (inputs c x)))
       (all x)

@@ -1,7 +1,6 @@
 -- Terms in which no summary has more than so many arguments.
-use Rattle.std.proofs.Common.{◌≡◌, ◌≤◌, ℕ, nat_le, Bool, true, false, ◌&&◌, List, [], ◌∷◌, length, refl, arith}
-use Rattle.std.proofs.lemmas.Bool.{and_parts}
-use Rattle.std.proofs.lemmas.Bool.Decides.{nat_tests}
+use Rattle.std.proofs.Common.{◌≡◌, ◌≤◌, ℕ, nat_le, Bool, true, ◌&&◌, List, [], ◌∷◌, length, refl, arith}
+use Rattle.std.proofs.lemmas.Bool.{and_parts, and_from}
 use Rattle.sm_syntax.specs.claim.ConflictFree.{Copy}
 use Rattle.sm_term.specs.Assertions.{Assertion, Yes, No, Eq, Ne, Le, Lt, And, Or}
 use Rattle.sm_term.specs.Heads.{terms_given, arguments_of}
@@ -12,6 +11,7 @@ use Rattle.sm_write.specs.Nameable.{EachOf, EachSide, AllSides, PassesTest}
 use Rattle.sm_write.specs.PlainPlans.{NoTerm}
 use Rattle.sm_write.specs.Seen.{IsBuilt}
 use Rattle.sm_write.proofs.BuiltTerms.{IsStoreBuilt}
+use Rattle.sm_lemmas.proofs.Tests.{le_from_test}
 
 abbrev mutual
   -- each summary in a term has at most so many arguments, inside others too
@@ -34,16 +34,6 @@ abbrev mutual
   are_lean most Over = true
   are_lean most (Given x t rest) = is_lean most t && are_lean most rest
 
-pub both_true : (p q : Bool) → p ≡ true → q ≡ true → (p && q) ≡ true
-both_true true q a b = b
-both_true false q a b = absurd cc
-
-pub le_true : (m n : ℕ) → m ≤ n → nat_le m n ≡ true
-le_true m n h = grind (arith, nat_tests)
-
-le_of : (m n : ℕ) → nat_le m n ≡ true → m ≤ n
-le_of m n h = grind (arith, nat_tests)
-
 module _ (most : ℕ) where
   -- a term that is so
   abbrev pub Lean : Tree → Type 0
@@ -56,14 +46,14 @@ module _ (most : ℕ) where
   built_lean (Havoc k c x) b = refl
   built_lean (Slot c x) b = refl
   built_lean Cell b = refl
-  built_lean (Read a i) b = both_true (is_lean most a) (is_lean most i) (built_lean a b.0) (built_lean i b.1)
+  built_lean (Read a i) b = and_from (is_lean most a) (is_lean most i) (built_lean a b.0) (built_lean i b.1)
   built_lean (Write a i e) b =
-      both_true (is_lean most a) (is_lean most i && is_lean most e) (built_lean a b.0)
-      (both_true (is_lean most i) (is_lean most e) (built_lean i b.1) (built_lean e b.2))
+      and_from (is_lean most a) (is_lean most i && is_lean most e) (built_lean a b.0)
+      (and_from (is_lean most i) (is_lean most e) (built_lean i b.1) (built_lean e b.2))
   built_lean (Neg t) b = built_lean t b
-  built_lean (Add t u) b = both_true (is_lean most t) (is_lean most u) (built_lean t b.0) (built_lean u b.1)
-  built_lean (Sub t u) b = both_true (is_lean most t) (is_lean most u) (built_lean t b.0) (built_lean u b.1)
-  built_lean (Mul t u) b = both_true (is_lean most t) (is_lean most u) (built_lean t b.0) (built_lean u b.1)
+  built_lean (Add t u) b = and_from (is_lean most t) (is_lean most u) (built_lean t b.0) (built_lean u b.1)
+  built_lean (Sub t u) b = and_from (is_lean most t) (is_lean most u) (built_lean t b.0) (built_lean u b.1)
+  built_lean (Mul t u) b = and_from (is_lean most t) (is_lean most u) (built_lean t b.0) (built_lean u b.1)
   built_lean (Fun c x args) b = b
 
   -- its arguments are so too
@@ -105,7 +95,7 @@ module _ (most : ℕ) where
   arguments_few n h g (Sub t u) lean = omega (arith, g)
   arguments_few n h g (Mul t u) lean = omega (arith, g)
   arguments_few n h g (Fun c x args) lean =
-      let few = le_of (length (terms_given args)) most
+      let few = le_from_test (length (terms_given args)) most
       (and_parts (nat_le (length (terms_given args)) most) (are_lean most args) lean).0 in
       omega (arith, few, h)
 

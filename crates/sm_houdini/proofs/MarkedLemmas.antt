@@ -1,12 +1,10 @@
 -- Marks of templates: one more, those that stay, and the numbers that they keep.
-use Rattle.std.proofs.Common.{◌≡◌, ℕ, suc, ◌+◌, ◌<◌, ◌≤◌, Bool, true, false, ◌&&◌, if◌then◌else◌}
-use Rattle.std.proofs.Common.{List, [], ◌∷◌, ◌++◌, map, length, take, get_or, refl, sym, ap, ◌∙◌, arith}
+use Rattle.std.proofs.Common.{◌≡◌, ℕ, suc, ◌+◌, ◌<◌, ◌≤◌, Bool, true, false, ◌&&◌, if◌then◌else◌, List, [], ◌∷◌, ◌++◌, map, length, take, get_or, refl, sym, ap, ◌∙◌, arith}
 use Rattle.std.specs.Prelude.{Vec}
 use Rattle.std.specs.declared.alloc.Global.{Global}
 use Rattle.std.proofs.lemmas.List.{length-take-le, map-append, take_more}
 use Rattle.sm_sketch.specs.Choices.{Choice}
-use Rattle.sm_houdini.specs.declared.marks.Marked.{Marked}
-use Rattle.sm_houdini.specs.Marks.{marked, all_marked, still_marked, numbers_of, rows}
+use Rattle.sm_houdini.specs.Marks.{marked, all_marked, still_marked, numbers_of, rows, Marked}
 use Rattle.sm_houdini.specs.Rounds.{numbers_kept, sites_kept}
 use Rattle.sm_houdini.proofs.LoopLemmas.{taken}
 

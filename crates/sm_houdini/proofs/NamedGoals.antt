@@ -1,21 +1,19 @@
 -- What a plan asks compares what can be named where it is asked, where what its nodes keep is sorted and has no new value and no summary.
-use Rattle.std.proofs.Common.{◌≡◌, ℕ, zero, suc, ◌+◌, nat_le, Bool, true, false, not, ◌&&◌, ◌||◌, Option, Some, None}
-use Rattle.std.proofs.Common.{Ok, List, [], ◌∷◌, ◌++◌, map, slice_get, refl, sym, subst}
+use Rattle.std.proofs.Common.{◌≡◌, ℕ, zero, suc, ◌+◌, nat_le, not, ◌&&◌, ◌||◌, Option, Some, None, Ok, List, [], ◌∷◌, ◌++◌, map, slice_get, refl, sym, subst}
 use Rattle.std.specs.List.{flat_map}
 use Rattle.std.proofs.lemmas.Option.{same_Some}
 use Rattle.sm_syntax.specs.claim.ConflictFree.{Copy, O, A, B, M, Task}
 use Rattle.sm_syntax.specs.claim.Syntax.{Code, End, Skip, Assign, Write, If, While, Hole}
+use Rattle.sm_syntax.specs.text.Sorts.{Sorts}
 use Rattle.sm_syntax.specs.declared.tree.Sort.{Sort}
 use Rattle.sm_syntax.specs.declared.tree.Sort.TheVariants.{Num, Arr}
-use Rattle.sm_syntax.specs.text.Sorts.{Sorts}
 use Rattle.sm_term.specs.Assertions.{Assertion, No, conj}
 use Rattle.sm_term.specs.Slots.{all_at_stores}
 use Rattle.sm_term.specs.Sorted.{AreFormsSorted}
 use Rattle.sm_term.specs.Symbolic.{SymbolicStore}
 use Rattle.sm_plan.specs.Copies.{Copies, each, has, is_inhabited, subsets}
 use Rattle.sm_plan.specs.Limits.{is_kept}
-use Rattle.sm_plan.specs.Nodes.{Node, Step, Abs, Fork, Loop, Block, Dead, Ends, Unfit, Opened, opened_by, where_true, after_step}
-use Rattle.sm_plan.specs.Nodes.{both_ways, rule_of}
+use Rattle.sm_plan.specs.Nodes.{Node, Step, Abs, Fork, Loop, Block, Dead, Ends, Unfit, Opened, opened_by, after_step, both_ways, rule_of}
 use Rattle.sm_plan.specs.Plans.{Plan, At, Plans, Over, More, size, Due, Fault, Wrong, due, expand, expand_all}
 use Rattle.sm_plan.specs.SortedStates.{IsStateSorted, AreStatesSorted, IsNodeSorted, IsTaskSorted}
 use Rattle.sm_plan.specs.States.{State, place, keeps_goals, start_state}
@@ -25,7 +23,6 @@ use Rattle.sm_plan.proofs.NodeSorted.{node_sorted}
 use Rattle.sm_plan.proofs.SortedStates.{start_sorted}
 use Rattle.sm_plan.proofs.SortedTerms.{conj_sorted}
 use Rattle.sm_moves.proofs.SetsLemmas.{Each, each_append}
-use Rattle.sm_product.proofs.ObligationsLemmas.{joined_back}
 use Rattle.sm_write.specs.Nameable.{AllSides, Nameable}
 use Rattle.sm_write.specs.PlainPlans.{NoTerm}
 use Rattle.sm_write.specs.PlanStates.{states_opened, plan_states, plans_states}
@@ -35,6 +32,8 @@ use Rattle.sm_write.proofs.BranchNameable.{states_are_nameable}
 use Rattle.sm_write.proofs.BuiltTerms.{conj_sides, sides_append}
 use Rattle.sm_write.proofs.SimpleNameable.{goals_nameable}
 use Rattle.sm_houdini.proofs.PlacesLemmas.{IsAt, at_first, at_rest, at_left, at_right, at_start, dues_same, plan_parts, states_length}
+use Rattle.sm_plan.proofs.OpenedSame.{opened_same}
+use Rattle.sm_plan.proofs.PlanSound.{joined_is}
 
 -- what a node keeps is sorted and has no new value and no summary
 abbrev pub IsSimple : Sorts → Node → Type 0
@@ -53,10 +52,6 @@ abbrev mutual
 -- what a state aims at has no new value and no summary
 abbrev IsAimed : State → Type 0
 IsAimed st = AllSides (IsBuilt NoTerm) st.target
-
-opened_same : (b : Bool) (p q : Opened) → where_true b p ≡ Some q → p ≡ q
-opened_same true p q e = same_Some p q e
-opened_same false p q e = absurd cc
 
 -- what a node opens aims at such formulas, and what it asks are such formulas at its stores
 record Simply (sorts : Sorts) (st : State) (q : Opened) : Type 0 where
@@ -176,7 +171,7 @@ module _ (sorts : Sorts) (all : List State) where
     plans_named Over w k (st ∷ states) ds simple fine at e = absurd cc
     plans_named (More p ps) w k [] ds simple fine at e = absurd cc
     plans_named (More p ps) w k (st ∷ states) ds simple fine at e =
-        let parts = joined_back (expand k st p) (expand_all w (k + size p) states ps) ds e in
+        let parts = joined_is (expand k st p) (expand_all w (k + size p) states ps) ds e in
         let first = plan_states k st p in
         let second = plans_states (k + size p) states ps in
         both_named parts.0 parts.1 ds parts.4

@@ -1,8 +1,5 @@
 -- A goal is final exactly where no site owns it. What a site asks are the templates that are chosen there, at the stores of the node that asks.
-use Rattle.std.proofs.Common.{◌≡◌, ◌⊎◌, ℕ, suc, ◌+◌, Bool, true, false, not, ◌&&◌, ◌||◌}
-use Rattle.std.proofs.Common.{Option, Some, None, is_none, inl, inr}
-use Rattle.std.proofs.Common.{Result, Ok, Err, List, [], ◌∷◌, ◌++◌, map, length, slice_get, refl}
-use Rattle.std.proofs.Common.{sym, ap, ◌∙◌, subst, arith, ⊎_elim}
+use Rattle.std.proofs.Common.{◌≡◌, ◌⊎◌, ℕ, suc, ◌+◌, Bool, true, false, not, ◌&&◌, ◌||◌, Option, Some, None, is_none, inl, inr, Result, Ok, Err, List, [], ◌∷◌, ◌++◌, map, length, slice_get, refl, sym, ap, ◌∙◌, subst, arith, ⊎_elim}
 use Rattle.std.specs.Prelude.{unwrap_or}
 use Rattle.std.proofs.lemmas.Option.{same_Some}
 use Rattle.std.proofs.lemmas.List.{length-append}
@@ -14,29 +11,26 @@ use Rattle.sm_term.specs.Slots.{all_at_stores}
 use Rattle.sm_term.specs.Symbolic.{SymbolicStore}
 use Rattle.sm_plan.specs.Copies.{Copies, subsets, each, has, is_inhabited}
 use Rattle.sm_plan.specs.Limits.{is_shallow, is_kept}
-use Rattle.sm_plan.specs.Nodes.{Node, Step, Abs, Fork, Loop, Block, Ends, Opened, opened_by}
-use Rattle.sm_plan.specs.Nodes.{rule_of, is_end, where_true, after_step, both_ways}
-use Rattle.sm_plan.specs.Plans.{Plans, At, Due, Fault, Wrong, Deep, due, expand}
-use Rattle.sm_plan.specs.Plans.{expand_all, size, sizes, branches, obligations}
+use Rattle.sm_plan.specs.Nodes.{Node, Step, Abs, Fork, Loop, Block, Ends, Opened, opened_by, rule_of, is_end, where_true, after_step, both_ways}
+use Rattle.sm_plan.specs.Plans.{Plans, At, Due, Fault, Wrong, Deep, due, expand, expand_all, size, sizes, branches, obligations}
 use Rattle.sm_plan.specs.States.{State, start_state}
 use Rattle.sm_plan.specs.Statements.{is_over, is_long, is_loop}
 use Rattle.sm_plan.specs.Successors as next
 use Rattle.sm_moves.proofs.SetsLemmas.{Each, each_append}
 use Rattle.sm_sketch.specs.Choices.{Choice, chosen_at, picked, kept_by}
-use Rattle.sm_sketch.specs.Sketches.{SketchNode, Plain, LoopSite, BlockSite, Sketch, Draw}
-use Rattle.sm_sketch.specs.Sketches.{Sketches, Over, More}
-use Rattle.sm_sketch.specs.Sketches.{sites_of, sites_below, plan_with, plans_with}
+use Rattle.sm_sketch.specs.Sketches.{SketchNode, Plain, LoopSite, BlockSite, Sketch, Draw, Sketches, Over, More, sites_of, sites_below, plan_with, plans_with}
 use Rattle.sm_product.specs.ProductPlans as plans
 use Rattle.sm_product.specs.ProductPlans.{plan_of}
 use Rattle.sm_product.specs.Products.{sketch_of}
 use Rattle.sm_product.proofs.ChoicesLemmas.{kept_parts_chosen}
 use Rattle.sm_product.proofs.NodesLemmas.{EachNode, EachBelow, HoldsOfNodes, sketch_nodes}
-use Rattle.sm_product.proofs.ObligationsLemmas.{joined_back, passed_back}
 use Rattle.sm_houdini.specs.Laws.{AreFinalUnowned, FinalHasNoOwner, AllAskChosen, SitesAskChosen}
 use Rattle.sm_write.specs.PlanStates.{states_opened, plan_states, plans_states}
 use Rattle.sm_houdini.specs.Obligations.{states_of, AsksChosen}
 use Rattle.sm_houdini.specs.Owners.{owners, owners_below, owner_of}
 use Rattle.sm_houdini.proofs.PlacesLemmas.{IsAt, at_first, at_rest, at_left, at_right, at_start, dues_same, plan_parts, states_length}
+use Rattle.sm_plan.proofs.OpenedSame.{opened_same}
+use Rattle.sm_plan.proofs.PlanSound.{joined_is, passed}
 
 -- a state has the target of another one
 record IsAs (st other : State) : Type 0 where
@@ -89,10 +83,6 @@ nodes_pass t = record {
   of_loops = λ (set : Copies) (code : Copy → Code). tt;
   of_block = λ (counts : Copy → ℕ) (code : Copy → Code). tt;
 }
-
-pub opened_same : (b : Bool) (p q : Opened) → where_true b p ≡ Some q → p ≡ q
-opened_same true p q e = same_Some p q e
-opened_same false p q e = absurd cc
 
 pub not_ok : (ds : List Due) (w : Fault) → (let r : Result (List Due) Fault = Err w in r) ≡ Ok ds → ⊥
 not_ok ds w e = absurd cc
@@ -283,19 +273,19 @@ module _ (base : List (Option ℕ)) (all : List State) (keep : ℕ → List Asse
     all_owned Over inner last w k s m eq (st ∷ states) ds good keeps aimed at there e = absurd cc
     all_owned (More p ps) inner last w k s m eq [] ds good keeps aimed at there e = absurd cc
     all_owned (More p Over) inner last w k s m eq (st ∷ []) ds good keeps aimed at there e =
-        let parts = joined_back (expand k st (plan_with keep m p)) (Ok []) ds e in
+        let parts = joined_is (expand k st (plan_with keep m p)) (Ok []) ds e in
         both_owned parts.0 parts.1 ds parts.4
         (owned p last k s st parts.0 good.0 (parts_split chosen keep s (sites_of p) [] keeps).0 aimed at
         (renumbered_at k st p s m eq (at_left all k (plan_states k st (plan_with keep m p)) [] there))
         (ap (λ (n : ℕ). expand k st (plan_with keep n p)) eq ∙ parts.2))
         (subst (Each IsOwned) (dues_same [] parts.1 parts.3) tt)
     all_owned (More p Over) inner last w k s m eq (st ∷ other ∷ states) ds good keeps aimed at there e =
-        let parts = joined_back (expand k st (plan_with keep m p)) (Err w) ds e in absurd (not_ok parts.1 w parts.3)
+        let parts = joined_is (expand k st (plan_with keep m p)) (Err w) ds e in absurd (not_ok parts.1 w parts.3)
     all_owned (More p (More q ps)) inner last w k s m eq (st ∷ []) ds good keeps aimed at there e =
-        let parts = joined_back (expand k st (plan_with keep m p)) (Err w) ds e in absurd (not_ok parts.1 w parts.3)
+        let parts = joined_is (expand k st (plan_with keep m p)) (Err w) ds e in absurd (not_ok parts.1 w parts.3)
     all_owned (More p (More q ps)) inner last w k s m eq (st ∷ other ∷ states) ds good keeps aimed at there e =
         let n = k + size (plan_with keep m p) in
-        let parts = joined_back (expand k st (plan_with keep m p))
+        let parts = joined_is (expand k st (plan_with keep m p))
         (expand_all w n (other ∷ states) (plans_with keep (m + length (sites_of p)) (More q ps))) ds e in
         let mine = owners inner s p in
         let rest = owners_below inner last (s + length (sites_of p)) (More q ps) in
@@ -334,7 +324,7 @@ product_owned t choice ds e =
     owned base (states_of t choice) (kept_by choice) (chosen_templates t choice) (sketch_of t) None 0 0 (start_state (task_of t)) ds
     (sketch_nodes t PassesAt (nodes_pass t)) (sites_keep t choice) (record { final = refl; has_parts = tt })
     (at_start base) (at_start (states_of t choice))
-    (passed_back (is_shallow (branches (plan_of t choice))) (expand 0 (start_state (task_of t)) (plan_of t choice)) Deep ds e)
+    (passed (is_shallow (branches (plan_of t choice))) (expand 0 (start_state (task_of t)) (plan_of t choice)) Deep ds e)
 
 module _ (t : Parts) (choice : Choice) where
   abbrev IsOwnedThere : Due → Type 0

@@ -1,8 +1,6 @@
 -- The plans of two choices side by side. Where one has all templates of the other, each node asks these of it too, over the other's facts
 -- among others.
-use Rattle.std.proofs.Common.{◌≡◌, ◌⊎◌, inl, inr, ℕ, suc, ◌+◌, Bool, not, ◌&&◌, ◌||◌}
-use Rattle.std.proofs.Common.{Option, Some, None, Ok, Err, List, [], ◌∷◌, ◌++◌, map, length, slice_get, refl}
-use Rattle.std.proofs.Common.{sym, ap, ◌∙◌, subst, arith}
+use Rattle.std.proofs.Common.{◌≡◌, ◌⊎◌, inl, inr, ℕ, suc, ◌+◌, Bool, not, ◌&&◌, ◌||◌, Option, Some, None, Ok, Err, List, [], ◌∷◌, ◌++◌, map, length, slice_get, refl, sym, ap, ◌∙◌, subst, arith}
 use Rattle.std.specs.List.{flat_map}
 use Rattle.std.proofs.lemmas.Option.{same_Some}
 use Rattle.sm_syntax.specs.claim.Syntax.{Code, End, Skip, Assign, Write, If, While, Hole}
@@ -13,25 +11,23 @@ use Rattle.sm_term.specs.Slots.{all_at_stores}
 use Rattle.sm_term.specs.Symbolic.{SymbolicStore}
 use Rattle.sm_plan.specs.Copies.{Copies, subsets, each, has, is_inhabited, copies, no_copies}
 use Rattle.sm_plan.specs.Limits.{is_kept, is_shallow}
-use Rattle.sm_plan.specs.Nodes.{Node, Step, Abs, Fork, Loop, Block, Ends, Opened, opened_by}
-use Rattle.sm_plan.specs.Nodes.{rule_of, where_true, after_step, both_ways}
+use Rattle.sm_plan.specs.Nodes.{Node, Step, Abs, Fork, Loop, Block, Ends, Opened, opened_by, rule_of, where_true, after_step, both_ways}
 use Rattle.sm_plan.specs.Plans.{Due, Fault, Wrong, Deep, due, expand, expand_all, size, branches, obligations}
 use Rattle.sm_plan.specs.States.{State, start_state}
 use Rattle.sm_plan.specs.Statements.{is_over, is_long, front, rest_after, is_loop}
 use Rattle.sm_plan.specs.Successors as next
 use Rattle.sm_moves.proofs.SetsLemmas.{Each, each_append, each_of_all}
 use Rattle.sm_sketch.specs.Choices.{Choice, kept_by}
-use Rattle.sm_sketch.specs.Sketches.{SketchNode, Plain, LoopSite, BlockSite, Sketch, Draw}
-use Rattle.sm_sketch.specs.Sketches.{Sketches, Over, More}
-use Rattle.sm_sketch.specs.Sketches.{sites_of, sites_below, plan_with, plans_with}
+use Rattle.sm_sketch.specs.Sketches.{SketchNode, Plain, LoopSite, BlockSite, Sketch, Draw, Sketches, Over, More, sites_of, sites_below, plan_with, plans_with}
 use Rattle.sm_product.specs.ProductPlans.{plan_of}
 use Rattle.sm_product.specs.Products.{sketch_of}
 use Rattle.sm_product.proofs.NodesLemmas.{EachNode, EachBelow, HoldsOfNodes, sketch_nodes}
-use Rattle.sm_product.proofs.ObligationsLemmas.{joined_back, passed_back}
 use Rattle.sm_houdini.specs.Owners.{owners, owners_below}
-use Rattle.sm_houdini.proofs.OwnersLemmas.{HasParts, AskParts, parts_asked, KeepParts, parts_split, owners_length, opened_same, not_ok}
-use Rattle.sm_houdini.proofs.OwnersLemmas.{chosen_templates, sites_keep}
-use Rattle.sm_houdini.proofs.PlacesLemmas.{found_left, found_right, IsAt, at_first, at_rest, at_left, at_right, at_start, dues_same, plan_parts}
+use Rattle.sm_houdini.proofs.OwnersLemmas.{HasParts, AskParts, parts_asked, KeepParts, parts_split, owners_length, not_ok, chosen_templates, sites_keep}
+use Rattle.sm_houdini.proofs.PlacesLemmas.{IsAt, at_first, at_rest, at_left, at_right, at_start, dues_same, plan_parts}
+use Rattle.sm_plan.proofs.PlanSound.{joined_is, passed}
+use Rattle.sm_plan.proofs.OpenedSame.{opened_same}
+use Rattle.sm_lemmas.proofs.Lists.{get_in_first, get_in_second}
 
 -- a relation of lists of formulas that holds of each list and itself, and stays with what is put behind and at stores
 pub record IsKept (Rel : List Assertion → List Assertion → Type 0) : Type 0 where
@@ -163,7 +159,7 @@ module _ (Among : List Assertion → List Assertion → Type 0) (kept : IsKept A
   shown_left ds gs e goals h = record {
     place = h.place;
     due = h.due;
-    there = found_left ds gs h.place h.due h.there;
+    there = get_in_first ds gs h.place h.due h.there;
     node = h.node;
     asks = h.asks;
     among = h.among;
@@ -173,7 +169,7 @@ module _ (Among : List Assertion → List Assertion → Type 0) (kept : IsKept A
   shown_right ds gs e goals h = record {
     place = length ds + h.place;
     due = h.due;
-    there = found_right ds gs h.place ∙ h.there;
+    there = get_in_second ds gs h.place ∙ h.there;
     node = h.node;
     asks = h.asks;
     among = h.among;
@@ -420,8 +416,8 @@ module _ (Among : List Assertion → List Assertion → Type 0) (kept : IsKept A
       all_paired (More p ps) inner last w v k s m eq [] bigs ds es good little much h at e f = absurd cc
       all_paired (More p ps) inner last w v k s m eq (st ∷ states) [] ds es good little much h at e f = absurd cc
       all_paired (More p Over) inner last w v k s m eq (st ∷ []) (big ∷ []) ds es good little much h at e f =
-          let parts = joined_back (expand k st (plan_with keep m p)) (Ok []) ds e in
-          let bits = joined_back (expand k big (plan_with other m p)) (Ok []) es f in
+          let parts = joined_is (expand k st (plan_with keep m p)) (Ok []) ds e in
+          let bits = joined_is (expand k big (plan_with other m p)) (Ok []) es f in
           both_paired parts.0 parts.1 ds bits.0 bits.1 es parts.4 bits.4
           (paired p last k s st big.facts big.target big.is_final parts.0 bits.0 good.0
           (parts_split few keep s (sites_of p) [] little).0 (parts_split many other s (sites_of p) [] much).0 h.above at
@@ -430,17 +426,17 @@ module _ (Among : List Assertion → List Assertion → Type 0) (kept : IsKept A
           (subst (Each (Paired parts.1)) (dues_same [] bits.1 bits.3) tt)
       all_paired (More p Over) inner last w v k s m eq (st ∷ []) (big ∷ bigger ∷ bigs) ds es good little much h at e f = absurd h
       all_paired (More p Over) inner last w v k s m eq (st ∷ second ∷ states) (big ∷ bigs) ds es good little much h at e f =
-          let parts = joined_back (expand k st (plan_with keep m p)) (Err w) ds e in absurd (not_ok parts.1 w parts.3)
+          let parts = joined_is (expand k st (plan_with keep m p)) (Err w) ds e in absurd (not_ok parts.1 w parts.3)
       all_paired (More p (More q ps)) inner last w v k s m eq (st ∷ []) (big ∷ bigs) ds es good little much h at e f =
-          let parts = joined_back (expand k st (plan_with keep m p)) (Err w) ds e in absurd (not_ok parts.1 w parts.3)
+          let parts = joined_is (expand k st (plan_with keep m p)) (Err w) ds e in absurd (not_ok parts.1 w parts.3)
       all_paired (More p (More q ps)) inner last w v k s m eq (st ∷ second ∷ states) (big ∷ []) ds es good little much h at e f = absurd h
       all_paired (More p (More q ps)) inner last w v k s m eq (st ∷ second ∷ states) (big ∷ bigger ∷ bigs) ds es good little much h at e f =
           let len = length (sites_of p) in
           let n = k + size (plan_with keep m p) in
           let counts = sym (owners_length keep p inner m) ∙ owners_length other p inner m in
-          let parts = joined_back (expand k st (plan_with keep m p))
+          let parts = joined_is (expand k st (plan_with keep m p))
           (expand_all w n (second ∷ states) (plans_with keep (m + len) (More q ps))) ds e in
-          let bits = joined_back (expand k big (plan_with other m p))
+          let bits = joined_is (expand k big (plan_with other m p))
           (expand_all v (k + size (plan_with other m p)) (bigger ∷ bigs) (plans_with other (m + len) (More q ps))) es f in
           let mine = owners inner s p in
           let rest = owners_below inner last (s + len) (More q ps) in
@@ -470,5 +466,5 @@ module _ (Among : List Assertion → List Assertion → Type 0) (kept : IsKept A
       paired base (kept_by choice) (kept_by round) (chosen_templates t choice) (chosen_templates t round) more (sketch_of t) None 0 0 st
       st.facts st.target st.is_final ds es (sketch_nodes t MatchesAt (nodes_match t)) (sites_keep t choice) (sites_keep t round)
       (record { among = kept.itself st.facts; little = tt; much = tt }) (at_start base)
-      (passed_back (is_shallow (branches (plan_of t choice))) (expand 0 st (plan_of t choice)) Deep ds e)
-      (passed_back (is_shallow (branches (plan_of t round))) (expand 0 st (plan_of t round)) Deep es f)
+      (passed (is_shallow (branches (plan_of t choice))) (expand 0 st (plan_of t choice)) Deep ds e)
+      (passed (is_shallow (branches (plan_of t round))) (expand 0 st (plan_of t round)) Deep es f)

@@ -1,24 +1,12 @@
 -- A list that stands in a longer one from a place on. A plan that has obligations has a state for each node.
-use Rattle.std.proofs.Common.{◌≡◌, ℕ, zero, suc, ◌+◌, ◌==◌, if◌then◌else◌, Option, Some, Result, Ok, Err}
-use Rattle.std.proofs.Common.{List, [], ◌∷◌, ◌++◌, length, slice_get, refl, ap, ◌∙◌, arith}
+use Rattle.std.proofs.Common.{◌≡◌, ℕ, suc, ◌+◌, ◌==◌, if◌then◌else◌, Option, Some, Result, Ok, Err, List, [], ◌∷◌, ◌++◌, length, slice_get, refl, ap, ◌∙◌, arith}
 use Rattle.std.proofs.lemmas.List.{length-append}
 use Rattle.sm_plan.specs.Nodes.{Node, Opened, opened_by, rule_of}
 use Rattle.sm_plan.specs.Plans.{Plan, At, Plans, Over, More, size, sizes, count, Due, Fault, Wrong, due, joined, expand, expand_all}
 use Rattle.sm_plan.specs.States.{State}
-use Rattle.sm_product.proofs.ObligationsLemmas.{opened_back, joined_back, passed_back}
 use Rattle.sm_write.specs.PlanStates.{states_opened, plan_states, plans_states}
-
--- what is found in a list is found in a longer one
-pub found_left : {X : Type 0} (xs ys : List X) (i : ℕ) (x : X) → slice_get xs i ≡ Some x → slice_get (xs ++ ys) i ≡ Some x
-found_left [] ys i x e = absurd cc
-found_left (y ∷ xs) ys zero x e = e
-found_left (y ∷ xs) ys (suc i) x e = found_left xs ys i x e
-
-pub found_right : {X : Type 0} (xs ys : List X) (i : ℕ) → slice_get (xs ++ ys) (length xs + i) ≡ slice_get ys i
-found_right [] ys i = let e : 0 + i ≡ i = omega arith in ap (slice_get ys) e
-found_right (x ∷ xs) ys i =
-    let e : suc (length xs) + i ≡ suc (length xs + i) = omega arith in
-    ap (slice_get (x ∷ (xs ++ ys))) e ∙ found_right xs ys i
+use Rattle.sm_lemmas.proofs.Lists.{get_in_first, get_in_second}
+use Rattle.sm_plan.proofs.PlanSound.{opened_is, joined_is, passed}
 
 module _ {X : Type 0} (all : List X) where
   -- a list stands in the longer one from a place on
@@ -32,12 +20,12 @@ module _ {X : Type 0} (all : List X) where
   at_rest k x xs h i y e = let same : suc k + i ≡ k + suc i = omega arith in ap (slice_get all) same ∙ h (suc i) y e
 
   pub at_left : (k : ℕ) (xs ys : List X) → IsAt k (xs ++ ys) → IsAt k xs
-  at_left k xs ys h i x e = h i x (found_left xs ys i x e)
+  at_left k xs ys h i x e = h i x (get_in_first xs ys i x e)
 
   pub at_right : (k n : ℕ) (xs ys : List X) → n ≡ length xs → IsAt k (xs ++ ys) → IsAt (k + n) ys
   at_right k n xs ys len h i x e =
       let same : k + n + i ≡ k + (length xs + i) = omega (arith, len) in
-      ap (slice_get all) same ∙ h (length xs + i) x (found_right xs ys i ∙ e)
+      ap (slice_get all) same ∙ h (length xs + i) x (get_in_second xs ys i ∙ e)
 
   -- it stands in itself from the start on
   pub at_start : IsAt 0 all
@@ -62,11 +50,11 @@ pub plan_parts : (node : Node) (ps : Plans) (k : ℕ) (st : State) (ds : List Du
     PlanParts node ps k st ds
 plan_parts node ps k st ds e =
     let w = Wrong k (rule_of node) in
-    let o = opened_back (opened_by k st node) w
+    let o = opened_is (opened_by k st node) w
     (λ (q : Opened). if count ps == length q.states then joined (Ok (due k st node q.goals)) (expand_all w (suc k) q.states ps)
     else Err w) ds e in
-    let parts = joined_back (Ok (due k st node o.0.goals)) (expand_all w (suc k) o.0.states ps) ds
-    (passed_back (count ps == length o.0.states) _ w ds o.2) in
+    let parts = joined_is (Ok (due k st node o.0.goals)) (expand_all w (suc k) o.0.states ps) ds
+    (passed (count ps == length o.0.states) _ w ds o.2) in
     record {
       q = o.0;
       later = parts.1;
@@ -89,6 +77,6 @@ mutual
   all_length Over w k (st ∷ states) ds e = absurd cc
   all_length (More p ps) w k [] ds e = absurd cc
   all_length (More p ps) w k (st ∷ states) ds e =
-      let parts = joined_back (expand k st p) (expand_all w (k + size p) states ps) ds e in
+      let parts = joined_is (expand k st p) (expand_all w (k + size p) states ps) ds e in
       length-append (plan_states k st p) (plans_states (k + size p) states ps)
       ∙ (λ i. states_length p k st parts.0 parts.2 i + all_length ps w (k + size p) states parts.1 parts.3 i)

@@ -12,8 +12,7 @@ use Rattle.sm_plan.specs.Nodes.{Node}
 use Rattle.sm_plan.specs.Plans as tree
 use Rattle.sm_plan.specs.Plans.{nodes_of, all_nodes}
 use Rattle.sm_plan.specs.Statements.{is_over}
-use Rattle.sm_expand.specs.NumberedPlans.{NumberedNode, Step, Abs, Fork, Loop, Block, Dead, Ends, NumberedPlan, At, NumberedPlans, Over, More}
-use Rattle.sm_expand.specs.NumberedPlans.{node_over, plan_over, plans_over, IsKeepReady, IsPlanReady, ArePlansReady}
+use Rattle.sm_expand.specs.NumberedPlans.{NumberedNode, Step, Abs, Fork, Loop, Block, Dead, Ends, NumberedPlan, At, NumberedPlans, Over, More, node_over, plan_over, plans_over, IsKeepReady, IsPlanReady, ArePlansReady}
 use Rattle.sm_moves.specs.CodeShapes.{own_statements}
 use Rattle.sm_sided.specs.WholePlan.{summary_before, whole_plan}
 

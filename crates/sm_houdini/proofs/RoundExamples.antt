@@ -1,6 +1,5 @@
 -- Owners of nodes and rounds of small tasks, worked by hand.
-use Rattle.std.proofs.Common.{◌≡◌, refl, Bool, true, false, None, Some, List, [], ◌∷◌, ◌++◌}
-use Rattle.std.proofs.Common.{replicate}
+use Rattle.std.proofs.Common.{◌≡◌, refl, Bool, true, false, None, Some, List, [], ◌∷◌, ◌++◌, replicate}
 use Rattle.sm_term.specs.Assertions.{Assertion, Yes, No, Eq, Ne, Le, Lt, And, Or}
 use Rattle.sm_plan.specs.Limits.{is_kept, is_shallow}
 use Rattle.sm_product.specs.Products.{sketch_of}

@@ -1,6 +1,5 @@
 -- Rounds: marks after what the nodes ask, what is next, and what settles.
-use Rattle.std.proofs.Common.{◌≡◌, ℕ, zero, suc, ◌+◌, ◌<◌, ◌≤◌, Bool, true, false, not, ◌&&◌, ◌||◌, if◌then◌else◌, Option, None}
-use Rattle.std.proofs.Common.{List, [], ◌∷◌, map, length, drop, get_or, slice_get, add-one, refl, sym, ap, ◌∙◌, arith}
+use Rattle.std.proofs.Common.{◌≡◌, ℕ, zero, suc, ◌+◌, ◌<◌, ◌≤◌, Bool, true, false, not, ◌&&◌, ◌||◌, if◌then◌else◌, Option, None, List, [], ◌∷◌, map, length, drop, get_or, slice_get, add-one, refl, sym, ap, ◌∙◌, arith}
 use Rattle.std.proofs.Math.Seq.{drop-cons}
 use Rattle.std.proofs.lemmas.List.{drop-map}
 use Rattle.sm_syntax.specs.text.Parts.{Parts, sort_of}
@@ -11,17 +10,16 @@ use Rattle.sm_term.specs.TableLaws.{ExtendsTable}
 use Rattle.sm_term.specs.Terms.{Tree}
 use Rattle.sm_text.specs.declared.task.Task.{Task}
 use Rattle.sm_plan.specs.Plans as plain
-use Rattle.sm_expand.specs.declared.due.Due.{Due}
 use Rattle.sm_expand.specs.Views.{due_in, dues_in, AreDuesReady}
+use Rattle.sm_expand.specs.declared.due.Due.{Due}
 use Rattle.sm_sketch.specs.Choices.{Choice}
 use Rattle.sm_sketch.proofs.SketchesWiden.{sketch_stays, sketch_ready}
 use Rattle.sm_product.specs.Products.{sketch_of}
 use Rattle.sm_solve.specs.declared.reach.Reach.{Reach}
 use Rattle.sm_goals.proofs.NodesLemmas.{facts_at}
-use Rattle.sm_houdini.specs.declared.marks.Marked.{Marked}
 use Rattle.sm_houdini.specs.declared.product.Product.{Product}
 use Rattle.sm_houdini.specs.Closing.{closing, stays_at, owner_in, Knows}
-use Rattle.sm_houdini.specs.Marks.{all_marked, numbers_of}
+use Rattle.sm_houdini.specs.Marks.{all_marked, numbers_of, Marked}
 use Rattle.sm_houdini.specs.NodeJobs.{holds_but}
 use Rattle.sm_houdini.specs.Owners.{owners}
 use Rattle.sm_houdini.specs.Rounds.{is_site, closes_if, holds_at, next_round, settled, dues_of, same_choice}

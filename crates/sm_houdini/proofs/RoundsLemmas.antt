@@ -1,10 +1,10 @@
 -- The rounds come to an end: one that changes anything drops a template. Under the kept choice each goal that a site asks closes.
-use Rattle.std.proofs.Common.{◌≡◌, ◌⊎◌, inl, inr, ℕ, zero, suc, ◌+◌, ◌==◌, ◌≤◌, ◌<◌, Bool, true, false, not, ◌&&◌, ◌||◌, if◌then◌else◌}
-use Rattle.std.proofs.Common.{Option, Some, None, Result, Ok, Err, List, [], ◌∷◌, length, slice_get, refl, sym, ap, ◌∙◌, subst, arith, ⊎_elim}
+use Rattle.std.proofs.Common.{◌≡◌, ◌⊎◌, inl, inr, ℕ, zero, suc, ◌+◌, ◌==◌, ◌≤◌, ◌<◌, Bool, true, false, not, ◌||◌, if◌then◌else◌, Option, Some, None, Result, Ok, Err, List, [], ◌∷◌, length, slice_get, refl, sym, ap, ◌∙◌, subst, arith}
+use Rattle.std.proofs.Common.{⊎_elim}
 use Rattle.std.specs.Prelude.{option_to_list}
 use Rattle.std.specs.List.{list_all}
 use Rattle.std.proofs.lemmas.List.{length-append, length-map}
-use Rattle.std.proofs.lemmas.Bool.{and_parts}
+use Rattle.std.proofs.lemmas.Bool.{and_parts, and_from}
 use Rattle.std.proofs.lemmas.Bool.Decides.{nat_tests, Decides-eqb}
 use Rattle.sm_syntax.specs.claim.ConflictFree.{Copy}
 use Rattle.sm_syntax.specs.text.Parts.{Parts, task_of}
@@ -17,8 +17,7 @@ use Rattle.sm_product.specs.ProductPlans.{templates, plan_of, full_choice}
 use Rattle.sm_houdini.specs.Laws.{AllAskChosen, AllClose, AllOwnedClose, KeptIsInductive}
 use Rattle.sm_houdini.specs.Obligations.{AsksChosen}
 use Rattle.sm_houdini.specs.Owners.{owner_of}
-use Rattle.sm_houdini.specs.Rounds.{dues_in, dues_of, is_site, closes_if, holds_at, numbers_kept, sites_kept, next_round, total, same_numbers}
-use Rattle.sm_houdini.specs.Rounds.{same_choice, settled, kept}
+use Rattle.sm_houdini.specs.Rounds.{dues_in, dues_of, is_site, closes_if, holds_at, numbers_kept, sites_kept, next_round, total, same_numbers, same_choice, settled, kept}
 use Rattle.sm_houdini.proofs.OwnersLemmas.{owners_ask}
 
 -- lists of numbers that the test finds the same are equal
@@ -42,20 +41,16 @@ same_choices (ms ∷ xs) (ns ∷ ys) e =
     let rest = same_choices xs ys both.1 in
     λ i. first i ∷ rest i
 
-both_tests : (a b : Bool) → a ≡ true → b ≡ true → (a && b) ≡ true
-both_tests true b e f = f
-both_tests false b e f = absurd cc
-
 numbers_themselves : (ns : List ℕ) → same_numbers ns ns ≡ true
 numbers_themselves [] = refl
-numbers_themselves (n ∷ ns) = both_tests (n == n) (same_numbers ns ns) (itself n) (numbers_themselves ns)
+numbers_themselves (n ∷ ns) = and_from (n == n) (same_numbers ns ns) (itself n) (numbers_themselves ns)
   where
     itself : (m : ℕ) → (m == m) ≡ true
     itself m = grind (arith, nat_tests)
 
 choice_itself : (xs : Choice) → same_choice xs xs ≡ true
 choice_itself [] = refl
-choice_itself (ns ∷ xs) = both_tests (same_numbers ns ns) (same_choice xs xs) (numbers_themselves ns) (choice_itself xs)
+choice_itself (ns ∷ xs) = and_from (same_numbers ns ns) (same_choice xs xs) (numbers_themselves ns) (choice_itself xs)
 
 -- all numbers are kept, or fewer are
 numbers_fewer : (passes : ℕ → Bool) (i : ℕ) (ns : List ℕ) →

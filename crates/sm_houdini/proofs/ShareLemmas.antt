@@ -1,15 +1,15 @@
 -- Marks that two become, and those of all shares together.
-use Rattle.std.proofs.Common.{◌≡◌, ℕ, zero, suc, ◌+◌, ◌%◌, ◌==◌, ◌<◌, ◌≤◌, Bool, true, false, ◌&&◌, ◌||◌}
-use Rattle.std.proofs.Common.{List, [], ◌∷◌, ◌++◌, length, take, get_or, slice_get, mod-lt, refl, sym, ap, ◌∙◌, arith}
+use Rattle.std.proofs.Common.{◌≡◌, ℕ, zero, suc, ◌+◌, ◌%◌, ◌==◌, ◌<◌, ◌≤◌, Bool, true, false, ◌&&◌, ◌||◌, List, [], ◌∷◌, ◌++◌, length, take, get_or, slice_get, mod-lt, refl, sym, ap, ◌∙◌, arith}
 use Rattle.std.proofs.lemmas.List.{length-take-le, map-append, take_more}
 use Rattle.std.proofs.lemmas.Bool.Decides.{nat_tests}
 use Rattle.std.specs.Prelude.{Vec}
 use Rattle.std.specs.declared.alloc.Global.{Global}
 use Rattle.sm_sketch.specs.Choices.{Choice}
-use Rattle.sm_houdini.specs.declared.marks.Marked.{Marked}
-use Rattle.sm_houdini.specs.Marks.{marked, all_marked, in_share, is_there, rows}
+use Rattle.sm_houdini.specs.Marks.{marked, all_marked, in_share, is_there, rows, Marked}
 use Rattle.sm_houdini.proofs.ClosingLemmas.{marked_length, rows_length}
 use Rattle.sm_houdini.proofs.MarkedLemmas.{all_marked_more, mark_put, all_same}
+use Rattle.std.proofs.lemmas.Bool.{or_left}
+use Rattle.sm_lemmas.proofs.Tests.{or_true}
 
 -- the marks at places
 get_marked : (p : ℕ → Bool) (i : ℕ) (ns : List ℕ) (k : ℕ) (d : Marked) (e : ℕ) → k < length ns →
@@ -88,19 +88,11 @@ abbrev pub among : ℕ → ℕ → ℕ → Bool
 among shares zero i = false
 among shares (suc k) i = among shares k i || in_share shares k i
 
-or_last : (a : Bool) → (a || true) ≡ true
-or_last true = refl
-or_last false = refl
-
-or_first : (a b : Bool) → a ≡ true → (a || b) ≡ true
-or_first true b e = refl
-or_first false b e = absurd cc
-
 among_more : (shares k i : ℕ) → i % shares < suc k → (i % shares < k → among shares k i ≡ true) → (b : Bool) →
     (i % shares == k) ≡ b → (among shares k i || (i % shares == k)) ≡ true
-among_more shares k i h before true e = ap (λ (b : Bool). among shares k i || b) e ∙ or_last (among shares k i)
+among_more shares k i h before true e = ap (λ (b : Bool). among shares k i || b) e ∙ or_true (among shares k i)
 among_more shares k i h before false e =
-    let less : i % shares < k = grind (arith, nat_tests, h, e) in or_first (among shares k i) (i % shares == k) (before less)
+    let less : i % shares < k = grind (arith, nat_tests, h, e) in or_left (among shares k i) (i % shares == k) (before less)
 
 among_all : (shares k i : ℕ) → i % shares < k → among shares k i ≡ true
 among_all shares zero i h = absurd (let no : i % shares < 0 = h in omega arith)

@@ -1,23 +1,19 @@
 -- Certificates whose lines are short, line by line.
-use Rattle.std.proofs.Common.{◌≡◌, ℕ, ◌+◌, ◌<◌, List, [], ◌∷◌, ◌++◌, length, take, get_or, refl, sym, ap, ◌∙◌, subst}
-use Rattle.std.proofs.Common.{Bool, true, false}
+use Rattle.std.proofs.Common.{◌≡◌, ℕ, ◌+◌, ◌<◌, List, [], ◌∷◌, ◌++◌, length, take, get_or, sym, ap, ◌∙◌, subst, Bool, true, false}
 use Rattle.std.specs.Prelude.{Box}
 use Rattle.std.specs.declared.alloc.Global.{Global}
 use Rattle.std.proofs.lemmas.List.{take_more}
 use Rattle.sm_term.specs.Terms.{Tree}
-use Rattle.sm_theory.specs.declared.line.CertLine.{CertLine}
 use Rattle.sm_theory.specs.Views.{line_in}
-use Rattle.sm_cert.specs.declared.tree.CertTree.{CertTree}
+use Rattle.sm_theory.specs.declared.line.CertLine.{CertLine}
 use Rattle.sm_cert.specs.declared.tree.CertEnd.TheVariants as ends
 use Rattle.sm_cert.specs.Certificates.{Certificate, Next, Split}
 use Rattle.sm_cert.specs.Views.{certificate_in, lines_before}
+use Rattle.sm_cert.specs.declared.tree.CertTree.{CertTree}
 use Rattle.sm_cert.proofs.CheckLemmas.{tree_split}
 use Rattle.sm_write.specs.Writable.{IsShortLine, IsShort}
-
-lines_more : (trees : List Tree) (ls : List CertLine) (l : CertLine) (c : Certificate) →
-    lines_before trees (ls ++ l ∷ []) c ≡ lines_before trees ls (Next (line_in trees l) c)
-lines_more trees [] l c = refl
-lines_more trees (k ∷ ls) l c = ap (Next (line_in trees k)) (lines_more trees ls l c)
+use Rattle.sm_solve.proofs.ReadingLemmas.{before_last}
+use Rattle.sm_lemmas.proofs.Tests.{never_true}
 
 pub lines_short : (trees : List Tree) (ls : List CertLine) (i : ℕ) (l : CertLine) (c : Certificate) →
     ((d : Certificate) → IsShort d → IsShort (lines_before trees (take i ls) d)) → i < length ls → l ≡ get_or ls i l →
@@ -25,13 +21,10 @@ pub lines_short : (trees : List Tree) (ls : List CertLine) (i : ℕ) (l : CertLi
 lines_short trees ls i l c before h e line short =
     subst (λ (xs : List CertLine). IsShort (lines_before trees xs c))
     (sym (take_more ls i l h ∙ ap (λ (k : CertLine). take i ls ++ k ∷ []) (sym e)))
-    (subst IsShort (sym (lines_more trees (take i ls) l c)) (before (Next (line_in trees l) c) (line, short)))
-
-never : {A : Type 0} → false ≡ true → A
-never e = absurd cc
+    (subst IsShort (sym (before_last trees (take i ls) l c)) (before (Next (line_in trees l) c) (line, short)))
 
 pub not_both : {A : Type 0} (b : Bool) → b ≡ false → b ≡ true → A
-not_both b isnt is = never (sym isnt ∙ is)
+not_both b isnt is = never_true (sym isnt ∙ is)
 
 -- a certificate that splits
 pub split_short : (trees : List Tree) (t : CertTree) (l : CertLine) (c d : Box CertTree Global) (ls : List CertLine) →

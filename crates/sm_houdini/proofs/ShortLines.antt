@@ -1,20 +1,17 @@
 -- Certificates of what a product asks have no line with many facts.
-use Rattle.std.proofs.Common.{◌≡◌, ◌≤◌, ℕ, ℤ, zero, suc, ◌+◌, nat_lt, Bool, true, false, ◌&&◌, if◌then◌else◌, Option, Some, None}
-use Rattle.std.proofs.Common.{List, [], ◌∷◌, ◌++◌, length, slice_get, refl, ap, subst, arith}
-use Rattle.std.specs.Option.{option_or}
-use Rattle.std.proofs.lemmas.Bool.{and_parts}
+use Rattle.std.proofs.Common.{◌≡◌, ◌≤◌, ℕ, ℤ, zero, suc, ◌+◌, nat_lt, Bool, true, false, ◌&&◌, if◌then◌else◌, Option, Some, None, List, [], ◌∷◌, ◌++◌, length, slice_get, refl, ap, subst, arith}
+use Rattle.std.proofs.lemmas.Bool.{and_parts, and_from}
 use Rattle.std.proofs.lemmas.Bool.Decides.{nat_tests}
 use Rattle.std.proofs.lemmas.Option.{same_Some}
 use Rattle.sm_syntax.specs.claim.ConflictFree.{Copy, O, A, B, M}
 use Rattle.sm_syntax.specs.claim.Fill.{fill}
 use Rattle.sm_syntax.specs.claim.Syntax.{Code}
-use Rattle.sm_syntax.specs.declared.tree.Sort.{Sort}
-use Rattle.sm_syntax.specs.declared.tree.Sort.TheVariants.{Num, Arr}
-use Rattle.sm_syntax.specs.text.Conditions.{Refusal, TooMany, over, first_of_all, double_hole, hole_in_filling, unknown_hole}
-use Rattle.sm_syntax.specs.text.Conditions.{missing_filling, ill_formed, ill_assumed, first_refusal, double_name, first_output_fault}
-use Rattle.sm_syntax.specs.text.Conditions.{first_sort_fault, size_fault, code_nodes, code_depth, program_fault}
+use Rattle.sm_syntax.specs.text.Conditions.{Refusal, TooMany, over, first_of_all, double_hole, hole_in_filling, unknown_hole, missing_filling, ill_formed, ill_assumed, first_refusal, double_name, first_output_fault, first_sort_fault}
+use Rattle.sm_syntax.specs.text.Conditions.{size_fault, code_nodes, code_depth, program_fault}
 use Rattle.sm_syntax.specs.text.Parts.{Parts, sort_of, task_of}
 use Rattle.sm_syntax.specs.text.Sorts.{Sorts}
+use Rattle.sm_syntax.specs.declared.tree.Sort.{Sort}
+use Rattle.sm_syntax.specs.declared.tree.Sort.TheVariants.{Num, Arr}
 use Rattle.sm_syntax.specs.text.Uses.{names_used}
 use Rattle.sm_term.specs.Assertions.{Eq}
 use Rattle.sm_term.specs.Heads.{arguments_of, same_head}
@@ -24,10 +21,9 @@ use Rattle.sm_theory.specs.Equality.{or_other, formula_if, say_equal, is_inhabit
 use Rattle.sm_theory.specs.Facts.{BranchFact}
 use Rattle.sm_theory.specs.Lines as cert
 use Rattle.sm_theory.specs.Lines.{CertificateLine}
-use Rattle.sm_theory.specs.Named.{EachNamed}
-use Rattle.sm_theory.specs.Ways.{Ways, ways_with, adding, adds}
-use Rattle.sm_cert.specs.Certificates.{Certificate, Next, Closed, Split, lines_in, splits_above, in_one_way, in_no_way, in_two_ways, first_bad}
-use Rattle.sm_cert.specs.Certificates.{TooManySplits, bad_line, refused}
+use Rattle.sm_theory.specs.Named.{EachNamed, facts_named}
+use Rattle.sm_theory.specs.Ways.{ways_with, adding, adds}
+use Rattle.sm_cert.specs.Certificates.{Certificate, Next, Closed, Split, lines_in, splits_above, first_bad, TooManySplits, bad_line, refused}
 use Rattle.sm_cert.specs.NamedTerms.{EachTerm}
 use Rattle.sm_plan.specs.States.{State, start_state}
 use Rattle.sm_moves.proofs.SetsLemmas.{Each}
@@ -37,7 +33,6 @@ use Rattle.sm_write.specs.Nameable.{EachInStates, IsClosed, Nameable}
 use Rattle.sm_write.specs.PlainPlans.{NoTerm}
 use Rattle.sm_write.specs.PlanStates.{plan_states}
 use Rattle.sm_write.specs.Seen.{IsBuilt, IsAtom}
-use Rattle.sm_theory.specs.Named.{facts_named}
 use Rattle.sm_write.specs.Writable.{Goal, all_goals, states_until, AreShown, IsShort, AreShort}
 use Rattle.sm_write.proofs.BuiltTerms.{built_more, sides_more}
 use Rattle.sm_write.proofs.ReadyPlans.{term_more}
@@ -45,9 +40,12 @@ use Rattle.sm_houdini.specs.Certified.{NamesShort, AllNameShort}
 use Rattle.sm_product.proofs.HolesLemmas.{valid_no_hole}
 use Rattle.sm_houdini.specs.Laws.{CertifiedAreShort, ValidIsSearchable}
 use Rattle.sm_houdini.proofs.LeanStates.{IsLeanState, states_lean}
-use Rattle.sm_houdini.proofs.LeanTerms.{is_lean, both_true, Lean, built_lean, arguments_lean, arguments_few}
+use Rattle.sm_houdini.proofs.LeanTerms.{is_lean, Lean, built_lean, arguments_lean, arguments_few}
 use Rattle.sm_houdini.proofs.SimpleWritable.{shown_goals}
 use Rattle.sm_houdini.proofs.SortedSites.{product_simple}
+use Rattle.sm_cert.proofs.CertificateMoves.{parts_none}
+use Rattle.sm_syntax.proofs.Refusals.{neither_refuses}
+use Rattle.sm_cert.proofs.WaysTaken.{two_ways, one_way, no_way}
 
 -- what can be named after such states is so too
 module _ (sorts : Sorts) (most : ℕ) where
@@ -75,43 +73,18 @@ module _ (sorts : Sorts) (most : ℕ) where
     known = states_pass states all;
     arguments = arguments_lean most;
     reads = λ (a i : Tree) (p : Lean most a) (s : tree_sort sorts a ≡ Arr) (q : Lean most i) (r : tree_sort sorts i ≡ Num).
-        both_true (is_lean most a) (is_lean most i) p q;
+        and_from (is_lean most a) (is_lean most i) p q;
     writes = λ (a i e : Tree) (p : Lean most a) (s : tree_sort sorts a ≡ Arr) (q : Lean most i) (r : tree_sort sorts i ≡ Num)
-        (o : Lean most e) (v : tree_sort sorts e ≡ Num). both_true (is_lean most a) (is_lean most i && is_lean most e) p
-        (both_true (is_lean most i) (is_lean most e) q o);
+        (o : Lean most e) (v : tree_sort sorts e ≡ Num). and_from (is_lean most a) (is_lean most i && is_lean most e) p
+        (and_from (is_lean most i) (is_lean most e) q o);
     contraries = λ (t : Tree) (p : Lean most t) (s : tree_sort sorts t ≡ Num). p;
     sums = λ (t u : Tree) (p : Lean most t) (s : tree_sort sorts t ≡ Num) (q : Lean most u) (r : tree_sort sorts u ≡ Num).
-        both_true (is_lean most t) (is_lean most u) p q;
+        and_from (is_lean most t) (is_lean most u) p q;
     differences = λ (t u : Tree) (p : Lean most t) (s : tree_sort sorts t ≡ Num) (q : Lean most u) (r : tree_sort sorts u ≡ Num).
-        both_true (is_lean most t) (is_lean most u) p q;
+        and_from (is_lean most t) (is_lean most u) p q;
     products = λ (t u : Tree) (p : Lean most t) (s : tree_sort sorts t ≡ Num) (q : Lean most u) (r : tree_sort sorts u ≡ Num).
-        both_true (is_lean most t) (is_lean most u) p q;
+        and_from (is_lean most t) (is_lean most u) p q;
   }
-
--- a line that may go on in one way, in none, or in two
-one_back : (w : Ways) (n : ℕ) (next : List BranchFact → Option ℕ) → in_one_way w n next ≡ None →
-    (way : List BranchFact) × (w ≡ Some (way ∷ [])) × (next way ≡ None)
-one_back None n next e = absurd cc
-one_back (Some []) n next e = absurd cc
-one_back (Some (way ∷ [])) n next e = (way, refl, e)
-one_back (Some (way ∷ other ∷ rest)) n next e = absurd cc
-
-no_back : (w : Ways) (n : ℕ) → in_no_way w n ≡ None → w ≡ Some []
-no_back None n e = absurd cc
-no_back (Some []) n e = refl
-no_back (Some (way ∷ rest)) n e = absurd cc
-
-two_back : (w : Ways) (n : ℕ) (next : List BranchFact → List BranchFact → Option ℕ) → in_two_ways w n next ≡ None →
-    (way : List BranchFact) × (other : List BranchFact) × (w ≡ Some (way ∷ other ∷ [])) × (next way other ≡ None)
-two_back None n next e = absurd cc
-two_back (Some []) n next e = absurd cc
-two_back (Some (way ∷ [])) n next e = absurd cc
-two_back (Some (way ∷ other ∷ [])) n next e = (way, other, refl, e)
-two_back (Some (way ∷ other ∷ third ∷ rest)) n next e = absurd cc
-
-other_back : (a b : Option ℕ) → or_other a b ≡ None → (a ≡ None) × (b ≡ None)
-other_back None b e = (refl, e)
-other_back (Some n) b e = absurd cc
 
 -- as many facts as arguments
 as_many : (facts : List BranchFact) (ns : List ℕ) (ts us : List Tree) → say_equal facts ns ts us ≡ true → length ns ≡ length ts
@@ -161,18 +134,18 @@ module _ (sorts : Sorts) (most : ℕ) (small : most ≤ 200) where
   lines_short : (c : Certificate) (facts : List BranchFact) (n : ℕ) → first_bad (adds sorts) sorts facts n c ≡ None →
       EachTerm (Lean most) c → NamesShort c → IsShort c
   lines_short (Next line c) facts n e lean short =
-      let back = one_back (ways_with sorts facts (adds sorts facts line) line) n
+      let back = one_way (ways_with sorts facts (adds sorts facts line) line) n
       (λ (way : List BranchFact). first_bad (adds sorts) sorts (facts ++ way) (suc n) c) e in (
         (line_few facts line (back.0 ∷ []) back.1 lean.0, short.0),
         lines_short c (facts ++ back.0) (suc n) back.2 lean.1 short.1,
       )
   lines_short (Closed line) facts n e lean short =
-      (line_few facts line [] (no_back (ways_with sorts facts (adds sorts facts line) line) n e) lean, short)
+      (line_few facts line [] (no_way (ways_with sorts facts (adds sorts facts line) line) n e) lean, short)
   lines_short (Split line c d) facts n e lean short =
-      let back = two_back (ways_with sorts facts (adds sorts facts line) line) n
+      let back = two_ways (ways_with sorts facts (adds sorts facts line) line) n
       (λ (way other : List BranchFact). or_other (first_bad (adds sorts) sorts (facts ++ way) (suc n) c)
       (first_bad (adds sorts) sorts (facts ++ other) (suc n + lines_in c) d)) e in
-      let both = other_back (first_bad (adds sorts) sorts (facts ++ back.0) (suc n) c)
+      let both = parts_none (first_bad (adds sorts) sorts (facts ++ back.0) (suc n) c)
       (first_bad (adds sorts) sorts (facts ++ back.1) (suc n + lines_in c) d) back.3 in (
         (line_few facts line (back.0 ∷ back.1 ∷ []) back.2 lean.0, short.0),
         lines_short c (facts ++ back.0) (suc n) both.0 lean.1 short.1,
@@ -202,11 +175,6 @@ module _ (sorts : Sorts) (most : ℕ) (small : most ≤ 200) where
         goals_short all lean goals cs shown.2 short.1,
       )
 
--- a valid task has few names
-neither : (a b : Option Refusal) → option_or a b ≡ None → (a ≡ None) × (b ≡ None)
-neither None b e = (refl, e)
-neither (Some r) b e = absurd cc
-
 not_over : (limit n : ℕ) (r : Refusal) → over limit n r ≡ None → n ≤ limit
 not_over limit n r e = by (nat_lt limit n) refl e
   where
@@ -217,8 +185,8 @@ not_over limit n r e = by (nat_lt limit n) refl e
 -- where none of some refusals comes, that at a place doesn't
 none_at : (rs : List (Option Refusal)) (n : ℕ) (r : Option Refusal) → first_of_all rs ≡ None → slice_get rs n ≡ Some r → r ≡ None
 none_at [] n r e at = absurd cc
-none_at (o ∷ rs) zero r e at = subst (λ (x : Option Refusal). x ≡ None) (same_Some o r at) (neither o (first_of_all rs) e).0
-none_at (o ∷ rs) (suc n) r e at = none_at rs n r (neither o (first_of_all rs) e).1 at
+none_at (o ∷ rs) zero r e at = subst (λ (x : Option Refusal). x ≡ None) (same_Some o r at) (neither_refuses o (first_of_all rs) e).0
+none_at (o ∷ rs) (suc n) r e at = none_at rs n r (neither_refuses o (first_of_all rs) e).1 at
 
 program_few : (declared : List (ℕ × Sort)) (outputs : List ℕ) (code : Code) → program_fault declared outputs code ≡ None →
     length declared ≤ 200

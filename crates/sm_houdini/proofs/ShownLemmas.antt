@@ -1,7 +1,5 @@
 -- Where each template of a choice is shown under it, each is shown in every round that has them all as well.
-use Rattle.std.proofs.Common.{◌≡◌, ◌⊎◌, inl, inr, ℕ, zero, suc, ◌+◌, ◌==◌, ◌<◌, Bool, true, false}
-use Rattle.std.proofs.Common.{Option, Some, None, Result, Ok, Err, List, [], ◌∷◌, ◌++◌, length, slice_get, refl, sym, ap, ◌∙◌, subst}
-use Rattle.std.proofs.Common.{arith}
+use Rattle.std.proofs.Common.{◌≡◌, ◌⊎◌, inl, inr, ℕ, zero, suc, ◌+◌, ◌==◌, ◌<◌, Bool, true, false, Option, Some, None, Result, Ok, Err, List, [], ◌∷◌, ◌++◌, length, slice_get, refl, sym, ap, ◌∙◌, subst, arith}
 use Rattle.std.specs.Prelude.{unwrap_or}
 use Rattle.std.proofs.lemmas.Option.{same_Some}
 use Rattle.sm_syntax.specs.claim.ConflictFree.{Copy}
@@ -27,18 +25,18 @@ use Rattle.sm_houdini.specs.Obligations.{Obligation, HasTemplates, HasAll, IsSho
 use Rattle.sm_houdini.specs.Outcomes.{is_closing}
 use Rattle.sm_houdini.specs.Owners.{owners, owner_of}
 use Rattle.sm_houdini.specs.Rounds.{dues_in, dues_of, holds_at, next_round}
-use Rattle.sm_houdini.proofs.DroppedLemmas.{either_left, either_right, number_itself, AreBelow, place_in, number_kept, there_is, picked_at}
-use Rattle.sm_houdini.proofs.DroppedLemmas.{map_at, sites_at, round_below, place_refuted}
+use Rattle.sm_houdini.proofs.DroppedLemmas.{AreBelow, place_in, number_kept, there_is, picked_at, map_at, sites_at, round_below, place_refuted}
 use Rattle.sm_houdini.proofs.OwnersLemmas.{chosen_templates}
-use Rattle.sm_houdini.proofs.AmongLemmas.{Among, among_itself, among_append, among_kept, among_picked}
-use Rattle.sm_houdini.proofs.AmongLemmas.{StandFormulas, stand_kept, stand_picked, stand_in_has}
+use Rattle.sm_houdini.proofs.AmongLemmas.{Among, among_itself, among_append, among_kept, among_picked, StandFormulas, stand_kept, stand_picked, stand_in_has}
 use Rattle.sm_houdini.proofs.PairedLemmas.{IsKept, Shown, PairedBy, Paired, product_paired}
+use Rattle.std.proofs.lemmas.Bool.{or_left, or_right}
+use Rattle.sm_lemmas.proofs.Tests.{itself}
 
 all_below : (len : ℕ) (ns : List ℕ) → ((n : ℕ) → is_in ns n ≡ true → n < len) → AreBelow len ns
 all_below len [] h = tt
 all_below len (n ∷ ns) h = (
-  h n (either_left (n == n) (is_in ns n) (number_itself n)),
-  all_below len ns (λ (m : ℕ) (e : is_in ns m ≡ true). h m (either_right (m == n) (is_in ns m) e)),
+  h n (or_left (n == n) (is_in ns n) (itself n)),
+  all_below len ns (λ (m : ℕ) (e : is_in ns m ≡ true). h m (or_right (m == n) (is_in ns m) e)),
 )
 
 below_at : (len : ℕ) (ns : List ℕ) (i n : ℕ) → AreBelow len ns → slice_get ns i ≡ Some n → n < len

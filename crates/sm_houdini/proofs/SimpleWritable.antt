@@ -13,7 +13,6 @@ use Rattle.sm_plan.specs.Plans.{Plan, At, Plans, Over, More, branches, nodes_of,
 use Rattle.sm_plan.specs.SortedStates.{IsTaskSorted}
 use Rattle.sm_plan.specs.States.{State, start_state}
 use Rattle.sm_moves.proofs.SetsLemmas.{Each, each_append}
-use Rattle.sm_product.proofs.ObligationsLemmas.{passed_back}
 use Rattle.sm_solve.specs.Answers.{terms_walked}
 use Rattle.sm_list.specs.Branches.{IsOneOf}
 use Rattle.sm_write.specs.BranchTerms.{IsTermOf}
@@ -26,6 +25,7 @@ use Rattle.sm_write.proofs.SimpleNameable.{kept_nameable}
 use Rattle.sm_houdini.specs.Certified.{asked, AreCertified}
 use Rattle.sm_houdini.proofs.NamedGoals.{IsSimple, AreSimple, AreAllSimple, IsNamed, asked_named}
 use Rattle.sm_houdini.proofs.WalkedTerms.{walked_terms}
+use Rattle.sm_plan.proofs.PlanSound.{passed}
 
 -- the branch of a goal
 branch_same : (facts : List Assertion) (goal : Assertion) → as_facts (facts ++ negate goal ∷ []) ≡ denied facts goal
@@ -106,7 +106,7 @@ pub shown_goals : (t : Parts) (p : Plan) (ds : List Due) (cs : List Certificate)
 shown_goals t p ds cs sorted simple e certified =
     let sorts = sort_of t.declared in
     let start = start_state (task_of t) in
-    let expands = passed_back (is_shallow (branches p)) (expand 0 start p) Deep ds e in
+    let expands = passed (is_shallow (branches p)) (expand 0 start p) Deep ds e in
     dues_shown sorts (plan_states 0 start p) ds cs (asked_named sorts (task_of t) p ds sorted simple expands) certified
 
 pub simple_writable : (t : Parts) (p : Plan) (ds : List Due) (cs : List Certificate) → IsTaskSorted (sort_of t.declared) (task_of t) →

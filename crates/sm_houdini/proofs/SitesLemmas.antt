@@ -1,8 +1,6 @@
 -- Owners of nodes and templates of sites, by how a sketch ends.
-use Rattle.std.proofs.Common.{◌≡◌, ℕ, suc, ◌+◌, ◌<◌, ◌≤◌, Option, Some, None, Result, Ok, Err}
-use Rattle.std.proofs.Common.{List, [], ◌∷◌, ◌++◌, map, length, take, get_or}
-use Rattle.std.proofs.Common.{refl, sym, ap, ◌∙◌, subst, arith}
-use Rattle.std.specs.Prelude.{Vec, Box, OnOk}
+use Rattle.std.proofs.Common.{◌≡◌, ℕ, suc, ◌+◌, ◌<◌, ◌≤◌, Option, Some, None, List, [], ◌∷◌, ◌++◌, map, length, take, get_or, refl, sym, ap, ◌∙◌, subst, arith}
+use Rattle.std.specs.Prelude.{Vec, Box}
 use Rattle.std.specs.declared.alloc.Global.{Global}
 use Rattle.std.specs.declared.rc.Rc.{Rc}
 use Rattle.std.specs.List.{range_with_len}
@@ -13,24 +11,24 @@ use Rattle.sm_term.specs.Assertions.{Assertion}
 use Rattle.sm_term.specs.Terms.{Tree}
 use Rattle.sm_plan.specs.declared.state.Formulas.{Formulas}
 use Rattle.sm_plan.specs.Views.{forms_in}
-use Rattle.sm_expand.specs.declared.plan.Simple.{Simple}
 use Rattle.sm_expand.specs.Views.{simple_node}
+use Rattle.sm_expand.specs.declared.plan.Simple.{Simple}
 use Rattle.sm_sketch.specs.declared.kept.TemplateChoice.{TemplateChoice}
-use Rattle.sm_sketch.specs.declared.sketch.Sketch.{Sketch}
 use Rattle.sm_sketch.specs.declared.sketch.SketchEnd.{SketchEnd}
 use Rattle.sm_sketch.specs.declared.sketch.SketchEnd.TheVariants as last
 use Rattle.sm_sketch.specs.declared.sketch.Sketches.{Sketches, out-Sketches}
 use Rattle.sm_sketch.specs.Choices.{Choice, all_chosen}
-use Rattle.sm_sketch.specs.NumberedSketches.{Plain, LoopSite, NumberedSketch, Draw, Over, More}
-use Rattle.sm_sketch.specs.NumberedSketches.{sketch_over, sketches_over, sketches_before}
+use Rattle.sm_sketch.specs.NumberedSketches.{Plain, LoopSite, NumberedSketch, Draw, Over, More, sketch_over, sketches_over, sketches_before}
 use Rattle.sm_sketch.specs.Sketches as tree
 use Rattle.sm_sketch.specs.Sketches.{sites_of, sites_below}
 use Rattle.sm_sketch.specs.SketchViews.{stacked, numbered_sketch, numbered_end, numbered_sketches, sketch_in}
+use Rattle.sm_sketch.specs.declared.sketch.Sketch.{Sketch}
 use Rattle.sm_sketch.proofs.SketchEnds.{sketch_is, sketches_are, fork_end, end_loop, block_end}
 use Rattle.sm_houdini.specs.declared.sites.Sites.{Sites}
 use Rattle.sm_houdini.specs.Marks.{rows}
 use Rattle.sm_houdini.specs.Owners.{owners, owners_below}
 use Rattle.sm_houdini.specs.SitesBelow.{owners_from, chosen_from, targets, Puts, PutsAll}
+use Rattle.sm_expand.proofs.NodeTaken.{forms_long}
 
 append_none : {X : Type 0} (xs : List X) → xs ++ [] ≡ xs
 append_none [] = refl
@@ -69,10 +67,6 @@ chosen_append xs ys = map-append (λ (ts : List Assertion). range_with_len 0 (le
 chosen_length : (xs : List (List Assertion)) → length (all_chosen xs) ≡ length xs
 chosen_length [] = refl
 chosen_length (x ∷ xs) = ap suc (chosen_length xs)
-
-forms_length : (sorts : Sorts) (trees : List Tree) (fs : List Formula) → length (forms_in sorts trees fs) ≡ length fs
-forms_length sorts trees [] = refl
-forms_length sorts trees (f ∷ fs) = ap suc (forms_length sorts trees fs)
 
 -- how many sites there are after more
 length-rows : (vs : List (Vec ℕ Global)) → length (rows vs) ≡ length vs
@@ -208,7 +202,7 @@ site_then old ts ns ms c made same =
 module _ (sorts : Sorts) (trees : List Tree) where
   all_numbers : (fs : Formulas) →
       range_with_len 0 (length fs.list.items) ≡ range_with_len 0 (length (forms_in sorts trees fs.list.items))
-  all_numbers fs = ap (λ (n : ℕ). range_with_len 0 n) (sym (forms_length sorts trees fs.list.items))
+  all_numbers fs = ap (λ (n : ℕ). range_with_len 0 n) (sym (forms_long sorts trees fs.list.items))
 
   pub sketch_put : (p : Sketch) (a e : Sites) (os : Vec (Option ℕ) Global) (target : Option ℕ) →
       os.items ≡ a.owners.items ++ targets target p.straight.list.items →
@@ -372,8 +366,3 @@ pub whole_choice : (os : Vec (Option ℕ) Global) (cs : Vec (Vec ℕ Global) Glo
     Puts (record { owners = os; full = record { sites = cs } }) e None p → rows e.full.sites.items ≡ all_chosen (sites_of p)
 whole_choice os cs e p no_site puts =
     puts.choice ∙ ap (λ (l : List (Vec ℕ Global)). rows l ++ all_chosen (sites_of p)) no_site
-
--- where a call goes well
-pub on_ok : {T E P Q : Type 0} (r : Result T E) → (P → Q) → OnOk r P → OnOk r Q
-on_ok (Ok x) f h = f h
-on_ok (Err e) f h = tt

@@ -12,21 +12,21 @@ use Rattle.sm_plan.specs.Nodes.{Node, Step, Abs}
 use Rattle.sm_plan.specs.SortedStates.{IsTaskSorted}
 use Rattle.sm_plan.specs.Starts.{AreNumbered}
 use Rattle.sm_plan.specs.Statements.{rest_after, loop_body}
-use Rattle.sm_plan.proofs.SortedCode.{append_well, rest_well, guard_well, body_well}
+use Rattle.sm_plan.proofs.SortedCode.{rest_well, guard_well, body_well}
 use Rattle.sm_moves.specs.CodeShapes.{has_hole, has_fork, own_statements, by_first_block, by_second_block}
 use Rattle.sm_moves.specs.CopySets.{all_copies, members, with_member, without, only_in}
 use Rattle.sm_moves.specs.Moves.{Move, Done, Steps, Summaries, Forks, Loops, is_shared, move_of, moved_on}
 use Rattle.sm_moves.proofs.SetsLemmas.{Each}
 use Rattle.sm_template.specs.Templates.{block_templates, loop_templates}
 use Rattle.sm_sketch.specs.Choices.{Choice, kept_by}
-use Rattle.sm_sketch.specs.Sketches.{SketchNode, Plain, LoopSite, BlockSite, Sketch, Draw, Sketches, Over, More}
-use Rattle.sm_sketch.specs.Sketches.{ends, each_of, turns_then, looped, apart, site_at, sites_of, node_with, plan_with, plans_with}
+use Rattle.sm_sketch.specs.Sketches.{SketchNode, Plain, LoopSite, BlockSite, Sketch, Draw, Sketches, Over, More, ends, each_of, turns_then, looped, apart, site_at, sites_of, node_with, plan_with, plans_with}
 use Rattle.sm_product.specs.MiniProducts.{drawn, mini_product, statements_left, side_by_side}
 use Rattle.sm_product.specs.ProductPlans.{plan_of}
 use Rattle.sm_product.specs.Products.{where_any, forked, branched, product_if, product_while, filled, product, sketch_of}
 use Rattle.sm_product.proofs.NodesLemmas.{EachNode, EachBelow}
 use Rattle.sm_houdini.proofs.NamedGoals.{IsSimple, AreSimple, AreAllSimple}
 use Rattle.sm_houdini.proofs.SortedTemplates.{IsSimpleForm, AreDeclared, numbered_declared, block_simple, loops_simple, kept_simple}
+use Rattle.sm_product.proofs.BranchesLeft.{first_well, second_well}
 
 -- both parts of code are well sorted
 append_parts : (sorts : Sorts) (c d : Code) → IsWellSorted sorts (append c d) → IsWellSorted sorts c × IsWellSorted sorts d
@@ -37,24 +37,6 @@ append_parts sorts (Write a i e k) d w = let both = append_parts sorts k d w.3 i
 append_parts sorts (If b f g k) d w = let both = append_parts sorts k d w.3 in ((w.0, w.1, w.2, both.0), both.1)
 append_parts sorts (While b f k) d w = let both = append_parts sorts k d w.2 in ((w.0, w.1, both.0), both.1)
 append_parts sorts (Hole h k) d w = append_parts sorts k d w
-
-first_block_well : (sorts : Sorts) (c : Code) → IsWellSorted sorts c → IsWellSorted sorts (by_first_block c)
-first_block_well sorts End w = w
-first_block_well sorts (Skip k) w = w
-first_block_well sorts (Assign x e k) w = w
-first_block_well sorts (Write a i e k) w = w
-first_block_well sorts (If b c d k) w = append_well sorts c k w.1 w.3
-first_block_well sorts (While b c k) w = w
-first_block_well sorts (Hole h k) w = w
-
-second_block_well : (sorts : Sorts) (c : Code) → IsWellSorted sorts c → IsWellSorted sorts (by_second_block c)
-second_block_well sorts End w = w
-second_block_well sorts (Skip k) w = w
-second_block_well sorts (Assign x e k) w = w
-second_block_well sorts (Write a i e k) w = w
-second_block_well sorts (If b c d k) w = append_well sorts d k w.2 w.3
-second_block_well sorts (While b c k) w = w
-second_block_well sorts (Hole h k) w = w
 
 -- a node is simple, and so is each template of a site
 abbrev IsSiteSimple : Sorts → SketchNode → Type 0
@@ -127,10 +109,10 @@ module _ (sorts : Sorts) (t : Parts) (declared : AreDeclared sorts t.declared) w
     (tt, tt),
     (
       goes set (with_copy r c (by_first_block (r c))) next
-          (copy_well r c (by_first_block (r c)) w (first_block_well sorts (r c) (w c))) h,
+          (copy_well r c (by_first_block (r c)) w (first_well sorts (r c) (w c))) h,
       (
         goes set (with_copy r c (by_second_block (r c))) next
-            (copy_well r c (by_second_block (r c)) w (second_block_well sorts (r c) (w c))) h,
+            (copy_well r c (by_second_block (r c)) w (second_well sorts (r c) (w c))) h,
         tt,
       ),
     ),

@@ -1,17 +1,16 @@
 -- Templates of declared names, and of guards that are well sorted, are sorted and have no new value and no summary.
-use Rattle.std.proofs.Common.{◌≡◌, ℕ, zero, suc, ◌+◌, ◌==◌, ◌/◌, ◌≤◌, ◌<◌, Bool, true, false, if◌then◌else◌, ℤ, Some}
-use Rattle.std.proofs.Common.{List, [], ◌∷◌, ◌++◌, map, take, drop, length, refl, ap, ◌∙◌, arith}
+use Rattle.std.proofs.Common.{◌≡◌, ℕ, zero, suc, ◌+◌, ◌==◌, ◌/◌, ◌≤◌, ◌<◌, Bool, true, false, if◌then◌else◌, ℤ, Some, List, [], ◌∷◌, ◌++◌, map, take, drop, length, refl, ap, ◌∙◌, arith}
 use Rattle.std.specs.List.{flat_map, range_with_len}
 use Rattle.std.proofs.lemmas.Bool.Decides.{nat_tests}
-use Rattle.sm_syntax.specs.declared.tree.Cmp.{Cmp}
 use Rattle.sm_syntax.specs.declared.tree.Cmp.TheVariants as cmp
-use Rattle.sm_syntax.specs.declared.tree.Sort.{Sort}
-use Rattle.sm_syntax.specs.declared.tree.Sort.TheVariants.{Num, Arr}
 use Rattle.sm_syntax.specs.claim.Syntax as syntax
 use Rattle.sm_syntax.specs.claim.Syntax.{Expression, Condition, Code}
+use Rattle.sm_syntax.specs.declared.tree.Cmp.{Cmp}
 use Rattle.sm_syntax.specs.claim.ConflictFree.{Copy, O, A, B, M}
 use Rattle.sm_syntax.specs.text.Parts.{Parts, sort_of}
 use Rattle.sm_syntax.specs.text.Sorts.{Sorts, IsWellSortedExpression, IsWellSortedCondition}
+use Rattle.sm_syntax.specs.declared.tree.Sort.{Sort}
+use Rattle.sm_syntax.specs.declared.tree.Sort.TheVariants.{Num, Arr}
 use Rattle.sm_term.specs.Assertions.{Assertion, Eq}
 use Rattle.sm_term.specs.Sorted.{HasSort, IsFormSorted}
 use Rattle.sm_term.specs.Symbolic.{term_of}
@@ -21,14 +20,13 @@ use Rattle.sm_plan.specs.Starts.{AreNumbered}
 use Rattle.sm_plan.specs.States.{place, keeps_goals}
 use Rattle.sm_plan.specs.Statements.{loop_guard, loop_body}
 use Rattle.sm_plan.proofs.SortedStates.{place_sorted}
-use Rattle.sm_plan.proofs.SortedTerms.{declared_with, sort_is}
+use Rattle.sm_plan.proofs.SortedTerms.{sort_is}
 use Rattle.sm_moves.specs.CopySets.{members, only_in, pairs}
 use Rattle.sm_moves.proofs.SetsLemmas.{Each, each_append, each_filter, each_of_all}
 use Rattle.sm_template.specs.Guards.{slots, next_to, weaker, guard_templates}
 use Rattle.sm_template.specs.Literals.{literals_of}
 use Rattle.sm_template.specs.SameFormulas.{same_formula}
-use Rattle.sm_template.specs.Templates.{equal_cells, equal_copies, unchanged, apart_by, shifted, name_templates, written_templates}
-use Rattle.sm_template.specs.Templates.{block_templates, loop_templates}
+use Rattle.sm_template.specs.Templates.{equal_cells, equal_copies, unchanged, apart_by, shifted, name_templates, written_templates, block_templates, loop_templates}
 use Rattle.sm_template.specs.Written.{is_written, names_written}
 use Rattle.sm_template.proofs.TemplatesLemmas.{each_distinct, each_take, each_drop}
 use Rattle.sm_sketch.specs.Choices.{Choice, chosen_at, picked, halved, kept_by}
@@ -36,6 +34,7 @@ use Rattle.sm_sketch.proofs.PickedLemmas.{each_picked}
 use Rattle.sm_write.specs.Nameable.{EachSide}
 use Rattle.sm_write.specs.PlainPlans.{NoTerm}
 use Rattle.sm_write.specs.Seen.{IsBuilt}
+use Rattle.sm_term.proofs.ExpressionLemmas.{named_declared}
 
 -- a sorted formula with no new value and no summary
 abbrev pub IsSimpleForm : Sorts → Assertion → Type 0
@@ -76,10 +75,10 @@ module _ (sorts : Sorts) where
   Simple f = IsSimpleForm sorts f
 
   slot_sorted : (x : ℕ) (sort : Sort) (c : Copy) → sorts x ≡ Some sort → HasSort sorts sort (Slot c x)
-  slot_sorted x sort c e = (declared_with sorts x sort e, sort_is sorts x sort e)
+  slot_sorted x sort c e = (named_declared sorts x sort e, sort_is sorts x sort e)
 
   start_sorted : (x : ℕ) (sort : Sort) → sorts x ≡ Some sort → HasSort sorts sort (Start x)
-  start_sorted x sort e = (declared_with sorts x sort e, sort_is sorts x sort e)
+  start_sorted x sort e = (named_declared sorts x sort e, sort_is sorts x sort e)
 
   -- what is made of each of a list
   all_made : {T : Type 0} (f : T → Assertion) → ((x : T) → Simple (f x)) → (xs : List T) → Each Simple (map f xs)

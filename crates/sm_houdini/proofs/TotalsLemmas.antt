@@ -1,6 +1,5 @@
 -- A round drops templates, and drops none exactly where as many are left.
-use Rattle.std.proofs.Common.{◌≡◌, ℕ, suc, ◌+◌, ◌-◌, ◌<◌, ◌≤◌, ◌==◌, Bool, true, false, ◌&&◌, if◌then◌else◌, List, [], ◌∷◌, ◌++◌, length, take}
-use Rattle.std.proofs.Common.{refl, sym, ap, ◌∙◌, arith}
+use Rattle.std.proofs.Common.{◌≡◌, ℕ, suc, ◌+◌, ◌-◌, ◌<◌, ◌≤◌, ◌==◌, Bool, true, false, ◌&&◌, if◌then◌else◌, List, [], ◌∷◌, ◌++◌, length, take, refl, sym, ap, ◌∙◌, arith}
 use Rattle.std.specs.Prelude.{Vec}
 use Rattle.std.specs.declared.alloc.Global.{Global}
 use Rattle.std.proofs.lemmas.Bool.{eq-eqb, eqb-true}
@@ -102,7 +101,7 @@ fewer_are_others passes s choice h = by (same_choice (sites_kept passes s choice
     by true e = absurd (h (same_total (sites_kept passes s choice) choice e))
     by false e = e
 
-different : {A : Type 0} → true ≡ false → A
+pub different : {A : Type 0} → true ≡ false → A
 different e = absurd cc
 
 -- rounds that are left

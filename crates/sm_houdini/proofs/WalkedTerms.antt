@@ -1,6 +1,5 @@
 -- The terms that a walk has are terms of its branch, where the facts and the goal are sorted.
-use Rattle.std.proofs.Common.{◌≡◌, ℕ, zero, suc, Bool, true, false, ◌||◌, if◌then◌else◌, Option, Some, None, List, [], ◌∷◌}
-use Rattle.std.proofs.Common.{◌++◌, map, refl, sym, subst}
+use Rattle.std.proofs.Common.{◌≡◌, ℕ, zero, suc, Bool, true, false, ◌||◌, if◌then◌else◌, Option, Some, None, List, [], ◌∷◌, ◌++◌, map, refl, sym, subst}
 use Rattle.std.specs.List.{list_any}
 use Rattle.sm_syntax.specs.text.Sorts.{Sorts}
 use Rattle.sm_term.specs.Terms.{Tree, Lit, Start, Havoc, Slot, Cell, Read, Write, Neg, Add, Sub, Mul, Fun, Arguments, Over, Given}
@@ -9,16 +8,14 @@ use Rattle.sm_term.specs.Heads.{terms_given}
 use Rattle.sm_term.specs.SameTerms.{same_tree}
 use Rattle.sm_term.specs.Sorted.{IsSorted, AreArgumentsSorted, IsFormSorted, AreFormsSorted}
 use Rattle.sm_term.proofs.SameTermsLemmas.{same_tree_is}
-use Rattle.sm_plan.proofs.SortedTerms.{forms_append, negate_sorted}
 use Rattle.sm_moves.proofs.SetsLemmas.{Each, each_append}
 use Rattle.sm_solve.specs.Answers.{terms_walked}
 use Rattle.sm_theory.specs.TermsOfFormulas.{put, with_term, with_arguments, with_formula, with_formulas}
-use Rattle.sm_list.specs.Branches.{greatest_of, depth_of, parts_of, parts_of_all, taken_apart, with_parts}
-use Rattle.sm_list.specs.Branches.{read_before, put_if, with_reads, with_all_reads, writes_on, terms_of}
-use Rattle.sm_list.specs.Branches.{IsOneOf}
+use Rattle.sm_list.specs.Branches.{greatest_of, depth_of, parts_of, parts_of_all, taken_apart, with_parts, read_before, put_if, with_reads, with_all_reads, writes_on, terms_of, IsOneOf}
 use Rattle.sm_write.specs.BranchTerms.{HasTerms, IsTermOf}
 use Rattle.sm_write.specs.Nameable.{EachOf, EachSide, AllSides, PassesTest}
 use Rattle.sm_write.proofs.BuiltTerms.{sides_append}
+use Rattle.sm_term.proofs.SortedForms.{forms_append, negate_sorted}
 
 -- what holds of each of a list holds of one of them
 one_of : (P : Tree → Type 0) (ts : List Tree) (t : Tree) → Each P ts → IsOneOf ts t → P t

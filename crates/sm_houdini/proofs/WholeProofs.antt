@@ -10,9 +10,9 @@ use Rattle.sm_cert.specs.Certificates.{Certificate}
 use Rattle.sm_plan.specs.Nodes as node
 use Rattle.sm_plan.specs.Nodes.{Node}
 use Rattle.sm_plan.specs.Plans.{Plan, nodes_of, Due}
+use Rattle.sm_sided.specs.WholeCertificates.{by_first, by_second, by_clash, by_turned, certificates_of, whole_certificates, AreWhole, NamesNoTerm}
 use Rattle.sm_sided.specs.declared.sided.Change.{Change}
 use Rattle.sm_sided.specs.declared.sided.Change.TheVariants.{OfA, OfB, OfBoth}
-use Rattle.sm_sided.specs.WholeCertificates.{by_first, by_second, by_clash, by_turned, certificates_of, whole_certificates, AreWhole, NamesNoTerm}
 use Rattle.sm_sided.specs.WholePlan as whole
 use Rattle.sm_sided.specs.WholePlan.{denied_goals, AreClosed, IsShown, KeepsNone}
 use Rattle.sm_write.specs.PlainPlans.{AreKeptPlain, ArePlainLines, branches_of, CloseEach}

@@ -5,8 +5,8 @@ use Rattle.sm_syntax.specs.text.Sorts.{Sorts}
 use Rattle.sm_syntax.specs.trees.Programs.{declared_of}
 use Rattle.sm_term.specs.Assertions.{Assertion}
 use Rattle.sm_term.specs.Tables.{TableValue, trees_in, sorts_in}
-use Rattle.sm_text.specs.declared.task.Task.{Task}
 use Rattle.sm_text.specs.Tasks.{parts_of}
+use Rattle.sm_text.specs.declared.task.Task.{Task}
 use Rattle.sm_task.specs.Filling.{AreFilled}
 use Rattle.sm_plan.specs.Plans.{Due}
 use Rattle.sm_plan.specs.SortedStates.{IsTaskSorted}

@@ -2,8 +2,8 @@
 use Rattle.std.specs.Prelude.{◌≡◌, ℕ, false, List, [], ◌∷◌, map, length}
 use Rattle.sm_term.specs.Assertions.{Assertion}
 use Rattle.sm_term.specs.Tables.{TableValue, trees_in, sorts_in}
-use Rattle.sm_cert.specs.declared.tree.CertTree.{CertTree}
 use Rattle.sm_cert.specs.Views.{certificate_in}
+use Rattle.sm_cert.specs.declared.tree.CertTree.{CertTree}
 use Rattle.sm_plan.specs.Plans.{Due}
 use Rattle.sm_expand.specs.declared.due.Due as program
 use Rattle.sm_expand.specs.Views.{dues_in}
@@ -16,8 +16,7 @@ use Rattle.sm_write.specs.Writable.{AreShort}
 use Rattle.sm_houdini.specs.declared.ending.Stop.{Stop}
 use Rattle.sm_houdini.specs.declared.ending.Stop.TheVariants as stop
 use Rattle.sm_houdini.specs.Certified.{AreCertified}
-use Rattle.sm_houdini.specs.Outcomes.{Outcome, Accepted, Open, Steps, Coefficient, goal_outcome}
-use Rattle.sm_houdini.specs.Outcomes.{goals_outcome, final_outcome}
+use Rattle.sm_houdini.specs.Outcomes.{Outcome, Accepted, Open, Steps, Coefficient, goal_outcome, goals_outcome, final_outcome}
 
 -- certificates over a table show goals, in order, and their lines are short
 pub record AreCollected (v : TableValue) (goals : List (List Assertion × Assertion))

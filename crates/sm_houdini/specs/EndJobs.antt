@@ -1,12 +1,11 @@
 -- Private: what runs of a node's goals come to at the end of a search, as jobs give it.
-use Rattle.std.specs.Prelude.{◌≡◌, ℕ, ◌+◌, ◌*◌, ◌/◌, ◌%◌, ◌<◌, ◌≤◌, min, List, ◌++◌, MatchOption, take}
-use Rattle.std.specs.Prelude.{drop, length, slice_index_or}
+use Rattle.std.specs.Prelude.{◌≡◌, ℕ, ◌+◌, ◌*◌, ◌/◌, ◌%◌, ◌<◌, ◌≤◌, min, List, ◌++◌, MatchOption, take, drop, length, slice_index_or}
 use Rattle.sm_term.specs.declared.formula.Formula.{Formula}
 use Rattle.sm_term.specs.Tables.{TableValue, trees_in, sorts_in}
 use Rattle.sm_term.specs.Tails.{row_trees, AreRowsSound}
 use Rattle.sm_plan.specs.Views.{forms_in}
-use Rattle.sm_expand.specs.declared.due.Due.{Due}
 use Rattle.sm_expand.specs.Views.{due_in}
+use Rattle.sm_expand.specs.declared.due.Due.{Due}
 use Rattle.sm_solve.specs.Walk.{walk}
 use Rattle.sm_solve.specs.declared.reach.Reach.{Reach}
 use Rattle.sm_houdini.specs.declared.run_ends.RunEnd.{RunEnd}

@@ -1,8 +1,8 @@
 -- Private: a round's goals, as jobs take them.
 use Rattle.std.specs.Prelude.{◌≡◌, ℕ, ◌&&◌, Bool, List, Option, None}
 use Rattle.sm_term.specs.Tables.{TableValue, trees_in, sorts_in}
-use Rattle.sm_expand.specs.declared.due.Due.{Due}
 use Rattle.sm_expand.specs.Views.{dues_in}
+use Rattle.sm_expand.specs.declared.due.Due.{Due}
 use Rattle.sm_sketch.specs.declared.kept.TemplateChoice.{TemplateChoice}
 use Rattle.sm_sketch.specs.ChoiceViews.{choice_in}
 use Rattle.sm_solve.specs.declared.reach.Reach.{Reach}

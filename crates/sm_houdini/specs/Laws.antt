@@ -1,6 +1,5 @@
 -- Cited by public clauses: laws of the rounds, for all tasks and choices.
-use Rattle.std.specs.Prelude.{◌≡◌, ℕ, zero, suc, ◌<◌, ◌≤◌, Bool, true, false, Some, None, is_none, Ok}
-use Rattle.std.specs.Prelude.{List, [], ◌∷◌, length, slice_get}
+use Rattle.std.specs.Prelude.{◌≡◌, ℕ, zero, suc, ◌<◌, ◌≤◌, Bool, true, false, Some, None, is_none, Ok, List, [], ◌∷◌, length, slice_get}
 use Rattle.sm_syntax.specs.text.Conditions.{is_in, first_refusal}
 use Rattle.sm_syntax.specs.text.Parts.{Parts, sort_of, task_of}
 use Rattle.sm_term.specs.Assertions.{Assertion}
@@ -13,14 +12,13 @@ use Rattle.sm_sketch.specs.Choices.{Choice, chosen_at, picked}
 use Rattle.sm_product.specs.Laws.{HaveNoHole}
 use Rattle.sm_product.specs.ProductPlans.{templates, plan_of, full_choice}
 use Rattle.sm_product.specs.Sizes.{is_small}
-use Rattle.sm_replay.specs.declared.verdict.Verdict.{Verdict}
 use Rattle.sm_replay.specs.Trials.{IsLeast}
+use Rattle.sm_replay.specs.declared.verdict.Verdict.{Verdict}
 use Rattle.sm_judge.specs.Forms.{Walked}
 use Rattle.sm_solve.specs.declared.reach.Reach.{Reach}
 use Rattle.sm_write.specs.Writable.{AreShort, IsWritable}
 use Rattle.sm_houdini.specs.Certified.{asked, AreCertified, AllNameShort}
-use Rattle.sm_houdini.specs.Obligations.{AsksChosen, Obligation, StandIn, HasTemplates, HasAll}
-use Rattle.sm_houdini.specs.Obligations.{IsAskedUnder, IsShownUnder}
+use Rattle.sm_houdini.specs.Obligations.{AsksChosen, Obligation, StandIn, HasTemplates, HasAll, IsAskedUnder, IsShownUnder}
 use Rattle.sm_houdini.specs.Outcomes.{Outcome, Conflict, IsOutcome, is_closing}
 use Rattle.sm_houdini.specs.Owners.{owner_of}
 use Rattle.sm_houdini.specs.Rounds.{dues_of, next_round, kept}

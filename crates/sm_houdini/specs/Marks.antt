@@ -1,11 +1,10 @@
 -- Private: templates of sites, each with a mark that says whether it is still there.
-use Rattle.std.specs.Prelude.{ℕ, zero, suc, ◌%◌, ◌==◌, Bool, false, ◌&&◌, ◌||◌, if◌then◌else◌, Option, Some, None, List}
-use Rattle.std.specs.Prelude.{[], ◌∷◌, map, Vec, slice_get}
+use Rattle.std.specs.Prelude.{ℕ, zero, suc, ◌%◌, ◌==◌, Bool, false, ◌&&◌, ◌||◌, if◌then◌else◌, Option, Some, None, List, [], ◌∷◌, map, Vec, slice_get}
 use Rattle.std.specs.declared.alloc.Global.{Global}
 use Rattle.sm_sketch.specs.Choices.{Choice}
 use Rattle.sm_houdini.specs.declared.marks.Join.{Join}
 use Rattle.sm_houdini.specs.declared.marks.Join.TheVariants as join
-use Rattle.sm_houdini.specs.declared.marks.Marked.{Marked}
+pub use Rattle.sm_houdini.specs.declared.marks.Marked.{Marked}
 
 -- numbers of templates, each marked by whether its place, counted from i on, passes
 abbrev pub marked : (ℕ → Bool) → ℕ → List ℕ → List Marked

@@ -1,6 +1,5 @@
 -- Cited by public clauses: what the search of a task comes to.
-use Rattle.std.specs.Prelude.{◌≡◌, ◌⊎◌, ℕ, suc, ℤ, Bool, true, false, if◌then◌else◌, Option, Some, None}
-use Rattle.std.specs.Prelude.{List, [], ◌∷◌}
+use Rattle.std.specs.Prelude.{◌≡◌, ◌⊎◌, ℕ, suc, ℤ, Bool, true, false, if◌then◌else◌, Option, Some, None, List, [], ◌∷◌}
 use Rattle.sm_syntax.specs.claim.ConflictFree.{program_of}
 use Rattle.sm_syntax.specs.text.Parts.{Parts, sort_of, task_of}
 use Rattle.sm_num.specs.declared.op.Op.{Op}
@@ -8,8 +7,8 @@ use Rattle.sm_term.specs.Assertions.{Assertion}
 use Rattle.sm_plan.specs.Plans.{Due}
 use Rattle.sm_product.specs.Sizes.{is_small}
 use Rattle.sm_sided.specs.OneSided.{is_one_sided}
-use Rattle.sm_replay.specs.declared.verdict.Verdict.{Verdict}
 use Rattle.sm_replay.specs.Trials.{IsFirstViolation}
+use Rattle.sm_replay.specs.declared.verdict.Verdict.{Verdict}
 use Rattle.sm_solve.specs.Walk as walks
 use Rattle.sm_solve.specs.declared.reach.Reach.{Reach}
 use Rattle.sm_judge.specs.Forms.{Walked, Closes, Opens, TooFar, GoesOut}

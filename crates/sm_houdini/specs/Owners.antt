@@ -1,10 +1,8 @@
 -- Cited by public clauses: which site asks what a node of a product asks.
-use Rattle.std.specs.Prelude.{ℕ, suc, ◌+◌, Option, Some, None, List, [], ◌∷◌, ◌++◌, length}
-use Rattle.std.specs.Prelude.{slice_get, unwrap_or}
+use Rattle.std.specs.Prelude.{ℕ, suc, ◌+◌, Option, Some, None, List, [], ◌∷◌, ◌++◌, length, slice_get, unwrap_or}
 use Rattle.sm_syntax.specs.text.Parts.{Parts}
 use Rattle.sm_plan.specs.Plans.{Due}
-use Rattle.sm_sketch.specs.Sketches.{Plain, LoopSite, BlockSite, Sketch, Draw, Sketches, Over, More}
-use Rattle.sm_sketch.specs.Sketches.{sites_of}
+use Rattle.sm_sketch.specs.Sketches.{Plain, LoopSite, BlockSite, Sketch, Draw, Sketches, Over, More, sites_of}
 use Rattle.sm_product.specs.Products.{sketch_of}
 
 abbrev mutual

@@ -1,6 +1,5 @@
 // Goals whose certificates are made by jobs.
-ghost use Rattle.std.specs.Prelude.{◌≡◌, ◌≤◌, ◌<◌, ◌+◌, ◌++◌, ℕ, List, [], length, map};
-ghost use Rattle.std.specs.Prelude.{take, IfOk, OnOk, MatchOption, slice_index_or};
+ghost use Rattle.std.specs.Prelude.{◌≡◌, ◌≤◌, ◌<◌, ◌+◌, ◌++◌, ℕ, List, [], length, map, take, IfOk, OnOk, MatchOption, slice_index_or};
 ghost use Rattle.std.specs.List.{range_with_len};
 ghost use Rattle.sm_term.specs.Assertions.{Assertion};
 ghost use Rattle.sm_term.specs.declared.formula.Formula.{Formula};
@@ -19,8 +18,7 @@ ghost use Rattle.sm_solve.specs.declared.reach.Reach.{Reach};
 ghost use Rattle.sm_write.specs.TreesWithin.{AreTreesWithin};
 ghost use Rattle.sm_houdini.specs.declared.run_ends.RunEnd.{RunEnd};
 ghost use Rattle.sm_houdini.specs.Certified.{asked};
-ghost use Rattle.sm_houdini.specs.Collected.{AreCollected, goals_with, IsInsideClosed};
-ghost use Rattle.sm_houdini.specs.Collected.{RunStops, RunCloses, FinalStops, FinalCloses};
+ghost use Rattle.sm_houdini.specs.Collected.{AreCollected, goals_with, IsInsideClosed, RunStops, RunCloses, FinalStops, FinalCloses};
 ghost use Rattle.sm_houdini.specs.EndJobs.{AreRunEnds, ArePlanEnds, size_of};
 
 use crate::dealing::placed;

@@ -1,6 +1,5 @@
 // The end of a search: each goal of the plan closes, or a final one doesn't.
-ghost use Rattle.std.specs.Prelude.{◌≡◌, ◌+◌, ◌<◌, ◌^◌, ◌++◌, ◌∷◌, [], List, length};
-ghost use Rattle.std.specs.Prelude.{IfOk, OnOk, MatchOption, MatchResult};
+ghost use Rattle.std.specs.Prelude.{◌≡◌, ◌+◌, ◌<◌, ◌^◌, ◌++◌, ◌∷◌, [], List, length, IfOk, OnOk, MatchOption, MatchResult};
 ghost use Rattle.sm_syntax.specs.text.Parts.{Parts};
 ghost use Rattle.sm_syntax.specs.text.Sorts.{Sorts};
 ghost use Rattle.sm_term.specs.Assertions.{Assertion};
@@ -18,9 +17,7 @@ ghost use Rattle.sm_judge.specs.Forms.{Walked};
 ghost use Rattle.sm_solve.specs.Walk.{walk};
 ghost use Rattle.sm_write.specs.Writable.{IsShort};
 ghost use Rattle.sm_houdini.specs.Certified.{asked};
-ghost use Rattle.sm_houdini.specs.Collected.{AreCollected, goals_with, stop_in, GoalStops};
-ghost use Rattle.sm_houdini.specs.Collected.{GoalCloses, RunStops, RunCloses, FinalStops};
-ghost use Rattle.sm_houdini.specs.Collected.{FinalCloses, IsInsideClosed};
+ghost use Rattle.sm_houdini.specs.Collected.{AreCollected, goals_with, stop_in, GoalStops, GoalCloses, RunStops, RunCloses, FinalStops, FinalCloses, IsInsideClosed};
 ghost use Rattle.sm_goals.specs.Nodes.{IsNodeOf};
 ghost use Rattle.sm_houdini.specs.Views.{outcome_in, IsProof};
 

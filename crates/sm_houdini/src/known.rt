@@ -1,6 +1,5 @@
 // Goals that are known to close from the round before.
-ghost use Rattle.std.specs.Prelude.{◌≡◌, ◌<◌, ℕ, Bool, true, Some, length, slice_get};
-ghost use Rattle.std.specs.Prelude.{IfOk};
+ghost use Rattle.std.specs.Prelude.{◌≡◌, ◌<◌, ℕ, Bool, true, Some, length, slice_get, IfOk};
 ghost use Rattle.sm_term.specs.Formulas.{NumberedFormula};
 ghost use Rattle.sm_term.specs.Tables.{TableValue, trees_in, sorts_in};
 ghost use Rattle.sm_expand.specs.Views.{due_in};

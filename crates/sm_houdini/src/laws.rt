@@ -1,9 +1,6 @@
 // What holds of the rounds, as contracts.
-ghost use Rattle.sm_houdini.specs.Laws.{ValidIsSearchable};
-ghost use Rattle.sm_houdini.specs.Laws.{FinalHasNoOwner, SitesAskChosen, KeptIsInductive};
-ghost use Rattle.sm_houdini.specs.Laws.{DroppedAreRefuted, AskedUnderFewer, ShownInRounds};
-ghost use Rattle.sm_houdini.specs.Laws.{KeptExpands, SearchIsWritable, CertifiedAreShort};
-ghost use Rattle.sm_houdini.specs.Laws.{OutcomeIsOne, ConflictIsLeast};
+ghost use Rattle.sm_houdini.specs.Laws.{ValidIsSearchable, FinalHasNoOwner, SitesAskChosen, KeptIsInductive, DroppedAreRefuted, AskedUnderFewer, ShownInRounds, KeptExpands, SearchIsWritable, CertifiedAreShort, OutcomeIsOne};
+ghost use Rattle.sm_houdini.specs.Laws.{ConflictIsLeast};
 
 /// A goal of a plan is final exactly where it isn't one of a site.
 pub fn final_has_no_owner()

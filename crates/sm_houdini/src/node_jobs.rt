@@ -1,14 +1,12 @@
 // Nodes of a round that are dealt to jobs.
-ghost use Rattle.std.specs.Prelude.{◌≡◌, ◌<◌, ◌≤◌, ◌&&◌, ℕ, Bool, not, None, length};
-ghost use Rattle.std.specs.Prelude.{slice_index_or, IfOk};
+ghost use Rattle.std.specs.Prelude.{◌≡◌, ◌<◌, ◌≤◌, ◌&&◌, ℕ, Bool, not, None, length, slice_index_or, IfOk};
 ghost use Rattle.sm_term.specs.Tables.{trees_in, sorts_in};
 ghost use Rattle.sm_expand.specs.Views.{dues_in, AreDuesReady};
 ghost use Rattle.sm_sketch.specs.Choices.{Choice};
 ghost use Rattle.sm_houdini.specs.Closing.{closing, owner_in};
 ghost use Rattle.sm_houdini.specs.Known.{AreKnown};
 ghost use Rattle.sm_houdini.specs.Marks.{all_marked, rows};
-ghost use Rattle.sm_houdini.specs.NodeJobs.{NodeGoalsValue, TellsNodes, all_below, holds_but};
-ghost use Rattle.sm_houdini.specs.NodeJobs.{is_left_out, leaves_out, number_at};
+ghost use Rattle.sm_houdini.specs.NodeJobs.{NodeGoalsValue, TellsNodes, all_below, holds_but, is_left_out, leaves_out, number_at};
 
 use crate::goal_jobs::Crew;
 use crate::judging::{Round, judge_all};

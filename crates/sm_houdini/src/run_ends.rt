@@ -1,6 +1,5 @@
 // What runs of goals come to, each over a copy of the table.
-ghost use Rattle.std.specs.Prelude.{◌≡◌, ◌<◌, ◌+◌, ◌^◌, [], length};
-ghost use Rattle.std.specs.Prelude.{take, drop, IfOk};
+ghost use Rattle.std.specs.Prelude.{◌≡◌, ◌<◌, ◌+◌, ◌^◌, [], length, take, drop, IfOk};
 ghost use Rattle.sm_term.specs.declared.formula.Formula.{Formula};
 ghost use Rattle.sm_term.specs.Tables.{trees_in, sorts_in};
 ghost use Rattle.sm_plan.specs.ReadyStates.{AreFormsReady};

@@ -1,7 +1,6 @@
 -- What a shelf tells of the file with a name, and what reading and writing do to it. A shelf of
 -- real files tells nothing of them, and being told of a file never comes or goes.
-use Rattle.std.specs.Prelude.{◌≡◌, ◌<◌, ◌≤◌, ◌↔◌, ◌++◌, ℕ, List, [], Option, Some, None, length}
-use Rattle.std.specs.Prelude.{take, drop}
+use Rattle.std.specs.Prelude.{◌≡◌, ◌<◌, ◌≤◌, ◌↔◌, ◌++◌, ℕ, List, [], Option, Some, None, length, take, drop}
 
 -- what is told of the file with a name
 pub data Known : Type 0 where

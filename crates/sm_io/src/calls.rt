@@ -1,5 +1,4 @@
-ghost use Rattle.std.specs.Prelude.{◌≡◌, ◌↔◌, ◌+◌, ◌-◌, ◌^◌, ◌++◌, [], ◌∷◌, min, IsTrue, Contains};
-ghost use Rattle.std.specs.Prelude.{OnOk, OnErr, IsOkUnless};
+ghost use Rattle.std.specs.Prelude.{◌≡◌, ◌↔◌, ◌+◌, ◌-◌, ◌^◌, ◌++◌, [], ◌∷◌, min, IsTrue, Contains, OnOk, OnErr, IsOkUnless};
 
 use crate::error::IoError;
 use std::alloc::Global;

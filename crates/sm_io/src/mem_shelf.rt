@@ -1,6 +1,4 @@
-ghost use Rattle.std.specs.Prelude.{◌≡◌, ◌≢◌, ◌↔◌, ◌<◌, ◌≤◌, ◌+◌, ◌-◌, ◌^◌, ◌++◌, ◌⊎◌, ℕ, List, []};
-ghost use Rattle.std.specs.Prelude.{◌∷◌, min, length, take, IfOk, OnOk, OnErr, IsErr, IsErrOf};
-ghost use Rattle.std.specs.Prelude.{IsOkUnless, option_copied};
+ghost use Rattle.std.specs.Prelude.{◌≡◌, ◌≢◌, ◌↔◌, ◌<◌, ◌≤◌, ◌+◌, ◌-◌, ◌^◌, ◌++◌, ◌⊎◌, ℕ, List, [], ◌∷◌, min, length, take, IfOk, OnOk, OnErr, IsErr, IsErrOf, IsOkUnless, option_copied};
 ghost use Rattle.sm_io.specs.Files.{absent, holds, emptied, longer, known_of, WhereHeld, ReadsFrom};
 ghost use Rattle.sm_io.specs.Causes.{HasCause, HasReadCause};
 

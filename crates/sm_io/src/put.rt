@@ -1,5 +1,4 @@
-ghost use Rattle.std.specs.Prelude.{◌≡◌, ◌≢◌, ◌<◌, ℕ, List, length, take, OnOk, OnErr, IsErr};
-ghost use Rattle.std.specs.Prelude.{IsErrOf};
+ghost use Rattle.std.specs.Prelude.{◌≡◌, ◌≢◌, ◌<◌, ℕ, List, length, take, OnOk, OnErr, IsErr, IsErrOf};
 ghost use Rattle.sm_io.specs.Files.{absent, longer};
 ghost use Rattle.sm_io.specs.Causes.{HasCause, HasReadCause};
 ghost use Rattle.sm_io.specs.Sinks.{Adds};

@@ -1,5 +1,4 @@
-ghost use Rattle.std.specs.Prelude.{◌≡◌, ◌<◌, ◌≤◌, ◌⊎◌, ℕ, List, length, vec_len, IfOk, IsErr};
-ghost use Rattle.std.specs.Prelude.{IsErrOf};
+ghost use Rattle.std.specs.Prelude.{◌≡◌, ◌<◌, ◌≤◌, ◌⊎◌, ℕ, List, length, vec_len, IfOk, IsErr, IsErrOf};
 ghost use Rattle.sm_io.specs.Files.{absent, WhereHeld};
 ghost use Rattle.sm_io.specs.Causes.{HasReadCause};
 ghost use Rattle.sm_io.specs.Reads.{ReadsOn, ReadsWhole};

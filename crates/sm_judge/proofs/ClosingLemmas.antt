@@ -1,15 +1,14 @@
 -- Facts of a branch of the program by their places, and those that are refuted.
-use Rattle.std.proofs.Common.{◌≡◌, ℕ, zero, suc, ◌<◌, true, Some, List, [], ◌∷◌}
-use Rattle.std.proofs.Common.{length, get_or, slice_get, refl, sym, ap, subst, ◌∙◌, arith}
+use Rattle.std.proofs.Common.{◌≡◌, ℕ, zero, suc, ◌<◌, true, Some, List, [], ◌∷◌, length, get_or, slice_get, refl, sym, ap, subst, ◌∙◌, arith}
 use Rattle.std.specs.List.{list_any}
 use Rattle.std.proofs.lemmas.List.Folds.{list_any_at}
 use Rattle.std.proofs.lemmas.List.{length-map}
 use Rattle.std.proofs.lemmas.Option.{get_or_from_slice_get, slice_get_within}
 use Rattle.sm_syntax.specs.text.Sorts.{Sorts}
-use Rattle.sm_term.specs.declared.formula.Formula.{Formula}
 use Rattle.sm_term.specs.Terms.{Tree}
 use Rattle.sm_term.specs.Assertions.{Assertion, Yes}
 use Rattle.sm_term.specs.Formulas.{numbered, assertion_in, IsFormulaWithin}
+use Rattle.sm_term.specs.declared.formula.Formula.{Formula}
 use Rattle.sm_judge.specs.Holding.{Seen, is_refuted}
 use Rattle.sm_list.specs.Parts.{all_numbered, assertions_in, AreFormulasWithin}
 

@@ -1,6 +1,5 @@
 -- Each event is counted before it happens.
-use Rattle.std.proofs.Common.{◌≡◌, ℕ, suc, ◌+◌, ◌<◌, nat_lt, Bool, true, false, if◌then◌else◌, List, [], ◌∷◌, ◌++◌, length}
-use Rattle.std.proofs.Common.{Some, slice_get, sym, ap, subst, ◌∙◌, ⊎_elim, add-one, arith}
+use Rattle.std.proofs.Common.{◌≡◌, ℕ, suc, ◌+◌, ◌<◌, nat_lt, Bool, true, false, if◌then◌else◌, List, [], ◌∷◌, ◌++◌, length, Some, slice_get, sym, ap, subst, ◌∙◌, ⊎_elim, add-one, arith}
 use Rattle.std.proofs.lemmas.Bool.{cases_Bool, ltb-false}
 use Rattle.std.proofs.lemmas.List.{length-append}
 use Rattle.sm_num.specs.Forms.{Linear}
@@ -10,7 +9,8 @@ use Rattle.sm_judge.specs.declared.eliminating.ElimLine.{ElimLine}
 use Rattle.sm_judge.specs.Refutations.{Contradict}
 use Rattle.sm_judge.specs.Summing.{AreSums, AreNumbered}
 use Rattle.sm_judge.specs.Forms.{Walked, Closes, TooFar, counted, eliminated_by}
-use Rattle.sm_judge.proofs.SummingLemmas.{sums_more, sums_if, sums_count, sums_contradict, last_at, taken_sum}
+use Rattle.sm_judge.proofs.SummingLemmas.{sums_more, sums_if, sums_count, sums_contradict, taken_sum}
+use Rattle.sm_lemmas.proofs.Lists.{get_last}
 
 -- a step is left
 pub counted_on : (steps count : ℕ) (next : ℕ → Walked) → count < steps → counted steps count next ≡ next (count + 1)
@@ -67,7 +67,7 @@ contradicted forms es new_es old new e kept wrong own sums takes is are =
       λ bad place.
           let last : bad ≡ length old.forms = omega arith in
           let at : slice_get (old.forms ++ h ∷ []) bad ≡ Some h =
-          subst (λ (n : ℕ). slice_get (old.forms ++ h ∷ []) n ≡ Some h) (sym last) (last_at old.forms h) in
+          subst (λ (n : ℕ). slice_get (old.forms ++ h ∷ []) n ≡ Some h) (sym last) (get_last old.forms h) in
           subst (λ (l : List ElimLine). Contradict forms l bad) (sym are)
           (sums_contradict forms (es ++ e ∷ []) (old.forms ++ h ∷ []) bad h (sums_more forms es old.forms e h sums one.1) at
           (sym one.2 ∙ is)),

@@ -1,7 +1,7 @@
 -- A formula at a place is over the terms of a table.
 use Rattle.std.proofs.Common.{◌≡◌, ℕ, zero, suc, ◌<◌, List, [], ◌∷◌, get_or, length, sym, subst, arith}
-use Rattle.sm_term.specs.declared.formula.Formula.{Formula}
 use Rattle.sm_term.specs.Formulas.{numbered, IsFormulaWithin}
+use Rattle.sm_term.specs.declared.formula.Formula.{Formula}
 use Rattle.sm_list.specs.Parts.{all_numbered, AreFormulasWithin}
 
 -- a formula at a place is within

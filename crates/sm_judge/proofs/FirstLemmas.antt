@@ -2,10 +2,10 @@
 use Rattle.std.proofs.Common.{◌≡◌, ℕ, ◌+◌, ◌<◌, ◌≤◌, Option, Some, None, List, ◌∷◌, length, get_or, drop, refl, sym, ap, ◌∙◌}
 use Rattle.std.proofs.lemmas.List.{drop_more, drop_all}
 use Rattle.sm_syntax.specs.text.Sorts.{Sorts}
-use Rattle.sm_term.specs.declared.formula.Formula.{Formula}
 use Rattle.sm_term.specs.Terms.{Tree}
 use Rattle.sm_term.specs.Assertions.{Assertion}
 use Rattle.sm_term.specs.Formulas.{numbered, assertion_in}
+use Rattle.sm_term.specs.declared.formula.Formula.{Formula}
 use Rattle.sm_theory.specs.Equality.{or_other}
 use Rattle.sm_judge.specs.declared.closing.BranchSplit.{BranchSplit}
 use Rattle.sm_judge.specs.Holding.{Split, first_of}

@@ -1,36 +1,33 @@
 -- What the program collects are the forms of the branch, each with its source.
-use Rattle.std.proofs.Common.{◌≡◌, ℕ, zero, suc, pos, ◌+◌, ◌<◌, ◌==◌, Bool, true, false, ◌||◌, not, if◌then◌else◌, IsTrue, Option, Some}
-use Rattle.std.proofs.Common.{None, Result, Err}
-use Rattle.std.proofs.Common.{List, [], ◌∷◌, ◌++◌, map, drop, drop-cons, length, slice_get, get_or, refl, sym, ap, subst, ◌∙◌, rules, arith}
+use Rattle.std.proofs.Common.{◌≡◌, ℕ, zero, suc, pos, ◌+◌, ◌<◌, ◌==◌, Bool, true, false, ◌||◌, not, if◌then◌else◌, IsTrue, Option, Some, None, Result, Err, List, [], ◌∷◌, ◌++◌, map, drop, drop-cons, length, slice_get, get_or, refl, sym, ap}
+use Rattle.std.proofs.Common.{subst, ◌∙◌, rules, arith}
 use Rattle.std.specs.Prelude.{unwrap_or}
 use Rattle.std.specs.List.{find}
 use Rattle.std.proofs.lemmas.Option.{slice_get-get_or}
 use Rattle.sm_syntax.specs.text.Sorts.{Sorts}
-use Rattle.sm_num.specs.declared.error.NumError.{NumError}
-use Rattle.sm_num.specs.declared.error.NumError.TheVariants.{Beyond, Memory}
 use Rattle.sm_num.specs.declared.kind.Kind.TheVariants as kind
 use Rattle.sm_num.specs.Errors.{Explains}
+use Rattle.sm_num.specs.declared.error.NumError.{NumError}
+use Rattle.sm_num.specs.declared.error.NumError.TheVariants.{Beyond, Memory}
 use Rattle.sm_num.specs.Forms.{Linear}
 use Rattle.sm_num.specs.Combining.{Outcome, Fits, Leaves, then_with}
-use Rattle.sm_term.specs.declared.formula.Formula.{Formula}
 use Rattle.sm_term.specs.Terms.{Tree, Lit}
 use Rattle.sm_term.specs.Tables.{tree_at}
 use Rattle.sm_term.specs.TableLaws.{AreApart}
 use Rattle.sm_term.specs.Assertions.{Assertion}
 use Rattle.sm_term.specs.Formulas.{NumberedFormula, Yes, No, Eq, Ne, Le, Lt, And, Or, numbered, assertion_in, IsFormulaWithin}
+use Rattle.sm_term.specs.declared.formula.Formula.{Formula}
 use Rattle.sm_theory.specs.Arithmetic.{is_numeric, one_more}
 use Rattle.sm_pairs.specs.Pairs.{Pairs}
 use Rattle.sm_judge.specs.Holding.{Seen}
 use Rattle.sm_list.specs.Parts.{all_numbered, assertions_in, AreFormulasWithin}
 use Rattle.sm_judge.specs.declared.forms.SourcedForms.{SourcedForms}
 use Rattle.sm_judge.specs.Refutations.{AreSources, comparison_by, GivesForms}
-use Rattle.sm_judge.specs.Making.{difference_at, unless_zero, class_form, some_form, comparison_at, Item, Made, collected, class_items}
-use Rattle.sm_judge.specs.Making.{fact_items}
-use Rattle.sm_judge.specs.Making.{Two, first_place, pair_with, pairs_of, places_of}
+use Rattle.sm_judge.specs.Making.{difference_at, unless_zero, class_form, some_form, comparison_at, Item, Made, collected, class_items, fact_items, Two, first_place, pair_with, pairs_of, places_of}
 use Rattle.sm_judge.specs.Forms.{is_zero, forms_of}
-use Rattle.sm_judge.proofs.MakingLemmas.{MaybeForm, FormList, all_led, outcomes, after, after-none, collected_led, collected_leaves}
-use Rattle.sm_judge.proofs.MakingLemmas.{AreItems, collected_sources}
+use Rattle.sm_judge.proofs.MakingLemmas.{MaybeForm, FormList, all_led, outcomes, after, after-none, collected_led, collected_leaves, AreItems, collected_sources}
 use Rattle.sm_judge.proofs.BranchFormsLemmas.{branch, forms, difference_is, IsFirst, first_is, branch_led}
+use Rattle.sm_lemmas.proofs.Lists.{get_mapped}
 
 -- the form, or another
 form_or : Linear ℕ → Outcome MaybeForm → Linear ℕ
@@ -55,14 +52,6 @@ class_fits (Leaves op y z) f e = absurd cc
 some_fits : (o : Outcome (Linear ℕ)) (f : Linear ℕ) → then_with o some_form ≡ Fits (Some f) → o ≡ Fits f
 some_fits (Fits g) f e = ap (λ (h : Linear ℕ). Fits h) (one_form f g e)
 some_fits (Leaves op y z) f e = absurd cc
-
--- an element of a list that was mapped
-slice_get-map : {X Y : Type 0} (f : X → Y) (xs : List X) (n : ℕ) (x : X) → slice_get xs n ≡ Some x → slice_get (map f xs) n ≡ Some (f x)
-slice_get-map f [] n x e = absurd cc
-slice_get-map f (y ∷ xs) zero x e =
-    let same : y ≡ x = ap (λ o. unwrap_or o y) e in
-    ap (λ z. Some (f z)) same
-slice_get-map f (y ∷ xs) (suc n) x e = slice_get-map f xs n x e
 
 module _ (sorts : Sorts) (trees : List Tree) (facts : List Formula) (equal apart : Pairs) where
   -- the branch
@@ -172,7 +161,7 @@ module _ (sorts : Sorts) (trees : List Tree) (facts : List Formula) (equal apart
     where
       mapped : (k : ℕ) (h : Formula) → slice_get facts k ≡ Some h →
           slice_get (assertions_in sorts trees (all_numbered facts)) k ≡ Some (assertion_in sorts trees (numbered h))
-      mapped k h e = slice_get-map (assertion_in sorts trees) (all_numbered facts) k (numbered h) (slice_get-map numbered facts k h e)
+      mapped k h e = get_mapped (assertion_in sorts trees) (all_numbered facts) k (numbered h) (get_mapped numbered facts k h e)
 
   -- the forms and their sources, or why there are none
   module _ (distinct : AreApart trees) (fs : FormList) (fs_are : fs ≡ forms sorts trees facts equal apart) (pairs : List Two) (are : places_of pairs ≡ pairs_of sorts equal trees 0 trees)

@@ -1,26 +1,22 @@
 -- Facts that are found by keys.
-use Rattle.std.proofs.Common.{◌≡◌, ℕ, ◌+◌, ◌==◌, ◌<◌, nat_eq, Bool, true, false, ◌&&◌, Option, Some, None, List, length, get_or}
-use Rattle.std.proofs.Common.{refl, sym, ap, ◌∙◌, is_some, if◌then◌else◌, true≢false, below_more, arith}
+use Rattle.std.proofs.Common.{◌≡◌, ℕ, ◌+◌, ◌==◌, ◌<◌, nat_eq, Bool, true, false, ◌&&◌, Option, Some, None, List, length, get_or, refl, sym, ap, ◌∙◌, is_some, if◌then◌else◌, true≢false, below_more, arith}
 use Rattle.std.specs.List.{list_any}
 use Rattle.std.proofs.lemmas.Bool.Decides.{Decides-and, Decides-eqb}
 use Rattle.std.proofs.lemmas.List.{get_or-map, length-map}
 use Rattle.std.proofs.lemmas.List.Folds.{list_any_at}
-use Rattle.sm_term.specs.declared.formula.Formula.{Formula}
 use Rattle.sm_term.specs.Formulas.{NumberedFormula, Yes, No, Eq, Ne, Le, Lt, And, Or, numbered}
+use Rattle.sm_term.specs.declared.formula.Formula.{Formula}
 use Rattle.sm_judge.specs.Keyed.{mixed, key_of, HasKeys, AreKeyed}
 use Rattle.sm_list.specs.Parts.{all_numbered, numbered_at}
 use Rattle.sm_pairs.specs.SameFormulas.{same_numbered}
 use Rattle.sm_judge.proofs.TornLemmas.{none_passes}
+use Rattle.sm_lemmas.proofs.Tests.{both_pass}
 
 -- equal numbers have one key
 two : (kind t u v w : ℕ) → ((t == v) && (u == w)) ≡ true → mixed kind t u ≡ mixed kind v w
 two kind t u v w h =
     let same = (Decides-and _ _ (Decides-eqb t v) (Decides-eqb u w)).0 h in
     ap (λ (n : ℕ). mixed kind n u) same.0 ∙ ap (mixed kind v) same.1
-
-both : (a b : Bool) → (a && b) ≡ true → (a ≡ true) × (b ≡ true)
-both true b h = (refl, h)
-both false b h = absurd (true≢false (sym h))
 
 -- equal formulas have one key
 same_key : (f g : NumberedFormula) → same_numbered f g ≡ true → key_of f ≡ key_of g
@@ -29,10 +25,10 @@ same_key (Ne t u) (Ne v w) h = two 3 t u v w h
 same_key (Le t u) (Le v w) h = two 4 t u v w h
 same_key (Lt t u) (Lt v w) h = two 5 t u v w h
 same_key (And p q) (And r s) h =
-    let parts = both (same_numbered p r) (same_numbered q s) h in
+    let parts = both_pass (same_numbered p r) (same_numbered q s) h in
     ap (λ (k : ℕ). mixed 6 k (key_of q)) (same_key p r parts.0) ∙ ap (mixed 6 (key_of r)) (same_key q s parts.1)
 same_key (Or p q) (Or r s) h =
-    let parts = both (same_numbered p r) (same_numbered q s) h in
+    let parts = both_pass (same_numbered p r) (same_numbered q s) h in
     ap (λ (k : ℕ). mixed 7 k (key_of q)) (same_key p r parts.0) ∙ ap (mixed 7 (key_of r)) (same_key q s parts.1)
 same_key Yes Yes h = refl
 same_key No No h = refl

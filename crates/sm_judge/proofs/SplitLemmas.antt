@@ -1,10 +1,10 @@
 -- Splits of the program stand for those of the branch.
 use Rattle.std.proofs.Common.{◌≡◌, Bool, true, false, ◌||◌, not, if◌then◌else◌, Option, Some, None, List, refl, sym, ap, ◌∙◌}
 use Rattle.sm_syntax.specs.text.Sorts.{Sorts}
-use Rattle.sm_term.specs.declared.formula.Formula.{Formula}
 use Rattle.sm_term.specs.Terms.{Tree}
 use Rattle.sm_term.specs.Assertions.{Assertion}
 use Rattle.sm_term.specs.Formulas.{NumberedFormula, Yes, No, Eq, Ne, Le, Lt, And, Or, numbered, assertion_in}
+use Rattle.sm_term.specs.declared.formula.Formula.{Formula}
 use Rattle.sm_judge.specs.Holding.{Seen, Split, is_held, part_split, order_split, index_split}
 use Rattle.sm_list.specs.Parts.{pair_numbered}
 use Rattle.sm_judge.specs.Seeing.{split_in, is_disjunction, disjuncts_of}

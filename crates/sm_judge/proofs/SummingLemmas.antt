@@ -1,6 +1,5 @@
 -- Sums that are kept go behind the forms, and the last one can't hold.
-use Rattle.std.proofs.Common.{◌≡◌, ℕ, zero, suc, ◌+◌, Bool, true, false, if◌then◌else◌, IsTrue, Option, Some, slice_get}
-use Rattle.std.proofs.Common.{List, [], ◌∷◌, ◌++◌, length, refl, sym, ap, subst, ◌∙◌, rules, arith}
+use Rattle.std.proofs.Common.{◌≡◌, ℕ, zero, suc, ◌+◌, Bool, true, false, if◌then◌else◌, IsTrue, Option, Some, slice_get, List, [], ◌∷◌, ◌++◌, length, refl, sym, ap, subst, ◌∙◌, rules, arith}
 use Rattle.std.specs.Prelude.{unwrap_or}
 use Rattle.std.proofs.lemmas.List.{length-append}
 use Rattle.sm_num.specs.Forms.{Linear}
@@ -52,11 +51,6 @@ sums_contradict forms (e ∷ es) all bad f sums at wrong =
       one.sum_is,
       sums_contradict (forms ++ sums.0 ∷ []) es all bad f sums.2 at wrong,
     )
-
--- the last of a list
-pub last_at : {X : Type 0} (xs : List X) (x : X) → slice_get (xs ++ x ∷ []) (length xs) ≡ Some x
-last_at [] x = refl
-last_at (y ∷ xs) x = last_at xs x
 
 -- one atom more
 pub numbered_more : (n : ℕ) (ts : List TermId) (t : TermId) → AreNumbered n ts → t.0 ≡ n + length ts → AreNumbered n (ts ++ t ∷ [])

@@ -1,18 +1,17 @@
 -- Pairs of terms that are torn are told by the linear forms of their numbers, and found by chains of places with one label.
-use Rattle.std.proofs.Common.{◌≡◌, ◌↔◌, ◌⊎◌, inl, inr, ⊎_elim, ℕ, ℤ, pos, zero, suc, ◌<◌, ◌≤◌}
-use Rattle.std.proofs.Common.{Bool, true, false, ◌&&◌, ◌||◌, not, Option, Some, None, IfSome, List, [], ◌∷◌, length, get_or}
-use Rattle.std.proofs.Common.{slice_index, ◌==◌, refl, sym, ap, subst, ◌∙◌, arith}
+use Rattle.std.proofs.Common.{◌≡◌, ◌↔◌, ◌⊎◌, inl, inr, ⊎_elim, ℕ, ℤ, pos, zero, suc, ◌<◌, ◌≤◌, Bool, true, false, ◌&&◌, ◌||◌, not, Option, Some, None, IfSome, List, [], ◌∷◌, length, get_or, slice_index, ◌==◌, refl, sym, ap, subst, ◌∙◌}
+use Rattle.std.proofs.Common.{arith}
 use Rattle.std.specs.List.{list_any}
 use Rattle.std.specs.Ordering.{int_eq}
 use Rattle.std.specs.Bool.{Decides}
 use Rattle.std.proofs.lemmas.Bool.{eqb-true, eq-eqb}
-use Rattle.std.proofs.lemmas.Bool.Decides.{Decides-eqb, Decides-int_eq}
+use Rattle.std.proofs.lemmas.Bool.Decides.{Decides-int_eq}
 use Rattle.std.proofs.lemmas.Option.{slice_get-get_or}
 use Rattle.sm_syntax.specs.text.Sorts.{Sorts}
 use Rattle.sm_num.specs.Forms.{Linear}
-use Rattle.sm_term.specs.declared.term.TermId.{TermId}
 use Rattle.sm_term.specs.Terms.{Tree, Lit}
 use Rattle.sm_term.specs.Tables.{tree_at}
+use Rattle.sm_term.specs.declared.term.TermId.{TermId}
 use Rattle.sm_theory.specs.LinearTerms.{linear_of}
 use Rattle.sm_theory.specs.Arithmetic.{is_numeric, agree_with, same_parts}
 use Rattle.sm_theory.specs.Standing.{IsKeptFor}
@@ -21,7 +20,7 @@ use Rattle.sm_pairs.specs.Pairs.{Pairs}
 use Rattle.sm_judge.specs.AllForms.{AreAllForms}
 use Rattle.sm_judge.specs.Labelled.{TellClasses}
 use Rattle.sm_judge.specs.Torn.{differ, torn_by, any_torn, behind, IsLastWith, IsPartnerIf}
-use Rattle.sm_pairs.proofs.AmongLemmas.{one_test}
+use Rattle.sm_lemmas.proofs.Tests.{int_eq_sym, same_tests}
 
 -- of a list none passes where none at a place does
 pub none_passes : {X : Type 0} (p : X → Bool) (d : X) (xs : List X) → ((m : ℕ) → m < length xs → p (get_or xs m d) ≡ false) →
@@ -75,7 +74,7 @@ module _ (trees : List Tree) (f g : Linear ℕ) (h i : Linear Tree) (first : IsK
   parts : (r : Bool) → (r ≡ true) ↔ (f.parts ≡ g.parts) → r ≡ same_parts h i
   parts r tells =
       let law : (same_parts h i ≡ true) ↔ (f.parts ≡ g.parts) = same_parts_stand trees f g h i first second in
-      one_test r (same_parts h i) (λ (e : r ≡ true). law.1 (tells.0 e)) (λ (e : same_parts h i ≡ true). tells.1 (law.0 e))
+      same_tests r (same_parts h i) (λ (e : r ≡ true). law.1 (tells.0 e)) (λ (e : same_parts h i ≡ true). tells.1 (law.0 e))
 
   -- one constant: the forms don't differ in it
   pub one_constant : (other : Bool) → other ≡ not (int_eq f.constant g.constant) → other ≡ false →
@@ -98,28 +97,6 @@ module _ (trees : List Tree) (f g : Linear ℕ) (h i : Linear Tree) (first : IsK
       and_true : (b : Bool) → (b && true) ≡ b
       and_true true = refl
       and_true false = refl
-
--- two parts are equal where their atoms and coefficients are
-pub pair_decides : (p q : ℕ × ℤ) → Decides ((p.0 == q.0) && int_eq p.1 q.1) (p ≡ q)
-pair_decides p q = by (p.0 == q.0) (int_eq p.1 q.1) (Decides-eqb p.0 q.0) (Decides-int_eq p.1 q.1)
-  where
-    by : (a b : Bool) → Decides a (p.0 ≡ q.0) → Decides b (p.1 ≡ q.1) → Decides (a && b) (p ≡ q)
-    by true b e d = (
-      λ (t : b ≡ true). ap (λ (n : ℕ). (n, p.1)) (e.0 refl) ∙ ap (λ (z : ℤ). (q.0, z)) (d.0 t),
-      λ (both : p ≡ q). d.1 (ap (λ (r : ℕ × ℤ). r.1) both),
-    )
-    by false b e d = (
-      λ (t : false ≡ true). absurd cc,
-      λ (both : p ≡ q). e.1 (ap (λ (r : ℕ × ℤ). r.0) both),
-    )
-
--- either differs from the other
-int_eq_sym : (y z : ℤ) → int_eq y z ≡ int_eq z y
-int_eq_sym y z =
-    let one = Decides-int_eq y z in
-    let other = Decides-int_eq z y in
-    one_test (int_eq y z) (int_eq z y) (λ (e : int_eq y z ≡ true). other.1 (sym (one.0 e)))
-    (λ (e : int_eq z y ≡ true). one.1 (sym (other.0 e)))
 
 differ_sym : (sorts : Sorts) (t u : Tree) → differ sorts t u ≡ differ sorts u t
 differ_sym sorts t u =

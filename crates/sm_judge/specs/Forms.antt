@@ -1,14 +1,12 @@
 -- Cited by public clauses: the linear forms of a branch, and what the walk comes to by them.
-use Rattle.std.specs.Prelude.{ℕ, suc, nat_lt, ℤ, pos, negsuc}
-use Rattle.std.specs.Prelude.{Bool, ◌&&◌, ◌||◌, not, if◌then◌else◌}
-use Rattle.std.specs.Prelude.{Option, Some, None, List, [], ◌∷◌}
+use Rattle.std.specs.Prelude.{ℕ, suc, nat_lt, ℤ, pos, negsuc, Bool, ◌&&◌, ◌||◌, not, if◌then◌else◌, Option, Some, None, List, [], ◌∷◌}
 use Rattle.std.specs.List.{find, list_any}
 use Rattle.std.specs.Ordering.{int_eq}
-use Rattle.sm_num.specs.declared.op.Op.{Op}
-use Rattle.sm_num.specs.declared.kind.Kind.{Kind}
 use Rattle.sm_num.specs.declared.kind.Kind.TheVariants as kind
 use Rattle.sm_num.specs.Forms.{Linear}
+use Rattle.sm_num.specs.declared.kind.Kind.{Kind}
 use Rattle.sm_num.specs.Combining.{Outcome, Fits, Leaves, then_with, combined}
+use Rattle.sm_num.specs.declared.op.Op.{Op}
 use Rattle.sm_num.specs.Tightening.{has_no_part, is_contradictory}
 use Rattle.sm_term.specs.Terms.{Tree}
 use Rattle.sm_term.specs.Assertions.{Assertion, Yes, No, Eq, Ne, Le, Lt, And, Or}

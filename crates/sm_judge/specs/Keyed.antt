@@ -1,7 +1,7 @@
 -- Private: keys of formulas, by which the facts of a branch are found.
 use Rattle.std.specs.Prelude.{◌≡◌, ℕ, ◌+◌, ◌*◌, ◌%◌, ◌^◌, ◌<◌, true, Option, List, length, is_some}
-use Rattle.sm_term.specs.declared.formula.Formula.{Formula}
 use Rattle.sm_term.specs.Formulas.{NumberedFormula, Yes, No, Eq, Ne, Le, Lt, And, Or}
+use Rattle.sm_term.specs.declared.formula.Formula.{Formula}
 use Rattle.sm_list.specs.Parts.{numbered_at}
 
 -- two numbers and a kind in one: they are spread over 64 bits, as by a multiplicative hash

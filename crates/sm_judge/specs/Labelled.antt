@@ -1,6 +1,5 @@
 -- Cited by public clauses: labels that tell classes of terms, and the first terms of these.
-use Rattle.std.specs.Prelude.{◌≡◌, ℕ, suc, ◌==◌, Bool, if◌then◌else◌, slice_get, length}
-use Rattle.std.specs.Prelude.{Option, Some, None, List, [], ◌∷◌}
+use Rattle.std.specs.Prelude.{◌≡◌, ℕ, suc, ◌==◌, Bool, if◌then◌else◌, slice_get, length, Option, Some, None, List, [], ◌∷◌}
 use Rattle.sm_term.specs.Terms.{Tree}
 use Rattle.sm_pairs.specs.Pairs.{Pairs}
 

@@ -1,20 +1,18 @@
 -- Private: the forms of a branch one after the other, as the program makes them over the forms of
 -- all terms of its table.
-use Rattle.std.specs.Prelude.{ℕ, suc, ◌==◌, ◌<◌, pos, negsuc, ◌||◌, not, if◌then◌else◌}
-use Rattle.std.specs.Prelude.{◌≡◌, Result, Ok, Err, Option, Some, None, List, [], ◌∷◌, ◌++◌}
-use Rattle.std.specs.Prelude.{map, slice_index_or}
+use Rattle.std.specs.Prelude.{ℕ, suc, ◌==◌, ◌<◌, pos, negsuc, ◌||◌, not, if◌then◌else◌, ◌≡◌, Result, Ok, Err, Option, Some, None, List, [], ◌∷◌, ◌++◌, map, slice_index_or}
 use Rattle.std.specs.List.{All}
 use Rattle.sm_syntax.specs.text.Sorts.{Sorts}
-use Rattle.sm_num.specs.declared.error.NumError.{NumError}
-use Rattle.sm_num.specs.declared.kind.Kind.{Kind}
 use Rattle.sm_num.specs.declared.kind.Kind.TheVariants as kind
 use Rattle.sm_num.specs.Errors.{Explains}
+use Rattle.sm_num.specs.declared.error.NumError.{NumError}
 use Rattle.sm_num.specs.Forms.{Linear}
+use Rattle.sm_num.specs.declared.kind.Kind.{Kind}
 use Rattle.sm_num.specs.Combining.{Outcome, Fits, then_with, combined}
 use Rattle.sm_term.specs.declared.term.TermId.{TermId}
-use Rattle.sm_term.specs.declared.formula.Formula.{Formula}
 use Rattle.sm_term.specs.Terms.{Tree}
 use Rattle.sm_term.specs.Formulas.{NumberedFormula, Yes, No, Eq, Ne, Le, Lt, And, Or, numbered}
+use Rattle.sm_term.specs.declared.formula.Formula.{Formula}
 use Rattle.sm_theory.specs.LinearTerms.{linear_by}
 use Rattle.sm_theory.specs.Arithmetic.{is_numeric, one_more}
 use Rattle.sm_pairs.specs.Pairs.{Pairs}

@@ -1,6 +1,5 @@
 -- Cited by public clauses: how the forms of a branch come to a contradiction.
-use Rattle.std.specs.Prelude.{◌≡◌, ℕ, ◌<◌, ◌≤◌, Result, Ok, Err, IsTrue, Option, Some, None}
-use Rattle.std.specs.Prelude.{slice_get, List, [], ◌∷◌, ◌++◌, length}
+use Rattle.std.specs.Prelude.{◌≡◌, ℕ, ◌<◌, ◌≤◌, Result, Ok, Err, IsTrue, Option, Some, None, slice_get, List, [], ◌∷◌, ◌++◌, length}
 use Rattle.sm_num.specs.declared.kind.Kind.TheVariants as kind
 use Rattle.sm_num.specs.Forms.{Linear}
 use Rattle.sm_num.specs.FormLaws.{same_atom}
@@ -10,9 +9,9 @@ use Rattle.sm_num.specs.Tightening.{is_contradictory}
 use Rattle.sm_term.specs.Tables.{tree_at}
 use Rattle.sm_term.specs.Assertions.{Assertion, Yes, No, Eq, Ne, Le, Lt, And, Or}
 use Rattle.sm_theory.specs.Arithmetic.{is_numeric, one_more}
-use Rattle.sm_num.specs.declared.error.NumError.{NumError}
 use Rattle.sm_num.specs.Errors.{Explains}
-use Rattle.sm_judge.specs.declared.forms.Source.{Source}
+use Rattle.sm_num.specs.declared.error.NumError.{NumError}
+pub use Rattle.sm_judge.specs.declared.forms.Source.{Source}
 use Rattle.sm_judge.specs.declared.forms.SourcedForms.{SourcedForms}
 use Rattle.sm_judge.specs.declared.forms.Source.TheVariants as source
 use Rattle.sm_judge.specs.declared.eliminating.ElimLine.{ElimLine}

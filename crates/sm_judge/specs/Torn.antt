@@ -1,12 +1,11 @@
 -- Private: equal numbers whose linear forms differ in the constant alone, and how they are found.
-use Rattle.std.specs.Prelude.{◌≡◌, ℕ, suc, ℤ, ◌<◌, ◌≤◌, IsTrue, Bool, false, ◌&&◌, not}
-use Rattle.std.specs.Prelude.{Option, Some, None, IfSome, List, length, get_or, slice_index}
+use Rattle.std.specs.Prelude.{◌≡◌, ℕ, suc, ℤ, ◌<◌, ◌≤◌, IsTrue, Bool, false, ◌&&◌, not, Option, Some, None, IfSome, List, length, get_or, slice_index}
 use Rattle.std.specs.List.{list_any}
 use Rattle.std.specs.Ordering.{int_eq}
 use Rattle.sm_syntax.specs.text.Sorts.{Sorts}
-use Rattle.sm_term.specs.declared.term.TermId.{TermId}
 use Rattle.sm_term.specs.Terms.{Tree}
 use Rattle.sm_term.specs.Tables.{tree_at}
+use Rattle.sm_term.specs.declared.term.TermId.{TermId}
 use Rattle.sm_theory.specs.Arithmetic.{compared_forms}
 use Rattle.sm_pairs.specs.Pairs.{Pairs}
 

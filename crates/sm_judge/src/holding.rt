@@ -1,15 +1,12 @@
 // What holds on a branch, and by what it is split.
-ghost use Rattle.std.specs.Prelude.{◌≡◌, ◌<◌, ◌||◌, Bool, List, [], ◌∷◌, length, IfOk};
-ghost use Rattle.std.specs.Prelude.{if◌then◌else◌};
+ghost use Rattle.std.specs.Prelude.{◌≡◌, ◌<◌, ◌||◌, Bool, List, [], ◌∷◌, length, IfOk, if◌then◌else◌};
 ghost use Rattle.sm_term.specs.Terms.{Tree};
 ghost use Rattle.sm_term.specs.Tables.{trees_in, sorts_in, tree_at};
 ghost use Rattle.sm_term.specs.Formulas.{numbered, assertion_in, IsFormulaWithin, Eq, Ne};
 ghost use Rattle.sm_theory.specs.Arithmetic.{is_numeric};
-ghost use Rattle.sm_judge.specs.Holding.{is_fact, is_held, is_refuted};
-ghost use Rattle.sm_judge.specs.Holding.{index_split, part_split, order_split};
+ghost use Rattle.sm_judge.specs.Holding.{is_fact, is_held, is_refuted, index_split, part_split, order_split};
 ghost use Rattle.sm_list.specs.Parts.{all_numbered, AreFormulasWithin, pair_numbered};
-ghost use Rattle.sm_judge.specs.Seeing.{seen_in, split_in, IsSplitWithin};
-ghost use Rattle.sm_judge.specs.Seeing.{is_disjunction, disjuncts_of, split_under};
+ghost use Rattle.sm_judge.specs.Seeing.{seen_in, split_in, IsSplitWithin, is_disjunction, disjuncts_of, split_under};
 
 use crate::keyed::KeyedFacts;
 use sm_pairs::Sees;

@@ -10,9 +10,7 @@ ghost use Rattle.sm_term.specs.Tables.{trees_in};
 ghost use Rattle.sm_term.specs.Formulas.{numbered, IsFormulaWithin};
 ghost use Rattle.sm_theory.specs.Arithmetic.{one_more};
 ghost use Rattle.sm_judge.specs.AllForms.{AreAllForms};
-ghost use Rattle.sm_judge.specs.Making.{difference_at, class_form, comparison_at};
-ghost use Rattle.sm_judge.specs.Making.{some_form, with_form, class_items, fact_items, collected};
-ghost use Rattle.sm_judge.specs.Making.{held, GivesMade, ArePairsWithin};
+ghost use Rattle.sm_judge.specs.Making.{difference_at, class_form, comparison_at, some_form, with_form, class_items, fact_items, collected, held, GivesMade, ArePairsWithin};
 ghost use Rattle.sm_list.specs.Parts.{all_numbered, AreFormulasWithin};
 ghost use Rattle.sm_judge.specs.Forms.{is_zero};
 

@@ -1,6 +1,5 @@
 // Sums of forms while atoms are taken out of them, each counted before it is made.
-ghost use Rattle.std.specs.Prelude.{◌≡◌, ◌≤◌, ◌++◌, ◌∷◌, [], ℕ, IsTrue, Some, length, slice_get};
-ghost use Rattle.std.specs.Prelude.{if◌then◌else◌, is_some, IfSome, IfOk, OnOk};
+ghost use Rattle.std.specs.Prelude.{◌≡◌, ◌≤◌, ◌++◌, ◌∷◌, [], ℕ, IsTrue, Some, length, slice_get, if◌then◌else◌, is_some, IfSome, IfOk, OnOk};
 ghost use Rattle.std.specs.List.{list_any};
 ghost use Rattle.sm_num.specs.Forms.{Linear};
 ghost use Rattle.sm_num.specs.Combining.{Fits};

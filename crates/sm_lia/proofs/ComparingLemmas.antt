@@ -1,19 +1,18 @@
 -- What the comparison of two terms' forms makes of them.
-use Rattle.std.proofs.Common.{◌≡◌, ◌<◌, ℕ, ℤ, Bool, true, false, ◌&&◌, not, if◌then◌else◌}
-use Rattle.std.proofs.Common.{◌==◌, List, length, Some, None, refl, sym, ap, subst, ◌∙◌, ⊎_elim}
+use Rattle.std.proofs.Common.{◌≡◌, ◌<◌, ℕ, ℤ, Bool, true, false, ◌&&◌, not, if◌then◌else◌, List, length, Some, None, refl, sym, ap, subst, ◌∙◌, ⊎_elim}
 use Rattle.std.specs.Ordering.{int_eq}
 use Rattle.std.specs.Bool.{Decides}
 use Rattle.std.proofs.lemmas.Bool.{cases_Bool}
-use Rattle.std.proofs.lemmas.Bool.Decides.{Decides-eqb, Decides-int_eq}
+use Rattle.std.proofs.lemmas.Bool.Decides.{Decides-int_eq}
+use Rattle.sm_syntax.specs.text.Sorts.{Sorts}
 use Rattle.sm_syntax.specs.declared.tree.Sort.TheVariants.{Num}
 use Rattle.sm_syntax.specs.declared.tree.Sort.{Sort}
-use Rattle.sm_syntax.specs.text.Sorts.{Sorts}
 use Rattle.sm_num.specs.Forms.{Linear}
 use Rattle.sm_term.specs.Terms.{Tree}
-use Rattle.sm_term.specs.declared.term.TermId.{TermId}
 use Rattle.sm_term.specs.declared.formula.Formula.TheVariants as formula
 use Rattle.sm_term.specs.Assertions.{Eq, Ne}
 use Rattle.sm_term.specs.Tables.{tree_at}
+use Rattle.sm_term.specs.declared.term.TermId.{TermId}
 use Rattle.sm_theory.specs.declared.fact.Fact.TheVariants as fact
 use Rattle.sm_theory.specs.LinearTerms.{linear_of}
 use Rattle.sm_theory.specs.Equality.{formula_if}
@@ -101,20 +100,6 @@ module _ (sorts : Sorts) (trees : List Tree) (t u : TermId) where
   unequal_none h =
       subst (λ (b : Bool). StandsIf sorts trees None (formula_if b (Ne Num first second)))
       (sym (else_not (is_numeric sorts first) (is_numeric sorts second) parts equal h)) tt
-
--- two parts are equal where their atoms and coefficients are
-pub pair_decides : (p q : ℕ × ℤ) → Decides ((p.0 == q.0) && int_eq p.1 q.1) (p ≡ q)
-pair_decides p q = by (p.0 == q.0) (int_eq p.1 q.1) (Decides-eqb p.0 q.0) (Decides-int_eq p.1 q.1)
-  where
-    by : (a b : Bool) → Decides a (p.0 ≡ q.0) → Decides b (p.1 ≡ q.1) → Decides (a && b) (p ≡ q)
-    by true b e d = (
-      λ (t : b ≡ true). ap (λ (n : ℕ). (n, p.1)) (e.0 refl) ∙ ap (λ (z : ℤ). (q.0, z)) (d.0 t),
-      λ (both : p ≡ q). d.1 (ap (λ (r : ℕ × ℤ). r.1) both),
-    )
-    by false b e d = (
-      λ (t : false ≡ true). absurd cc,
-      λ (both : p ≡ q). e.1 (ap (λ (r : ℕ × ℤ). r.0) both),
-    )
 
 module _ (trees : List Tree) (f g : Linear ℕ) (h i : Linear Tree) (first : IsKeptFor trees f h) (second : IsKeptFor trees g i) where
   -- one list of parts, or two

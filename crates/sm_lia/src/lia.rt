@@ -5,8 +5,7 @@ ghost use Rattle.sm_theory.specs.Facts.{BranchFact};
 ghost use Rattle.sm_theory.specs.Arithmetic.{arithmetic_adds};
 ghost use Rattle.sm_theory.specs.Views.{line_in, IsLineWithin, AllStand, StandsIf};
 ghost use Rattle.sm_theory.proofs.ArithmeticSound.{arithmetic_holds};
-ghost use Rattle.sm_theory.proofs.ArithmeticKept.{arithmetic_sorted, arithmetic_below};
-ghost use Rattle.sm_theory.proofs.ArithmeticKept.{arithmetic_moves};
+ghost use Rattle.sm_theory.proofs.ArithmeticKept.{arithmetic_sorted, arithmetic_below, arithmetic_moves};
 
 use crate::cancelling::{elim, tight};
 use crate::comparing::{apart, same};

@@ -11,8 +11,7 @@ ghost use Rattle.sm_term.specs.Tables.{trees_in, sorts_in, tree_at};
 ghost use Rattle.sm_term.specs.Formulas.{numbered, assertion_in, IsFormulaWithin};
 ghost use Rattle.sm_theory.specs.Facts.{BranchFact};
 ghost use Rattle.sm_theory.specs.Lines.{Lin};
-ghost use Rattle.sm_theory.specs.Arithmetic.{difference, one_more, form_fact, form_of_comparison};
-ghost use Rattle.sm_theory.specs.Arithmetic.{arithmetic_adds};
+ghost use Rattle.sm_theory.specs.Arithmetic.{difference, one_more, form_fact, form_of_comparison, arithmetic_adds};
 ghost use Rattle.sm_theory.specs.Views.{AllStand, StandsIf};
 ghost use Rattle.sm_lia.specs.Computing.{ReturnsFor};
 

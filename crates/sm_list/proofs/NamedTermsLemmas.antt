@@ -5,15 +5,15 @@ use Rattle.std.specs.Prelude.{Box}
 use Rattle.std.specs.declared.alloc.Global.{Global}
 use Rattle.sm_term.specs.Terms.{Tree}
 use Rattle.sm_term.specs.Tables.{tree_at}
-use Rattle.sm_theory.specs.declared.line.CertLine.{CertLine}
 use Rattle.sm_theory.specs.Named.{EachNamed}
 use Rattle.sm_theory.specs.Views.{line_in, numbered_line, IsLineWithin}
+use Rattle.sm_theory.specs.declared.line.CertLine.{CertLine}
 use Rattle.sm_theory.proofs.LinesOver.{each_with, each_more}
-use Rattle.sm_cert.specs.declared.tree.CertTree.{CertTree}
 use Rattle.sm_cert.specs.declared.tree.CertEnd.TheVariants as ends
 use Rattle.sm_cert.specs.Certificates.{Certificate, Closed, Split}
 use Rattle.sm_cert.specs.NamedTerms.{EachTerm}
 use Rattle.sm_cert.specs.Views.{lines_before, certificate_in, lines_of, AreLinesWithin}
+use Rattle.sm_cert.specs.declared.tree.CertTree.{CertTree}
 use Rattle.sm_cert.proofs.CheckLemmas.{tree_closed, tree_split, lines_closed, within_parts}
 use Rattle.sm_cert.proofs.TreeLemmas.{own_within, split_within}
 use Rattle.sm_pairs.proofs.AmongLemmas.{there_among}

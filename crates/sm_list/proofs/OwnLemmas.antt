@@ -1,19 +1,18 @@
 -- A term that is put into a table of its own, after its arguments, stands for the same there.
-use Rattle.std.proofs.Common.{◌≡◌, ◌⊎◌, inl, inr, ℕ, zero, suc, ◌+◌, ◌<◌, ◌==◌, pos, Bool, true, false, Some, slice_get, slice_set}
-use Rattle.std.proofs.Common.{List, [], ◌∷◌, ◌++◌, length, take, get_or, refl, sym, ap, ◌∙◌, subst, arith}
+use Rattle.std.proofs.Common.{◌≡◌, ◌⊎◌, inl, inr, ℕ, zero, suc, ◌+◌, ◌<◌, ◌==◌, pos, Bool, true, false, Some, slice_get, slice_set, List, [], ◌∷◌, ◌++◌, length, take, get_or, refl, sym, ap, ◌∙◌, subst, arith}
 use Rattle.std.proofs.lemmas.List.{length-append, length-map, take_more, get_or-set_same, get_or-set_other, map-set}
 use Rattle.std.proofs.lemmas.Option.{slice_get_within, get_or_from_slice_get}
 use Rattle.std.proofs.lemmas.Bool.{eqb-true, eqb-false}
 use Rattle.sm_syntax.specs.claim.Syntax.{Code}
 use Rattle.sm_syntax.specs.text.Sorts.{Sorts}
-use Rattle.sm_term.specs.declared.term.TermId.{TermId}
-use Rattle.sm_term.specs.declared.term.Term.{Term}
 use Rattle.sm_term.specs.Terms.{Tree, Lit}
 use Rattle.sm_term.specs.RowLaws.{contents_of}
 use Rattle.sm_term.specs.Moves.{moved_contents}
 use Rattle.sm_term.specs.Heads.{arguments_of}
 use Rattle.sm_term.specs.Assertions.{Assertion}
 use Rattle.sm_term.specs.Tables.{TableValue, trees_in, sorts_in, tree_at, tree_in, IsTermWithin, AreBefore}
+use Rattle.sm_term.specs.declared.term.TermId.{TermId}
+use Rattle.sm_term.specs.declared.term.Term.{Term}
 use Rattle.sm_term.specs.Fitting.{term_fits}
 use Rattle.sm_term.specs.TableLaws.{AreApart, with_tree, AddsTerms}
 use Rattle.sm_term.specs.Formulas.{NumberedFormula, Yes, No, Eq, Ne, Le, Lt, And, Or, assertion_in, IsFormulaWithin}

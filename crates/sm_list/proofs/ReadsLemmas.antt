@@ -4,8 +4,7 @@ use Rattle.std.proofs.Common.{◌≡◌, ℕ, zero, suc, ◌+◌, ◌-◌, ◌<�
 use Rattle.std.specs.List.{list_any}
 use Rattle.std.proofs.lemmas.List.{append-nil, append_assoc, length-append, take-append-drop}
 use Rattle.std.proofs.Math.Seq.{take-append_seam, drop-append_seam}
-use Rattle.sm_term.specs.Terms.{Tree, Lit, Start, Havoc, Slot, Cell, Read, Write}
-use Rattle.sm_term.specs.Terms.{Neg, Add, Sub, Mul, Fun}
+use Rattle.sm_term.specs.Terms.{Tree, Lit, Start, Havoc, Slot, Cell, Read, Write, Neg, Add, Sub, Mul, Fun}
 use Rattle.sm_term.specs.SameTerms.{same_tree}
 use Rattle.sm_term.proofs.SameTermsLemmas.{same_tree_is}
 use Rattle.sm_theory.specs.TermsOfFormulas.{put, is_among}

@@ -1,18 +1,17 @@
 -- Formulas and lines under other numbers stand for the same over the other table.
-use Rattle.std.proofs.Common.{◌≡◌, ℕ, zero, suc, ◌<◌, ◌+◌, pos, List, [], ◌∷◌, ◌++◌, length, map, take, get_or, refl, sym, ap, ◌∙◌, subst}
-use Rattle.std.proofs.Common.{arith}
+use Rattle.std.proofs.Common.{◌≡◌, ℕ, zero, suc, ◌<◌, ◌+◌, pos, List, [], ◌∷◌, ◌++◌, length, map, take, get_or, refl, sym, ap, ◌∙◌, subst, arith}
 use Rattle.std.proofs.lemmas.List.{length-map, map-append, take_more}
 use Rattle.sm_syntax.specs.text.Sorts.{Sorts}
-use Rattle.sm_term.specs.declared.term.TermId.{TermId}
 use Rattle.sm_term.specs.Terms.{Tree, Lit}
 use Rattle.sm_term.specs.Tables.{tree_at}
+use Rattle.sm_term.specs.declared.term.TermId.{TermId}
 use Rattle.sm_term.specs.Sorted.{tree_sort}
 use Rattle.sm_term.specs.Assertions as plain
 use Rattle.sm_term.specs.Formulas.{NumberedFormula, Yes, No, Eq, Ne, Le, Lt, And, Or, assertion_in, IsFormulaWithin}
-use Rattle.sm_theory.specs.declared.line.CertLine.{CertLine}
 use Rattle.sm_theory.specs.Lines as told
 use Rattle.sm_theory.specs.Named.{with_terms, EachNamed}
 use Rattle.sm_theory.specs.Views.{line_in, numbered_line, IsLineWithin, number_under}
+use Rattle.sm_theory.specs.declared.line.CertLine.{CertLine}
 use Rattle.sm_theory.proofs.LinesOver.{with_twice, with_same, each_with, each_more}
 use Rattle.sm_cert.specs.Views.{AreLinesWithin}
 use Rattle.sm_cert.proofs.CheckLemmas.{within_parts}

@@ -1,19 +1,17 @@
 -- Terms that go behind others into a table of their own: the first stay, and a term's number there
 -- doesn't change.
-use Rattle.std.proofs.Common.{◌≡◌, ◌⊎◌, inl, inr, ℕ, zero, suc, ◌+◌, ◌-◌, ◌<◌, ◌≤◌, pos, Bool}
-use Rattle.std.proofs.Common.{true, false, ◌||◌, Option, Some, None, List, [], ◌∷◌, ◌++◌, map, length, take}
-use Rattle.std.proofs.Common.{get_or, refl, sym, ap, ◌∙◌, subst, arith}
+use Rattle.std.proofs.Common.{◌≡◌, ◌⊎◌, inl, inr, ℕ, zero, suc, ◌+◌, ◌-◌, ◌<◌, ◌≤◌, pos, Bool, true, false, ◌||◌, Option, Some, None, List, [], ◌∷◌, ◌++◌, map, length, take, get_or, refl, sym, ap, ◌∙◌, subst, arith}
 use Rattle.std.specs.List.{list_any}
 use Rattle.std.proofs.lemmas.List.{append-nil, append_assoc, length-append, length-map, take_more, take-map}
 use Rattle.std.proofs.lemmas.Bool.{cases_lt}
 use Rattle.std.proofs.Math.Seq.{take-append_seam, take-append-add}
 use Rattle.sm_syntax.specs.text.Sorts.{Sorts}
-use Rattle.sm_term.specs.declared.term.TermId.{TermId}
 use Rattle.sm_term.specs.Terms.{Tree, Lit, Read, Write}
 use Rattle.sm_term.specs.Heads.{arguments_of}
 use Rattle.sm_term.specs.Assertions.{Assertion, Yes, No, Eq, Ne, Le, Lt, And, Or}
 use Rattle.sm_term.specs.SameTerms.{same_tree}
 use Rattle.sm_term.specs.Tables.{TableValue, trees_in, sorts_in, codes_in, tree_at}
+use Rattle.sm_term.specs.declared.term.TermId.{TermId}
 use Rattle.sm_term.specs.TableLaws.{AreApart, with_tree, AddsTerms}
 use Rattle.sm_term.specs.Formulas.{NumberedFormula, assertion_in, IsFormulaWithin}
 use Rattle.sm_term.proofs.FormsLemmas.{assertion-more, form_kept}
@@ -22,34 +20,18 @@ use Rattle.sm_term.proofs.TreesLemmas.{tree_at-more}
 use Rattle.sm_theory.specs.TermsOfFormulas.{put, with_term, with_formula, with_formulas, is_among}
 use Rattle.sm_theory.specs.Views.{number_under}
 use Rattle.sm_list.specs.declared.shared.SharedTerms.{SharedTerms}
-use Rattle.sm_list.specs.Branches.{greatest_of, writes_on, put_if, read_before}
-use Rattle.sm_list.specs.Branches.{with_reads, with_all_reads, terms_of}
+use Rattle.sm_list.specs.Branches.{greatest_of, writes_on, put_if, read_before, with_reads, with_all_reads, terms_of}
 use Rattle.sm_terms.specs.Listing.{trees_at, AreBelow, AllAmong, IsClosed}
 use Rattle.sm_list.specs.Own.{AreBuilt, ArePlaced}
 use Rattle.sm_list.specs.Parts.{assertions_in, AreFormulasWithin}
 use Rattle.sm_list.specs.Renumber.{formula_under}
 use Rattle.sm_list.specs.Shared.{AreShared, with_those_before}
-use Rattle.sm_terms.proofs.WithTermLemmas.{AllOf, by_arguments, with_terms, with_term_is, put_there, put_new, all_kept, closed_put}
-use Rattle.sm_terms.proofs.WithTermLemmas.{among_with_terms, among-left, kept_with_term, among_with_term, closed_none}
+use Rattle.sm_terms.proofs.WithTermLemmas.{AllOf, by_arguments, with_terms, with_term_is, put_there, put_new, all_kept, closed_put, among_with_terms, among-left, kept_with_term, among_with_term, closed_none}
 use Rattle.sm_list.proofs.ReadsLemmas.{kept_put_if, all_themselves}
 use Rattle.sm_terms.proofs.ListingLemmas.{below_at, tree_of_place}
-use Rattle.sm_list.proofs.BuiltLemmas.{FormulaAmong, FormulasAmong, terms_among, built_at}
+use Rattle.sm_list.proofs.BuiltLemmas.{FormulaAmong, FormulasAmong, terms_among, built_at, built-append}
 use Rattle.sm_list.proofs.RenumberLemmas.{formula_same, formula_there, formulas_same, formulas_there}
 use Rattle.sm_list.proofs.OwnLemmas.{formulas_placed}
-
--- one more term goes last
-built_last : (older ts : List Tree) (t : Tree) → AreBuilt older ts → AllAmong (older ++ ts) (arguments_of t) →
-    is_among (older ++ ts) t ≡ false → AreBuilt older (ts ++ t ∷ [])
-built_last older [] t h args new =
-    let none = append-nil older in
-    (subst (λ (us : List Tree). AllAmong us (arguments_of t)) none args, subst (λ (us : List Tree). is_among us t ≡ false) none new, tt)
-built_last older (u ∷ ts) t h args new =
-    let joined : older ++ u ∷ ts ≡ (older ++ u ∷ []) ++ ts = sym (append_assoc older (u ∷ []) ts) in (
-      h.0,
-      h.1,
-      built_last (older ++ u ∷ []) ts t h.2 (subst (λ (us : List Tree). AllAmong us (arguments_of t)) joined args)
-          (subst (λ (us : List Tree). is_among us t ≡ false) joined new),
-    )
 
 -- terms with others behind them, each once and after its arguments
 pub record GoBehind (first seen : List Tree) : Type 0 where
@@ -77,7 +59,7 @@ module _ (first : List Tree) where
           record {
             more = h.more ++ t ∷ [];
             is = new ∙ ap (λ (us : List Tree). us ++ t ∷ []) h.is ∙ append_assoc first h.more (t ∷ []);
-            built = subst (AreBuilt []) (sym new) (built_last [] seen t h.built args e);
+            built = subst (AreBuilt []) (sym new) (built-append [] seen t h.built args e);
             closed = closed_put t seen h.closed args;
           }
 

@@ -1,8 +1,6 @@
 -- Cited by public clauses: the facts of a branch, and the terms that they name.
-use Rattle.std.specs.Prelude.{ℕ, zero, suc, max, IsTrue}
-use Rattle.std.specs.Prelude.{Option, Some, None, List, [], ◌∷◌, ◌++◌, map}
-use Rattle.sm_term.specs.Terms.{Tree, Lit, Start, Havoc, Slot, Cell, Read, Write}
-use Rattle.sm_term.specs.Terms.{Neg, Add, Sub, Mul, Fun}
+use Rattle.std.specs.Prelude.{ℕ, zero, suc, max, IsTrue, Option, Some, None, List, [], ◌∷◌, ◌++◌, map}
+use Rattle.sm_term.specs.Terms.{Tree, Lit, Start, Havoc, Slot, Cell, Read, Write, Neg, Add, Sub, Mul, Fun}
 use Rattle.sm_term.specs.Assertions.{Assertion, Yes, No, Eq, Ne, Le, Lt, And, Or}
 use Rattle.sm_theory.specs.Lines.{followed}
 use Rattle.sm_theory.specs.Elements.{Written, written_in, read_in}

@@ -1,8 +1,8 @@
 -- Cited by public clauses: terms in a table of their own, where each has its place in a list as its number.
 use Rattle.std.specs.Prelude.{◌≡◌, ℕ, ◌<◌, IsTrue, false, List, [], ◌∷◌, ◌++◌, length}
-use Rattle.sm_term.specs.declared.term.TermId.{TermId}
 use Rattle.sm_term.specs.Terms.{Tree}
 use Rattle.sm_term.specs.Tables.{tree_at}
+use Rattle.sm_term.specs.declared.term.TermId.{TermId}
 use Rattle.sm_term.specs.Heads.{arguments_of}
 use Rattle.sm_theory.specs.TermsOfFormulas.{is_among}
 use Rattle.sm_theory.specs.Views.{number_under}

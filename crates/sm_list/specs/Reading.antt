@@ -1,8 +1,8 @@
 -- Private: what elements that are read were before they were written, by numbers of terms.
 use Rattle.std.specs.Prelude.{Option, Some, None, List}
-use Rattle.sm_term.specs.declared.term.TermId.{TermId}
 use Rattle.sm_term.specs.Terms.{Tree, Read}
 use Rattle.sm_term.specs.Tables.{tree_at}
+use Rattle.sm_term.specs.declared.term.TermId.{TermId}
 use Rattle.sm_theory.specs.Elements.{Written, written_in}
 use Rattle.sm_theory.specs.Lines.{followed}
 

@@ -3,8 +3,7 @@ use Rattle.std.specs.Prelude.{◌≡◌, ◌≤◌, List, [], length, map}
 use Rattle.sm_term.specs.Terms.{Tree}
 use Rattle.sm_term.specs.Tables.{TableValue, trees_in, sorts_in, codes_in}
 use Rattle.sm_list.specs.declared.shared.SharedTerms.{SharedTerms}
-use Rattle.sm_list.specs.Branches.{with_all_reads, writes_on}
-use Rattle.sm_list.specs.Branches.{greatest_of}
+use Rattle.sm_list.specs.Branches.{with_all_reads, writes_on, greatest_of}
 use Rattle.sm_terms.specs.Listing.{trees_at, AreBelow, IsClosed}
 use Rattle.sm_list.specs.Own.{AreBuilt, ArePlaced}
 

@@ -1,10 +1,8 @@
 // The terms of a branch in a table of their own, where the number of each is its place in the list.
-ghost use Rattle.std.specs.Prelude.{◌≡◌, ◌<◌, [], length, Some, slice_get};
-ghost use Rattle.std.specs.Prelude.{IsTrue, IfOk, OnOk, OnErr};
+ghost use Rattle.std.specs.Prelude.{◌≡◌, ◌<◌, [], length, Some, slice_get, IsTrue, IfOk, OnOk, OnErr};
 ghost use Rattle.sm_term.specs.Fitting.{term_fits};
 ghost use Rattle.sm_term.specs.Heads.{arguments_of};
-ghost use Rattle.sm_term.specs.Tables.{trees_in, sorts_in, codes_in, tree_at, tree_in};
-ghost use Rattle.sm_term.specs.Tables.{IsTermWithin};
+ghost use Rattle.sm_term.specs.Tables.{trees_in, sorts_in, codes_in, tree_at, tree_in, IsTermWithin};
 ghost use Rattle.sm_term.specs.TableLaws.{AddsTerms, with_tree};
 ghost use Rattle.sm_list.specs.Branches.{terms_of};
 ghost use Rattle.sm_terms.specs.Listing.{trees_at, numbers_of, AreBelow, AllAmong};

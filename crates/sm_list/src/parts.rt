@@ -1,13 +1,11 @@
 // The parts of conjunctions, which stand behind them in the order of a queue.
-ghost use Rattle.std.specs.Prelude.{◌≡◌, ◌<◌, ◌≤◌, ℕ, List, [], ◌∷◌, ◌++◌, length, take, drop};
-ghost use Rattle.std.specs.Prelude.{IfOk, OnOk};
+ghost use Rattle.std.specs.Prelude.{◌≡◌, ◌<◌, ◌≤◌, ℕ, List, [], ◌∷◌, ◌++◌, length, take, drop, IfOk, OnOk};
 ghost use Rattle.sm_syntax.specs.text.Sorts.{Sorts};
 ghost use Rattle.sm_term.specs.Terms.{Tree};
 ghost use Rattle.sm_term.specs.Formulas.{numbered, assertion_in, IsFormulaWithin};
 ghost use Rattle.sm_pairs.specs.Longer.{IsLonger};
 ghost use Rattle.sm_list.specs.Branches.{with_parts};
-ghost use Rattle.sm_list.specs.Parts.{all_numbered, assertions_in, AreFormulasWithin};
-ghost use Rattle.sm_list.specs.Parts.{numbered_parts, pair_numbered, numbered_at};
+ghost use Rattle.sm_list.specs.Parts.{all_numbered, assertions_in, AreFormulasWithin, numbered_parts, pair_numbered, numbered_at};
 
 use sm_term::{Formula, copy_formula};
 use std::alloc::{AllocError, Global};

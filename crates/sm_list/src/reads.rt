@@ -1,12 +1,10 @@
 // What each element that is read was before it was written, listed behind the terms.
-ghost use Rattle.std.specs.Prelude.{◌≡◌, ◌<◌, ◌≤◌, ◌+◌, length, map, drop, Some, slice_get};
-ghost use Rattle.std.specs.Prelude.{IfOk, IfSome, OnOk};
+ghost use Rattle.std.specs.Prelude.{◌≡◌, ◌<◌, ◌≤◌, ◌+◌, length, map, drop, Some, slice_get, IfOk, IfSome, OnOk};
 ghost use Rattle.sm_term.specs.Terms.{Read};
 ghost use Rattle.sm_term.specs.Tables.{trees_in, tree_at};
 ghost use Rattle.sm_term.specs.TableLaws.{AddsTerms};
 ghost use Rattle.sm_theory.specs.TermsOfFormulas.{put};
-ghost use Rattle.sm_list.specs.Branches.{greatest_of, writes_on, put_if, read_before};
-ghost use Rattle.sm_list.specs.Branches.{with_reads, with_all_reads};
+ghost use Rattle.sm_list.specs.Branches.{greatest_of, writes_on, put_if, read_before, with_reads, with_all_reads};
 ghost use Rattle.sm_terms.specs.Listing.{trees_at, AreBelow, IsClosed};
 ghost use Rattle.sm_list.specs.Reading.{read_told, read_under};
 

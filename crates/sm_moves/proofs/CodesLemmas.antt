@@ -1,15 +1,10 @@
 -- What code is left where more code stands behind it.
-use Rattle.std.proofs.Common.{◌≡◌, ◌+◌, ◌<◌, Bool, true, false, ◌||◌, refl, ap, sym, arith}
+use Rattle.std.proofs.Common.{◌≡◌, ◌+◌, ◌<◌, true, false, ◌||◌, refl, ap, sym, arith}
 use Rattle.sm_syntax.specs.claim.Syntax.{Code, End, Skip, Assign, Write, If, While, Hole, append}
 use Rattle.sm_syntax.proofs.Appends.{append_assoc}
 use Rattle.sm_plan.specs.Statements.{is_over, is_long, front, rest_after, is_loop, loop_body}
-use Rattle.sm_moves.specs.CodeShapes.{is_simple, is_fork, by_first_block, by_second_block}
-use Rattle.sm_moves.specs.CodeShapes.{has_hole, own_statements, statements_in}
-
--- neither of two tests passes
-pub neither : (a b : Bool) → (a || b) ≡ false → (a ≡ false) × (b ≡ false)
-neither false b e = (refl, e)
-neither true b e = absurd cc
+use Rattle.sm_moves.specs.CodeShapes.{is_simple, is_fork, by_first_block, by_second_block, has_hole, own_statements, statements_in}
+use Rattle.std.proofs.lemmas.Bool.{or_parts}
 
 -- code that has a statement, and more behind it
 pub long_append : (c k : Code) → is_over c ≡ false → is_long 1 (append c k) ≡ true
@@ -97,8 +92,8 @@ rest_no_hole (Skip r) h = h
 rest_no_hole (Assign x v r) h = h
 rest_no_hole (Write a i v r) h = h
 rest_no_hole (If b one other r) h =
-    let p = neither (has_hole one) (has_hole other || has_hole r) h in (neither (has_hole other) (has_hole r) p.1).1
-rest_no_hole (While b body r) h = (neither (has_hole body) (has_hole r) h).1
+    let p = or_parts (has_hole one) (has_hole other || has_hole r) h in (or_parts (has_hole other) (has_hole r) p.1).1
+rest_no_hole (While b body r) h = (or_parts (has_hole body) (has_hole r) h).1
 rest_no_hole (Hole n r) h = absurd cc
 
 pub append_no_hole : (c k : Code) → has_hole c ≡ false → has_hole k ≡ false → has_hole (append c k) ≡ false
@@ -107,11 +102,11 @@ append_no_hole (Skip r) k h g = append_no_hole r k h g
 append_no_hole (Assign x v r) k h g = append_no_hole r k h g
 append_no_hole (Write a i v r) k h g = append_no_hole r k h g
 append_no_hole (If b one other r) k h g =
-    let p = neither (has_hole one) (has_hole other || has_hole r) h in
-    let q = neither (has_hole other) (has_hole r) p.1 in
+    let p = or_parts (has_hole one) (has_hole other || has_hole r) h in
+    let q = or_parts (has_hole other) (has_hole r) p.1 in
     rw (p.0, q.0) (append_no_hole r k q.1 g)
 append_no_hole (While b body r) k h g =
-    let p = neither (has_hole body) (has_hole r) h in rw p.0 (append_no_hole r k p.1 g)
+    let p = or_parts (has_hole body) (has_hole r) h in rw p.0 (append_no_hole r k p.1 g)
 append_no_hole (Hole n r) k h g = absurd cc
 
 pub body_no_hole : (c : Code) → has_hole c ≡ false → has_hole (loop_body c) ≡ false
@@ -120,7 +115,7 @@ body_no_hole (Skip r) h = refl
 body_no_hole (Assign x v r) h = refl
 body_no_hole (Write a i v r) h = refl
 body_no_hole (If b one other r) h = refl
-body_no_hole (While b body r) h = (neither (has_hole body) (has_hole r) h).0
+body_no_hole (While b body r) h = (or_parts (has_hole body) (has_hole r) h).0
 body_no_hole (Hole n r) h = absurd cc
 
 pub blocks_no_hole : (c : Code) → has_hole c ≡ false → (has_hole (by_first_block c) ≡ false) × (has_hole (by_second_block c) ≡ false)
@@ -129,8 +124,8 @@ blocks_no_hole (Skip r) h = (h, h)
 blocks_no_hole (Assign x v r) h = (h, h)
 blocks_no_hole (Write a i v r) h = (h, h)
 blocks_no_hole (If b one other r) h =
-    let p = neither (has_hole one) (has_hole other || has_hole r) h in
-    let q = neither (has_hole other) (has_hole r) p.1 in
+    let p = or_parts (has_hole one) (has_hole other || has_hole r) h in
+    let q = or_parts (has_hole other) (has_hole r) p.1 in
     (append_no_hole one r p.0 q.1, append_no_hole other r q.0 q.1)
 blocks_no_hole (While b body r) h = (h, h)
 blocks_no_hole (Hole n r) h = (h, h)

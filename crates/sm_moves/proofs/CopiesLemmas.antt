@@ -5,13 +5,6 @@ use Rattle.sm_syntax.specs.claim.ConflictFree.{Copy, O, A, B, M}
 use Rattle.sm_plan.specs.Copies.{has, with_copy}
 use Rattle.sm_plan.specs.Masks.{bit_of, set_of}
 
--- what holds of each copy
-pub of_each : (P : Copy → Type 0) → P O → P A → P B → P M → (c : Copy) → P c
-of_each P o a b m O = o
-of_each P o a b m A = a
-of_each P o a b m B = b
-of_each P o a b m M = m
-
 -- the block of a copy, where those of a set of one copy go on by their blocks
 pub forked_at : (c : Copy) (n : ℕ) → n ≡ bit_of c → (old new block : Copy → Code) →
     ((d : Copy) → new d ≡ (if has (set_of n) d then block d else old d)) → (d : Copy) → new d ≡ with_copy old c (block c) d

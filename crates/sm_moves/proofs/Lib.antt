@@ -7,3 +7,4 @@ pub mod SharedLemmas
 pub mod WalksLemmas
 pub mod MaskLemmas
 pub mod CopiesLemmas
+pub mod Holes

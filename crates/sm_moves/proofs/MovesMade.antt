@@ -1,13 +1,12 @@
 -- Copies begin with the same statement where each begins with that of the least.
-use Rattle.std.proofs.Common.{◌≡◌, ◌↔◌, IsTrue, Bool, true, false, not, ◌&&◌, ◌||◌, cond, Some, List, [], ◌∷◌, map}
-use Rattle.std.proofs.Common.{refl, ap, sym, ◌∙◌, subst}
+use Rattle.std.proofs.Common.{◌≡◌, ◌↔◌, IsTrue, Bool, true, false, not, ◌&&◌, ◌||◌, cond, Some, List, [], ◌∷◌, map, refl, ap, sym, ◌∙◌, subst}
 use Rattle.std.specs.Prelude.{find, filter}
 use Rattle.std.specs.List.{list_all}
 use Rattle.std.proofs.lemmas.Option.{same_Some}
 use Rattle.sm_syntax.specs.claim.Syntax.{Code, End}
 use Rattle.sm_syntax.specs.claim.ConflictFree.{Copy, O, A, B, M}
-use Rattle.sm_syntax.specs.declared.tree.Stmt.{Stmt}
 use Rattle.sm_syntax.specs.trees.Views.{statement_of}
+use Rattle.sm_syntax.specs.declared.tree.Stmt.{Stmt}
 use Rattle.sm_term.specs.SameTerms.{same_code}
 use Rattle.sm_term.specs.SameCodeLaws.{same_code_is, code_itself}
 use Rattle.sm_plan.specs.Copies.{Copies, copies, each, has}
@@ -15,6 +14,8 @@ use Rattle.sm_plan.specs.Statements.{Statement, by_first, front, put_before, res
 use Rattle.sm_plan.proofs.RestsLemmas.{stands, put_first}
 use Rattle.sm_moves.specs.CodeShapes.{are_same}
 use Rattle.sm_moves.specs.Moves.{is_shared}
+use Rattle.sm_moves.proofs.SharedLemmas.{and_true}
+use Rattle.sm_lemmas.proofs.Tests.{same_tests}
 
 -- whether all that pass a test have this code, one after the other
 abbrev agree : (Copy → Bool) → (Copy → Code) → Code → List Copy → Bool
@@ -51,10 +52,6 @@ same_as_first test code (c ∷ cs) f e = by (test c) refl e (same_as_first test 
         ∙ ap (λ (v : Bool). v && agree test code (code c) cs) (sym (code_itself (code c))))
     by false is h later = later h
 
-and_true : (b : Bool) → (b && true) ≡ b
-and_true true = refl
-and_true false = refl
-
 -- the code of a set's copies is the same where each has that of the least
 pub shared_by : (set : Copies) (code : Copy → Code) (f : Copy) → find (has set) copies ≡ Some f →
     is_shared set code ≡ each (λ (c : Copy). not (has set c) || same_code (code f) (code c))
@@ -76,14 +73,7 @@ front_is c s e =
     ∙ ap (by_first End f) (put_first t k)
     ∙ sym ((stands s).1 End)
 
--- a test of whether code is the same
-same_bools : (b v : Bool) → (b ≡ true → v ≡ true) → (v ≡ true → b ≡ true) → b ≡ v
-same_bools true true there back = refl
-same_bools true false there back = let e = there refl in absurd cc
-same_bools false true there back = let e = back refl in absurd cc
-same_bools false false there back = refl
-
 pub decided : (b : Bool) (c d : Code) → IsTrue b ↔ (c ≡ d) → b ≡ same_code c d
 decided b c d e =
-    same_bools b (same_code c d) (λ (h : b ≡ true). (same_code_is c d).1 (e.0 h))
+    same_tests b (same_code c d) (λ (h : b ≡ true). (same_code_is c d).1 (e.0 h))
     (λ (h : same_code c d ≡ true). e.1 ((same_code_is c d).0 h))

@@ -4,8 +4,7 @@ use Rattle.std.specs.List.{filter, flat_map, list_any}
 use Rattle.sm_syntax.specs.claim.Syntax.{Code}
 use Rattle.sm_syntax.specs.claim.ConflictFree.{Copy, O, A, B, M}
 use Rattle.sm_term.specs.SameTerms.{is_copy}
-use Rattle.sm_plan.specs.Copies.{Copies, has, is_inhabited, choices, all_subsets, subsets}
-use Rattle.sm_plan.specs.Copies.{with_copy, no_copies}
+use Rattle.sm_plan.specs.Copies.{Copies, has, is_inhabited, choices, all_subsets, subsets, with_copy, no_copies}
 use Rattle.sm_plan.specs.Statements.{rest_after}
 use Rattle.sm_moves.specs.CopySets.{members}
 use Rattle.sm_moves.specs.Moves.{moved_on}
@@ -187,31 +186,6 @@ IsOneOf cs c = list_any (is_copy c) cs
 abbrev pub Waits : Copies → List Copy → Copies → Type 0
 Waits set [] taken = Unit {0}
 Waits set (c ∷ cs) taken = (has set c ≡ true) × ((has taken c ≡ false) × ((IsOneOf cs c ≡ false) × Waits set cs taken))
-
--- copies that pass the test are the same, and others don't pass it either way round
-pub copy_itself : (c : Copy) → is_copy c c ≡ true
-copy_itself O = refl
-copy_itself A = refl
-copy_itself B = refl
-copy_itself M = refl
-
-pub same_copies : (c d : Copy) → is_copy c d ≡ true → c ≡ d
-same_copies O O e = refl
-same_copies O A e = absurd cc
-same_copies O B e = absurd cc
-same_copies O M e = absurd cc
-same_copies A O e = absurd cc
-same_copies A A e = refl
-same_copies A B e = absurd cc
-same_copies A M e = absurd cc
-same_copies B O e = absurd cc
-same_copies B A e = absurd cc
-same_copies B B e = refl
-same_copies B M e = absurd cc
-same_copies M O e = absurd cc
-same_copies M A e = absurd cc
-same_copies M B e = absurd cc
-same_copies M M e = refl
 
 pub other_copies : (c d : Copy) → is_copy c d ≡ false → is_copy d c ≡ false
 other_copies O O e = e

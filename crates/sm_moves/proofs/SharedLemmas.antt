@@ -20,7 +20,7 @@ all_filtered f g (c ∷ cs) = by (g c) (all_filtered f g cs)
     by true h = ap (λ (x : Bool). f c && x) h
     by false h = h
 
-and_true : (a : Bool) → (a && true) ≡ a
+pub and_true : (a : Bool) → (a && true) ≡ a
 and_true true = refl
 and_true false = refl
 

@@ -1,26 +1,20 @@
 -- Walks over statements: what a test says of code where it passes one of two parts, and the shapes of statements.
-use Rattle.std.proofs.Common.{◌≡◌, ◌≤◌, ◌<◌, ◌+◌, ℕ, zero, suc, Bool, true, false, ◌||◌, List, [], ◌∷◌, length, drop, get_or}
-use Rattle.std.proofs.Common.{refl, sym, ap, ◌∙◌, arith}
+use Rattle.std.proofs.Common.{◌≡◌, ◌≤◌, ◌<◌, ◌+◌, ℕ, zero, suc, Bool, true, false, ◌||◌, List, [], ◌∷◌, length, drop, get_or, refl, sym, ap, ◌∙◌, arith}
 use Rattle.sm_syntax.specs.claim.Fill.{Fillings, fill}
 use Rattle.sm_syntax.specs.claim.Syntax.{Code, End, Skip, Assign, Write, If, While, Hole, append}
-use Rattle.sm_syntax.specs.declared.tree.Block.{Block}
-use Rattle.sm_syntax.specs.declared.tree.Cond.{Cond}
 use Rattle.sm_syntax.specs.declared.tree.Expr.{Expr}
 use Rattle.sm_syntax.specs.declared.tree.Name.{Name}
-use Rattle.sm_syntax.specs.declared.tree.Stmt.{Stmt}
 use Rattle.sm_syntax.specs.declared.tree.Stmt.TheVariants as tree
 use Rattle.sm_syntax.specs.trees.Views.{statement_of, code_of}
+use Rattle.sm_syntax.specs.declared.tree.Stmt.{Stmt}
+use Rattle.sm_syntax.specs.declared.tree.Block.{Block}
+use Rattle.sm_syntax.specs.declared.tree.Cond.{Cond}
 use Rattle.sm_syntax.proofs.Blocks.{block_is, statement_is, sequence-drop, sequence-drop-end}
-use Rattle.sm_syntax.proofs.Statements.{statement_of-Skip, statement_of-Assign, statement_of-Store, statement_of-If}
-use Rattle.sm_syntax.proofs.Statements.{statement_of-While}
-use Rattle.sm_syntax.proofs.Statements.{statement_of-Hole}
+use Rattle.sm_syntax.proofs.Statements.{statement_of-Skip, statement_of-Assign, statement_of-Store, statement_of-If, statement_of-While, statement_of-Hole}
 use Rattle.sm_plan.specs.Views.{code_before}
 use Rattle.sm_moves.specs.CodeShapes.{has_hole, has_fork, own_statements, statements_in}
 use Rattle.sm_moves.proofs.CodesLemmas.{statements_append}
-
-or_assoc : (a b c : Bool) → ((a || b) || c) ≡ (a || (b || c))
-or_assoc true b c = refl
-or_assoc false b c = refl
+use Rattle.sm_lemmas.proofs.Tests.{or_false, or_assoc}
 
 -- code after code has a hole where one of the two has
 pub hole-append : (c k : Code) → has_hole (append c k) ≡ (has_hole c || has_hole k)
@@ -114,10 +108,6 @@ hole-Assign x e = ap has_hole (statement_of-Assign x e End)
 
 pub hole-Store : (a : Name) (i e : Expr) → has_hole (statement_of (tree.Store a i e) End) ≡ false
 hole-Store a i e = ap has_hole (statement_of-Store a i e End)
-
-or_false : (a : Bool) → (a || false) ≡ a
-or_false true = refl
-or_false false = refl
 
 pub hole-If : (b : Cond) (c d : Block) → has_hole (statement_of (tree.If b c d) End) ≡ (has_hole (code_of c) || has_hole (code_of d))
 hole-If b c d =

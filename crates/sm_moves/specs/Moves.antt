@@ -1,6 +1,5 @@
 -- Cited by public clauses: how the copies of a set go on where their code differs.
-use Rattle.std.specs.Prelude.{◌==◌, nat_le, Bool, not, ◌&&◌, ◌||◌, if◌then◌else◌}
-use Rattle.std.specs.Prelude.{Option, Some, None, is_some, map, length, find}
+use Rattle.std.specs.Prelude.{◌==◌, nat_le, Bool, not, ◌&&◌, ◌||◌, if◌then◌else◌, Option, Some, None, is_some, map, length, find}
 use Rattle.sm_syntax.specs.claim.Syntax.{Code}
 use Rattle.sm_syntax.specs.claim.ConflictFree.{Copy}
 use Rattle.sm_plan.specs.Copies.{Copies, copies_that, has, is_inhabited}

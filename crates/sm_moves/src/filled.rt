@@ -1,6 +1,5 @@
 // The statements that shared code is filled with in each copy.
-ghost use Rattle.std.specs.Prelude.{◌≡◌, ◌≤◌, ◌-◌, take, drop, length, if◌then◌else◌, IfOk};
-ghost use Rattle.std.specs.Prelude.{IfSome, IfNone};
+ghost use Rattle.std.specs.Prelude.{◌≡◌, ◌≤◌, ◌-◌, take, drop, length, if◌then◌else◌, IfOk, IfSome, IfNone};
 ghost use Rattle.sm_syntax.specs.claim.ConflictFree.{Copy};
 ghost use Rattle.sm_syntax.specs.claim.Fill.{filling, fill};
 ghost use Rattle.sm_syntax.specs.claim.Syntax.{Code, End, append};

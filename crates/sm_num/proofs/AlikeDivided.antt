@@ -4,9 +4,7 @@ use Rattle.std.proofs.lemmas.Bool.{cases_Bool}
 use Rattle.std.proofs.lemmas.Nat.Gcd.{dvd-zero, dvd_antisymm, dvd_refl}
 use Prim.Native.Nat.{◌∣◌}
 use native.Mathlib.Nat.{zero-div}
-use Rattle.sm_num.specs.declared.kind.Kind.{Kind}
-use Rattle.sm_num.specs.declared.kind.Kind.TheVariants.{Le, Eq}
-use Rattle.sm_num.specs.Forms.{Linear, coefficient}
+use Rattle.sm_num.specs.Forms.{Linear, coefficient, Kind, Le, Eq}
 use Rattle.sm_num.specs.Combining.{Outcome, Fits, Leaves}
 use Rattle.sm_num.specs.Eliminating.{gcd, floor_of, ceiling_of, divisor_of_parts, divided_parts, divided, then_divided}
 use Rattle.sm_num.specs.Tightening.{has_no_part, one_is_zero, tightened_by, tightened, fails, is_contradictory}

@@ -3,19 +3,16 @@ use Rattle.std.proofs.Common.{◌≡◌, ℤ, pos, ◌+ℤ◌, ◌*ℤ◌, Bool,
 use Rattle.std.proofs.lemmas.Bool.{cases_Bool}
 use Rattle.std.specs.Ordering.{int_eq}
 use Rattle.std.proofs.lemmas.Bool.Decides.{Decides-int_eq}
-use Rattle.sm_num.specs.declared.op.Op.{Op}
-use Rattle.sm_num.specs.declared.op.Op.TheVariants.{Add, Mul}
-use Rattle.sm_num.specs.declared.kind.Kind.{Kind}
 use Rattle.sm_num.specs.Range.{exact, fits_form}
-use Rattle.sm_num.specs.Forms.{coefficient}
-use Rattle.sm_num.specs.Combining.{Outcome, Fits, Leaves, then_with, computed, combined_number, with_part, led_by, scaled, formed, met_part, joined_parts}
+use Rattle.sm_num.specs.Forms.{coefficient, Kind}
+use Rattle.sm_num.specs.Combining.{Outcome, Fits, Leaves, then_with, computed, combined_number, with_part, led_by, scaled, formed, met_part, joined_parts, Op, Add, Mul}
 use Rattle.sm_num.specs.FormLaws.{ComeOutAlike}
 use Rattle.sm_num.proofs.RingLemmas.{sums, mul_zero}
 use Rattle.sm_num.proofs.OutcomeLemmas.{with_part_has}
 use Rattle.sm_num.proofs.SameAtomLemmas.{IsSound, IsReflexive, AreReduced, zero_test, other_test, coefficient_past, coefficient_one, coefficient_filter, apart_zero, reduced_filter}
 
 -- a number is computed where the exact one is in the range
-computed_inside : (op : Op) (y z w : ℤ) → exact op y z ≡ w → IsTrue (fits_form w) → computed op y z ≡ Fits w
+pub computed_inside : (op : Op) (y z w : ℤ) → exact op y z ≡ w → IsTrue (fits_form w) → computed op y z ≡ Fits w
 computed_inside op y z w is inside =
     ap (λ (x : ℤ). if fits_form x then Fits x else Leaves op y z) is ∙ ap (λ (b : Bool). if b then Fits w else Leaves op y z) inside
 

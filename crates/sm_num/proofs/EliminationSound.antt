@@ -3,9 +3,7 @@ use Rattle.std.proofs.Common.{◌≡◌, ◌↔◌, ℕ, suc, ◌/◌, ◌<◌, 
 use Rattle.std.proofs.lemmas.Bool.{and_parts}
 use Rattle.std.specs.Ordering.{int_eq}
 use Prim.Native.Nat.{◌∣◌}
-use Rattle.sm_num.specs.declared.kind.Kind.{Kind}
-use Rattle.sm_num.specs.declared.kind.Kind.TheVariants.{Le, Eq}
-use Rattle.sm_num.specs.Forms.{Linear, Satisfies, HoldsAt, sum_of_parts, coefficient, parts_without, without}
+use Rattle.sm_num.specs.Forms.{Linear, Satisfies, HoldsAt, sum_of_parts, coefficient, parts_without, without, Kind, Le, Eq}
 use Rattle.sm_num.specs.Combining.{Outcome, Fits, Leaves, formed, combined, combination}
 use Rattle.sm_num.specs.Eliminating.{gcd, is_equation, signs_alike, can_cancel, multipliers, kind_of_sum, floor_of, divisor_of_parts, divided_parts, divided, eliminated, elimination}
 use Rattle.sm_num.specs.FormLaws.{same_atom, value_of_form}

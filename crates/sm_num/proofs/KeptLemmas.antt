@@ -2,12 +2,9 @@
 use Rattle.std.proofs.Common.{◌≡◌, ◌≤◌, ◌<◌, ℕ, suc, ◌%◌, ◌==◌, nat_lt, ℤ, pos, nat_abs, ◌*ℤ◌, Bool, true, false, not, if◌then◌else◌, IsTrue, List, [], ◌∷◌, filter, refl, subst, arith}
 use Rattle.std.proofs.lemmas.Bool.{ltb-true, ltb-false, eqb-true, eqb-false, ne_eqb}
 use Rattle.std.proofs.lemmas.Nat.Gcd.{dvd_refl}
-use Rattle.sm_num.specs.declared.op.Op.TheVariants.{Mul}
-use Rattle.sm_num.specs.declared.kind.Kind.{Kind}
-use Rattle.sm_num.specs.declared.kind.Kind.TheVariants.{Le, Eq}
 use Rattle.sm_num.specs.Range.{fits_form}
-use Rattle.sm_num.specs.Forms.{Linear, coefficient, without, AreParts, IsKept}
-use Rattle.sm_num.specs.Combining.{Fits, computed, combined_number, with_part, led_by, scaled, merged, merged_part, combined}
+use Rattle.sm_num.specs.Forms.{Linear, coefficient, without, AreParts, IsKept, Kind, Le, Eq}
+use Rattle.sm_num.specs.Combining.{Fits, computed, combined_number, with_part, led_by, scaled, merged, merged_part, combined, Mul}
 use Rattle.sm_num.specs.Eliminating.{gcd, multipliers, kind_of_sum, floor_of, divisor_of_parts, divided_parts, divided, eliminated}
 use Rattle.sm_num.specs.Tightening.{has_no_part, one_is_zero, tightened_by, tightened}
 use Rattle.sm_num.specs.FormLaws.{same_atom}

@@ -16,6 +16,7 @@ pub mod AlikeValues
 pub mod OverOtherAtoms
 pub mod EliminationParts
 mod Divisors
-mod KeptForms
-mod Merges
+pub mod KeptForms
+pub mod Merges
 mod Eliminated
+pub mod OneForm

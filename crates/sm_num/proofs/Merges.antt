@@ -1,12 +1,8 @@
 -- The sum of two lists of parts where one of them has ended.
-use Rattle.std.proofs.Common.{◌≡◌, ◌-◌, ◌⊎◌, inl, inr, ℕ, ℤ}
-use Rattle.std.proofs.Common.{List, [], ◌∷◌, ◌++◌, length, drop, take, refl, sym, ap, subst, ◌∙◌, arith}
+use Rattle.std.proofs.Common.{◌≡◌, ◌-◌, ◌⊎◌, inl, inr, ℕ, ℤ, List, [], ◌∷◌, ◌++◌, length, drop, take, refl, sym, ap, subst, ◌∙◌, arith}
 use Rattle.std.proofs.lemmas.List.{append_assoc, append-nil, length-drop}
-use Rattle.sm_num.specs.declared.error.NumError.{NumError}
-use Rattle.sm_num.specs.declared.error.NumError.TheVariants.{Beyond, Memory}
-use Rattle.sm_num.specs.declared.op.Op.TheVariants.{Mul}
-use Rattle.sm_num.specs.Combining.{Outcome, Fits, Leaves, then_with, computed, led_by, scaled, merged}
-use Rattle.sm_num.specs.Errors.{Explains}
+use Rattle.sm_num.specs.Combining.{Outcome, Fits, Leaves, then_with, computed, led_by, scaled, merged, Mul}
+use Rattle.sm_num.specs.Errors.{Explains, NumError, Beyond, Memory}
 use Rattle.sm_num.specs.Merging.{behind}
 use Rattle.sm_num.proofs.KeptForms.{take_all}
 

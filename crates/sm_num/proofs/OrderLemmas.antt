@@ -1,28 +1,18 @@
 -- By ascending atoms and over any atoms, and of forms that are alike, sums come out alike.
-use Rattle.std.proofs.Common.{◌≡◌, ◌≤◌, ◌<◌, ℕ, suc, ◌==◌, nat_lt, ℤ, pos, Bool, true, false, not, if◌then◌else◌, List, [], ◌∷◌, filter, refl, sym, ap, subst, ◌∙◌, arith}
-use Rattle.std.proofs.lemmas.Bool.{ltb-true, ltb-false, eqb-true, eqb-false, eq-eqb}
+use Rattle.std.proofs.Common.{◌≡◌, ◌≤◌, ℕ, suc, ◌==◌, nat_lt, ℤ, pos, Bool, true, false, not, if◌then◌else◌, List, [], ◌∷◌, filter, refl, sym, ap, subst, ◌∙◌, arith}
+use Rattle.std.proofs.lemmas.Bool.{ltb-true, ltb-false, eqb-true, eqb-false}
 use Rattle.std.specs.Ordering.{int_eq}
-use Rattle.sm_num.specs.declared.op.Op.TheVariants.{Mul}
-use Rattle.sm_num.specs.declared.kind.Kind.{Kind}
-use Rattle.sm_num.specs.Forms.{Linear, coefficient, parts_without, without, AreParts, IsKept}
-use Rattle.sm_num.specs.Combining.{Outcome, computed, combined_number, led_by, merged, merged_part, formed, joined_parts, combined, combination}
+use Rattle.sm_num.specs.Forms.{Linear, coefficient, parts_without, without, AreParts, IsKept, Kind}
+use Rattle.sm_num.specs.Combining.{Outcome, computed, combined_number, led_by, merged, merged_part, formed, joined_parts, combined, combination, Mul}
 use Rattle.sm_num.specs.Eliminating.{multipliers, kind_of_sum, then_divided, eliminated, elimination}
 use Rattle.sm_num.specs.FormLaws.{same_atom, AreAlike, ComeOutAlike}
 use Rattle.sm_num.proofs.OutcomeLemmas.{Gives, gives_more}
-use Rattle.sm_num.proofs.SameAtomLemmas.{IsSound, IsReflexive, AreReduced, same_atom_sound, same_atom_reflexive, coefficient_past, coefficient_one, coefficient_filter, apart_zero}
+use Rattle.sm_num.proofs.SameAtomLemmas.{IsSound, IsReflexive, AreReduced, same_atom_sound, same_atom_reflexive, coefficient_past, coefficient_filter}
 use Rattle.sm_num.proofs.ResultsReduced.{IsReduced, without_reduced, combination_reduced}
-use Rattle.sm_num.proofs.KeptLemmas.{parts_apart, parts_reduced, without_kept, combined_kept}
+use Rattle.sm_num.proofs.KeptLemmas.{parts_reduced, without_kept, combined_kept}
 use Rattle.sm_num.proofs.AlikeLemmas.{product_alone, other_product_alone, nothing_combined, ComesOut, comes_out_at, led_comes_out, summed, scaled_comes_out, combination_comes_out, formed_alike}
 use Rattle.sm_num.proofs.AlikeDivided.{then_divided_alike}
-
--- the coefficient of the first of ascending parts, and of an atom before them
-first_coefficient : (t least : ℕ) (p : ℕ × ℤ) (ps : List (ℕ × ℤ)) → AreParts least (p ∷ ps) → t ≡ p.0 →
-    coefficient same_atom t (p ∷ ps) ≡ p.1
-first_coefficient t least p ps parts e =
-    coefficient_one same_atom t p ps same_atom_sound (parts_apart p.0 (suc p.0) ps (omega arith) parts.3) (eq-eqb t p.0 e)
-
-no_coefficient : (t least : ℕ) (ps : List (ℕ × ℤ)) → t < least → AreParts least ps → coefficient same_atom t ps ≡ pos 0
-no_coefficient t least ps below parts = apart_zero same_atom t ps (parts_apart t least ps below parts)
+use Rattle.sm_num.proofs.KeptForms.{coefficient_below, coefficient_first}
 
 merged_part_comes_out : (least : ℕ) (p q : ℤ) (f : ℕ × ℤ) (fs gs : List (ℕ × ℤ)) → AreParts f.0 (f ∷ fs) → AreParts least gs →
     ((rs : List (ℕ × ℤ)) → AreParts (suc f.0) rs → ComesOut same_atom (summed same_atom p q fs rs) (merged p q fs rs)) →
@@ -30,8 +20,8 @@ merged_part_comes_out : (least : ℕ) (p q : ℤ) (f : ℕ × ℤ) (fs gs : List
 merged_part_comes_out least p q f fs [] first second recurse =
     led_comes_out same_atom same_atom_sound (summed same_atom p q (f ∷ fs) []) (summed same_atom p q fs []) f.0 (computed Mul p f.1)
     (merged p q fs [])
-    (product_alone p f.1 q ∙ ap (λ (y : ℤ). combined_number p y q (pos 0)) (sym (first_coefficient f.0 f.0 f fs first refl)))
-    (ap (λ (y : ℤ). combined_number p y q (pos 0)) (no_coefficient f.0 (suc f.0) fs (omega arith) first.3) ∙ nothing_combined p q)
+    (product_alone p f.1 q ∙ ap (λ (y : ℤ). combined_number p y q (pos 0)) (sym (coefficient_first f.0 f.0 f fs first refl)))
+    (ap (λ (y : ℤ). combined_number p y q (pos 0)) (coefficient_below f.0 (suc f.0) fs (omega arith) first.3) ∙ nothing_combined p q)
     (λ (t : ℕ) (e : same_atom t f.0 ≡ false). ap (λ (y : ℤ). combined_number p y q (pos 0)) (sym (coefficient_past same_atom t f fs e)))
     (recurse [] tt)
 merged_part_comes_out least p q f fs (g ∷ gs) first second recurse =
@@ -44,13 +34,13 @@ merged_part_comes_out least p q f fs (g ∷ gs) first second recurse =
         else if c then led_by f.0 (combined_number p f.1 q g.1) (merged p q fs gs)
         else led_by f.0 (computed Mul p f.1) (merged p q fs (g ∷ gs)))
     by true c below at rest =
-        let none = no_coefficient g.0 f.0 (f ∷ fs) (ltb-true g.0 f.0 below) first in
+        let none = coefficient_below g.0 f.0 (f ∷ fs) (ltb-true g.0 f.0 below) first in
         led_comes_out same_atom same_atom_sound (summed same_atom p q (f ∷ fs) (g ∷ gs)) (summed same_atom p q (f ∷ fs) gs) g.0
         (computed Mul q g.1) (merged_part p q f (merged p q fs) gs)
         (other_product_alone p q g.1 ∙ ap (λ (y : ℤ). combined_number p y q g.1) (sym none)
-        ∙ ap (combined_number p (coefficient same_atom g.0 (f ∷ fs)) q) (sym (first_coefficient g.0 least g gs second refl)))
+        ∙ ap (combined_number p (coefficient same_atom g.0 (f ∷ fs)) q) (sym (coefficient_first g.0 least g gs second refl)))
         (ap (λ (y : ℤ). combined_number p y q (coefficient same_atom g.0 gs)) none ∙ ap (combined_number p (pos 0) q)
-        (no_coefficient g.0 (suc g.0) gs (omega arith) second.3) ∙ nothing_combined p q)
+        (coefficient_below g.0 (suc g.0) gs (omega arith) second.3) ∙ nothing_combined p q)
         (λ (t : ℕ) (e : same_atom t g.0 ≡ false). ap (combined_number p (coefficient same_atom t (f ∷ fs)) q)
         (sym (coefficient_past same_atom t g gs e)))
         rest
@@ -59,10 +49,10 @@ merged_part_comes_out least p q f fs (g ∷ gs) first second recurse =
         let later = subst (λ (x : ℕ). AreParts (suc x) gs) equal second.3 in
         led_comes_out same_atom same_atom_sound (summed same_atom p q (f ∷ fs) (g ∷ gs)) (summed same_atom p q fs gs) f.0
         (combined_number p f.1 q g.1) (merged p q fs gs)
-        (ap (λ (y : ℤ). combined_number p y q g.1) (sym (first_coefficient f.0 f.0 f fs first refl))
-        ∙ ap (combined_number p (coefficient same_atom f.0 (f ∷ fs)) q) (sym (first_coefficient f.0 least g gs second (sym equal))))
-        (ap (λ (y : ℤ). combined_number p y q (coefficient same_atom f.0 gs)) (no_coefficient f.0 (suc f.0) fs (omega arith) first.3)
-        ∙ ap (combined_number p (pos 0) q) (no_coefficient f.0 (suc f.0) gs (omega arith) later) ∙ nothing_combined p q)
+        (ap (λ (y : ℤ). combined_number p y q g.1) (sym (coefficient_first f.0 f.0 f fs first refl))
+        ∙ ap (combined_number p (coefficient same_atom f.0 (f ∷ fs)) q) (sym (coefficient_first f.0 least g gs second (sym equal))))
+        (ap (λ (y : ℤ). combined_number p y q (coefficient same_atom f.0 gs)) (coefficient_below f.0 (suc f.0) fs (omega arith) first.3)
+        ∙ ap (combined_number p (pos 0) q) (coefficient_below f.0 (suc f.0) gs (omega arith) later) ∙ nothing_combined p q)
         (λ (t : ℕ) (e : same_atom t f.0 ≡ false).
         ap (λ (y : ℤ). combined_number p y q (coefficient same_atom t gs)) (sym (coefficient_past same_atom t f fs e))
         ∙ ap (combined_number p (coefficient same_atom t (f ∷ fs)) q)
@@ -73,12 +63,12 @@ merged_part_comes_out least p q f fs (g ∷ gs) first second recurse =
         let other = eqb-false g.0 f.0 at in
         let next : suc f.0 ≤ g.0 = omega arith in
         let later : AreParts (suc f.0) (g ∷ gs) = (next, second.1, second.2, second.3) in
-        let none = no_coefficient f.0 (suc f.0) (g ∷ gs) (omega arith) later in
+        let none = coefficient_below f.0 (suc f.0) (g ∷ gs) (omega arith) later in
         led_comes_out same_atom same_atom_sound (summed same_atom p q (f ∷ fs) (g ∷ gs)) (summed same_atom p q fs (g ∷ gs)) f.0
         (computed Mul p f.1) (merged p q fs (g ∷ gs))
-        (product_alone p f.1 q ∙ ap (λ (y : ℤ). combined_number p y q (pos 0)) (sym (first_coefficient f.0 f.0 f fs first refl))
+        (product_alone p f.1 q ∙ ap (λ (y : ℤ). combined_number p y q (pos 0)) (sym (coefficient_first f.0 f.0 f fs first refl))
         ∙ ap (combined_number p (coefficient same_atom f.0 (f ∷ fs)) q) (sym none))
-        (ap (λ (y : ℤ). combined_number p y q (coefficient same_atom f.0 (g ∷ gs))) (no_coefficient f.0 (suc f.0) fs (omega arith) first.3)
+        (ap (λ (y : ℤ). combined_number p y q (coefficient same_atom f.0 (g ∷ gs))) (coefficient_below f.0 (suc f.0) fs (omega arith) first.3)
         ∙ ap (combined_number p (pos 0) q) none ∙ nothing_combined p q)
         (λ (t : ℕ) (e : same_atom t f.0 ≡ false). ap (λ (y : ℤ). combined_number p y q (coefficient same_atom t (g ∷ gs)))
         (sym (coefficient_past same_atom t f fs e)))

@@ -2,8 +2,7 @@
 -- forms are alike with.
 use Rattle.std.proofs.Common.{◌≡◌, ◌⊎◌, ℕ, ℤ, pos, ◌&&◌, Bool, true, false, List, [], ◌∷◌, refl, sym, ap, subst, ◌∙◌, inl, inr, ⊎_elim}
 use Rattle.std.proofs.lemmas.Bool.{cases_Bool}
-use Rattle.sm_num.specs.declared.kind.Kind.{Kind}
-use Rattle.sm_num.specs.Forms.{Linear, coefficient, renamed_form, IsKept}
+use Rattle.sm_num.specs.Forms.{Linear, coefficient, renamed_form, IsKept, Kind}
 use Rattle.sm_num.specs.Combining.{Outcome, Fits, Leaves, combined, combination}
 use Rattle.sm_num.specs.Eliminating.{eliminated, elimination}
 use Rattle.sm_num.specs.Tightening.{has_no_part, fails, tightened, is_contradictory}

@@ -2,11 +2,8 @@
 -- are one.
 use Rattle.std.proofs.Common.{◌≡◌, ℕ, ◌%◌, ◌==◌, ℤ, pos, nat_abs, Bool, true, false, not, if◌then◌else◌, List, [], ◌∷◌, map, filter, refl, ap, ◌∙◌}
 use Rattle.std.specs.Ordering.{int_eq}
-use Rattle.sm_num.specs.declared.op.Op.TheVariants.{Mul}
-use Rattle.sm_num.specs.declared.kind.Kind.{Kind}
-use Rattle.sm_num.specs.declared.kind.Kind.TheVariants.{Le, Eq}
-use Rattle.sm_num.specs.Forms.{Linear, coefficient, without, renamed_form}
-use Rattle.sm_num.specs.Combining.{Outcome, Fits, Leaves, then_with, computed, combined_number, with_part, led_by, scaled, formed, met_part, joined_parts, combination}
+use Rattle.sm_num.specs.Forms.{Linear, coefficient, without, renamed_form, Kind, Le, Eq}
+use Rattle.sm_num.specs.Combining.{Outcome, Fits, Leaves, then_with, computed, combined_number, with_part, led_by, scaled, formed, met_part, joined_parts, combination, Mul}
 use Rattle.sm_num.specs.Eliminating.{gcd, multipliers, kind_of_sum, floor_of, divisor_of_parts, divided_parts, divided, then_divided, elimination}
 use Rattle.sm_num.specs.FormLaws.{IsRenaming, renamed_outcome}
 use Rattle.sm_num.proofs.SameAtomLemmas.{each_filter}

@@ -1,16 +1,14 @@
 -- What is computed of forms has each atom once, no coefficient that is 0, numbers in the range, and
 -- atoms of the forms that it is computed of.
-use Rattle.std.proofs.Common.{◌≡◌, ℕ, ◌<◌, ◌%◌, ◌==◌, ℤ, pos, negsuc, nat_abs, ◌*ℤ◌, Bool, true, false, not, if◌then◌else◌, IsTrue, ◌^◌, ◌/◌, suc, zero, neg_ℤ, List, [], ◌∷◌, filter, refl, sym, ap, subst, ◌∙◌, ⊎_elim, arith, eq-zero-or-pos, div-le_self}
+use Rattle.std.proofs.Common.{◌≡◌, ℕ, ◌<◌, ◌%◌, ◌==◌, ℤ, pos, negsuc, nat_abs, ◌*ℤ◌, Bool, true, false, not, if◌then◌else◌, IsTrue, ◌^◌, ◌/◌, suc, zero, neg_ℤ, List, [], ◌∷◌, filter, refl, sym, ap, subst, ◌∙◌, ⊎_elim, arith, eq-zero-or-pos}
+use Rattle.std.proofs.Common.{div-le_self}
 use Rattle.std.proofs.lemmas.Bool.{ltb-true, lt-ltb}
 use Rattle.std.specs.Ordering.{int_eq}
 use Prim.Native.Nat.{◌∣◌}
 use Rattle.std.proofs.lemmas.Nat.Gcd.{dvd_refl}
-use Rattle.sm_num.specs.declared.op.Op.TheVariants.{Mul}
-use Rattle.sm_num.specs.declared.kind.Kind.{Kind}
-use Rattle.sm_num.specs.declared.kind.Kind.TheVariants.{Le, Eq}
 use Rattle.sm_num.specs.Range.{fits_form}
-use Rattle.sm_num.specs.Forms.{Linear, coefficient, parts_without, without}
-use Rattle.sm_num.specs.Combining.{Fits, computed, combined_number, scaled, met_part, joined_parts, combination}
+use Rattle.sm_num.specs.Forms.{Linear, coefficient, parts_without, without, Kind, Le, Eq}
+use Rattle.sm_num.specs.Combining.{Fits, computed, combined_number, scaled, met_part, joined_parts, combination, Mul}
 use Rattle.sm_num.specs.Eliminating.{gcd, multipliers, kind_of_sum, floor_of, ceiling_of, divisor_of_parts, divided_parts, divided, elimination}
 use Rattle.sm_num.specs.Tightening.{has_no_part, one_is_zero, tightened_by, tightened}
 use Rattle.sm_num.proofs.RingLemmas.{mul_zero}

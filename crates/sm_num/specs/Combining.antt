@@ -4,10 +4,9 @@ use Rattle.std.specs.Prelude.{◌==◌, nat_lt, ℕ, ℤ, pos, Bool, if◌then�
 use Rattle.std.specs.Ordering.{int_eq}
 use Rattle.std.specs.List.{filter}
 use Rattle.sm_num.specs.Range.{exact, fits_form}
-use Rattle.sm_num.specs.declared.op.Op.{Op}
-use Rattle.sm_num.specs.declared.op.Op.TheVariants.{Add, Mul}
-use Rattle.sm_num.specs.declared.kind.Kind.{Kind}
-use Rattle.sm_num.specs.Forms.{Linear, coefficient}
+pub use Rattle.sm_num.specs.declared.op.Op.{Op}
+pub use Rattle.sm_num.specs.declared.op.Op.TheVariants.{Add, Mul, Sub}
+use Rattle.sm_num.specs.Forms.{Linear, coefficient, Kind}
 
 -- a result, or the operation, with its operands, whose result leaves the range
 pub data Outcome (T : Type 0) : Type 0 where

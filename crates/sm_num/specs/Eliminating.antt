@@ -1,12 +1,8 @@
 -- Cited by public clauses: the sum of two forms in which an atom cancels, forms divided by what
 -- divides them, and contradictions.
-use Rattle.std.specs.Prelude.{ℕ, zero, suc, ◌/◌, ◌%◌, ◌==◌, ℤ, pos, negsuc, neg_ℤ, nat_abs}
-use Rattle.std.specs.Prelude.{Bool, true, false, ◌&&◌, ◌||◌, not, if◌then◌else◌}
-use Rattle.std.specs.Prelude.{List, [], ◌∷◌, map}
+use Rattle.std.specs.Prelude.{ℕ, zero, suc, ◌/◌, ◌%◌, ◌==◌, ℤ, pos, negsuc, neg_ℤ, nat_abs, Bool, true, false, ◌&&◌, ◌||◌, not, if◌then◌else◌, List, [], ◌∷◌, map}
 use Rattle.std.specs.Ordering.{int_eq}
-use Rattle.sm_num.specs.declared.kind.Kind.{Kind}
-use Rattle.sm_num.specs.declared.kind.Kind.TheVariants.{Le, Eq}
-use Rattle.sm_num.specs.Forms.{Linear, coefficient, without}
+use Rattle.sm_num.specs.Forms.{Linear, coefficient, without, Kind, Le, Eq}
 use Rattle.sm_num.specs.Combining.{Outcome, Fits, then_with, combined, combination}
 
 -- Euclid's algorithm, in at most n steps

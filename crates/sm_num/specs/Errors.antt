@@ -1,7 +1,7 @@
 -- Cited by public clauses: calls that give what is computed, or say why they don't.
 use Rattle.std.specs.Prelude.{◌≡◌, Result, Ok, Err}
-use Rattle.sm_num.specs.declared.error.NumError.{NumError}
-use Rattle.sm_num.specs.declared.error.NumError.TheVariants.{Beyond, Memory}
+pub use Rattle.sm_num.specs.declared.error.NumError.{NumError}
+pub use Rattle.sm_num.specs.declared.error.NumError.TheVariants.{Beyond, Memory}
 use Rattle.sm_num.specs.Combining.{Outcome, Fits, Leaves}
 
 -- an error names the operation that leaves the range; want of memory may come at any time

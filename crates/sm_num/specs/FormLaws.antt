@@ -1,7 +1,6 @@
 -- Cited by public clauses: laws of linear forms, over all whole numbers.
 use Rattle.std.specs.Prelude.{◌≡◌, ◌↔◌, ℕ, ◌==◌, IsTrue, ℤ, pos, ◌+ℤ◌, ◌*ℤ◌, Bool}
-use Rattle.sm_num.specs.declared.kind.Kind.{Kind}
-use Rattle.sm_num.specs.Forms.{Linear, sum_of_parts, HoldsAt, coefficient, renamed_form, IsKept}
+use Rattle.sm_num.specs.Forms.{Linear, sum_of_parts, HoldsAt, coefficient, renamed_form, IsKept, Kind}
 use Rattle.sm_num.specs.Combining.{Outcome, Fits, Leaves, then_with, combined, combination}
 use Rattle.sm_num.specs.Eliminating.{can_cancel, eliminated, elimination}
 use Rattle.sm_num.specs.Tightening.{tightened, is_contradictory}

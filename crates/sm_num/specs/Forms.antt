@@ -1,11 +1,10 @@
 -- Cited by public clauses: linear forms over atoms of any type, and what they say. Where a test of
 -- atoms is asked for, it says which atoms are the same.
-use Rattle.std.specs.Prelude.{◌≡◌, ◌≢◌, ◌≤◌, ℕ, suc, IsTrue, ℤ, pos, ◌+ℤ◌, ◌*ℤ◌, ◌≤ℤ◌}
-use Rattle.std.specs.Prelude.{Bool, if◌then◌else◌, not, List, [], ◌∷◌, map}
+use Rattle.std.specs.Prelude.{◌≡◌, ◌≢◌, ◌≤◌, ℕ, suc, IsTrue, ℤ, pos, ◌+ℤ◌, ◌*ℤ◌, ◌≤ℤ◌, Bool, if◌then◌else◌, not, List, [], ◌∷◌, map}
 use Rattle.std.specs.List.{filter}
 use Rattle.sm_num.specs.Range.{fits_form}
-use Rattle.sm_num.specs.declared.kind.Kind.{Kind}
-use Rattle.sm_num.specs.declared.kind.Kind.TheVariants.{Le, Eq}
+pub use Rattle.sm_num.specs.declared.kind.Kind.{Kind}
+pub use Rattle.sm_num.specs.declared.kind.Kind.TheVariants.{Eq, Le}
 
 -- parts, each an atom with its coefficient, and a constant, whose sum is at most 0 or is 0
 pub record Linear (A : Type 0) : Type 0 where

@@ -1,10 +1,7 @@
 -- Cited by public clauses: forms over whole numbers made tight, and contradictions.
-use Rattle.std.specs.Prelude.{ℕ, ◌%◌, ◌==◌, nat_lt, ℤ, pos, negsuc, nat_abs}
-use Rattle.std.specs.Prelude.{Bool, true, false, ◌&&◌, not, if◌then◌else◌, List, [], ◌∷◌}
+use Rattle.std.specs.Prelude.{ℕ, ◌%◌, ◌==◌, nat_lt, ℤ, pos, negsuc, nat_abs, Bool, true, false, ◌&&◌, not, if◌then◌else◌, List, [], ◌∷◌}
 use Rattle.std.specs.Ordering.{int_eq}
-use Rattle.sm_num.specs.declared.kind.Kind.{Kind}
-use Rattle.sm_num.specs.declared.kind.Kind.TheVariants.{Le, Eq}
-use Rattle.sm_num.specs.Forms.{Linear}
+use Rattle.sm_num.specs.Forms.{Linear, Kind, Le, Eq}
 use Rattle.sm_num.specs.Eliminating.{floor_of, ceiling_of, divisor_of_parts, divided_parts}
 
 -- whether there is no part

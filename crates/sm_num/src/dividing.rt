@@ -1,8 +1,7 @@
 // Greatest common divisors, and numbers that are divided by them.
 ghost use Rattle.std.specs.Prelude.{◌≡◌, ◌<◌, ◌^◌, nat_abs, IsTrue, IfOk};
 ghost use Rattle.sm_num.specs.Range.{fits_form};
-ghost use Rattle.sm_num.specs.Eliminating.{gcd, floor_of, ceiling_of, divisor_of_parts};
-ghost use Rattle.sm_num.specs.Eliminating.{divided_parts};
+ghost use Rattle.sm_num.specs.Eliminating.{gcd, floor_of, ceiling_of, divisor_of_parts, divided_parts};
 
 use std::alloc::{AllocError, Global};
 

@@ -2,8 +2,7 @@
 ghost use Rattle.std.specs.Prelude.{◌≡◌, ◌≢◌, pos, IsTrue, IfOk};
 ghost use Rattle.sm_num.specs.Range.{fits_form};
 ghost use Rattle.sm_num.specs.FormLaws.{same_atom};
-ghost use Rattle.sm_num.specs.Eliminating.{can_cancel, multipliers, kind_of_sum, divided};
-ghost use Rattle.sm_num.specs.Eliminating.{eliminated};
+ghost use Rattle.sm_num.specs.Eliminating.{can_cancel, multipliers, kind_of_sum, divided, eliminated};
 ghost use Rattle.sm_num.specs.Errors.{Returns};
 
 use crate::combining::combine;

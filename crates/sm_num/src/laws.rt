@@ -1,8 +1,5 @@
 // Laws of linear forms, as contracts.
-ghost use Rattle.sm_num.specs.FormLaws.{OrderDoesNotMatter, OrderDoesNotMatterToElim};
-ghost use Rattle.sm_num.specs.FormLaws.{NumberingDoesNotMatter, NumberingDoesNotMatterToElim};
-ghost use Rattle.sm_num.specs.FormLaws.{CombinedHasValue, ElimHolds, TightenHolds};
-ghost use Rattle.sm_num.specs.FormLaws.{ContradictionFails, CombinedIsKept, ElimIsKept};
+ghost use Rattle.sm_num.specs.FormLaws.{OrderDoesNotMatter, OrderDoesNotMatterToElim, NumberingDoesNotMatter, NumberingDoesNotMatterToElim, CombinedHasValue, ElimHolds, TightenHolds, ContradictionFails, CombinedIsKept, ElimIsKept};
 ghost use Rattle.sm_num.specs.FormLaws.{TightenIsKept, ElimTakesAtom, ElimAddsNoAtom};
 
 use crate::form::LinForm;

@@ -1,8 +1,7 @@
 // The sum of ascending parts, each list times a number, by ascending atom.
 ghost use Rattle.std.specs.Prelude.{◌≡◌, ◌++◌, [], IfOk, IfErr, OnOk};
 ghost use Rattle.sm_num.specs.declared.op.Op.TheVariants.{Mul};
-ghost use Rattle.sm_num.specs.Combining.{Fits, computed, combined_number, with_part, scaled};
-ghost use Rattle.sm_num.specs.Combining.{merged};
+ghost use Rattle.sm_num.specs.Combining.{Fits, computed, combined_number, with_part, scaled, merged};
 ghost use Rattle.sm_num.specs.Errors.{Explains};
 ghost use Rattle.sm_num.specs.Merging.{Puts, behind};
 

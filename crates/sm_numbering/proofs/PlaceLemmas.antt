@@ -189,8 +189,3 @@ pub distinct : {T : Type 0} (eq : T → T → Bool) (ts : List T) → AreApart e
 unfolding IsDistinct
 distinct eq [] h = tt
 distinct eq (t ∷ ts) h = (unequal (eq t) ts h.0, distinct eq ts h.1)
-
--- what goes last stands there
-pub at_end : {T : Type 0} (ts : List T) (t : T) → slice_get (ts ++ t ∷ []) (length ts) ≡ Some t
-at_end [] t = refl
-at_end (u ∷ ts) t = at_end ts t

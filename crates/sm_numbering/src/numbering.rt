@@ -1,6 +1,5 @@
 // Values without repeats, each found by its hash.
-ghost use Rattle.std.specs.Prelude.{◌≡◌, ◌-◌, ◌++◌, ◌∷◌, [], length, take, true, false, is_some, position, Some};
-ghost use Rattle.std.specs.Prelude.{slice_get, ◌<◌, IfOk, IfSome, OnOk, OnErr};
+ghost use Rattle.std.specs.Prelude.{◌≡◌, ◌-◌, ◌++◌, ◌∷◌, [], length, take, true, false, is_some, position, Some, slice_get, ◌<◌, IfOk, IfSome, OnOk, OnErr};
 ghost use Rattle.std.specs.List.{list_any, IsDistinct};
 ghost use Rattle.sm_numbering.specs.Numbers.{with_value};
 

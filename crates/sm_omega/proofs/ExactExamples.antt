@@ -1,8 +1,8 @@
 -- Decisions computed by hand and by the definition.
 use Rattle.std.proofs.Common.{◌≡◌, ℕ, ℤ, pos, negsuc, Option, Some, None, List, [], ◌∷◌, refl}
+use Rattle.sm_num.specs.Forms.{Linear}
 use Rattle.sm_num.specs.declared.kind.Kind.{Kind}
 use Rattle.sm_num.specs.declared.kind.Kind.TheVariants.{Le, Eq}
-use Rattle.sm_num.specs.Forms.{Linear}
 use Rattle.sm_num.specs.Eliminating.{gcd}
 use Rattle.sm_omega.specs.Counting.{Decision, Done, Passed, Outside, Shallow}
 use Rattle.sm_omega.specs.Solving.{Values}

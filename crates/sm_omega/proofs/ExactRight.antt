@@ -4,13 +4,9 @@ use Rattle.std.proofs.lemmas.Bool.{eqb-true}
 use Rattle.sm_num.specs.Forms.{Linear}
 use Rattle.sm_omega.specs.Counting.{Done, Passed, Outside, Shallow, Item, Enter, Count, Entered, entered, go_on}
 use Rattle.sm_omega.specs.Solving.{Values, at, has, lower_bounds, upper_bounds, others, least_variable}
-use Rattle.sm_omega.specs.Rules.{Answer, Solver, solved, or_refuted}
-use Rattle.sm_omega.specs.Equalities.{first_equation, least_part, eliminated_item, modular}
-use Rattle.sm_omega.specs.Equalities.{modular_item, by_equation}
-use Rattle.sm_omega.specs.Rules.{giving}
-use Rattle.sm_omega.specs.Equalities.{value_by}
-use Rattle.sm_omega.specs.Inequalities.{standing, splinter, greatest_bound, least_bound}
-use Rattle.sm_omega.specs.Inequalities.{by_bounds, by_variable, shadows}
+use Rattle.sm_omega.specs.Rules.{Answer, Solver, solved, or_refuted, giving}
+use Rattle.sm_omega.specs.Equalities.{first_equation, least_part, eliminated_item, modular, modular_item, by_equation, value_by}
+use Rattle.sm_omega.specs.Inequalities.{standing, splinter, greatest_bound, least_bound, by_bounds, by_variable, shadows}
 use Rattle.sm_omega.specs.Exact.{by_rule, by_first, by_least, solved_within, enough, above_all, exact}
 use Rattle.sm_omega.specs.ExactLaws.{AllHold, IsRightFor, ExactIsRight}
 use Rattle.sm_omega.proofs.Predicates.{Fitting, EachOf, IsListed, AreListed, IsGoodItem, AreGoodItems, ItemsHold, Decides, Serves}

@@ -2,9 +2,9 @@
 use Rattle.std.proofs.Common.{◌≡◌, ◌≢◌, ◌<◌, ◌≤◌, nat_lt, ℕ, suc, ℤ, pos, nat_abs, Bool, true, false, not, ◌&&◌, ◌||◌, if◌then◌else◌, Option, Some, None, List, [], ◌∷◌, length, refl, sym, ap, subst, ◌∙◌, arith}
 use Rattle.std.specs.List.{list_any}
 use Rattle.std.proofs.lemmas.Bool.{and_parts, ne_eqb}
+use Rattle.sm_num.specs.Forms.{Linear, coefficient, AreParts}
 use Rattle.sm_num.specs.declared.kind.Kind.{Kind}
 use Rattle.sm_num.specs.declared.kind.Kind.TheVariants.{Le, Eq}
-use Rattle.sm_num.specs.Forms.{Linear, coefficient, AreParts}
 use Rattle.sm_num.specs.Eliminating.{is_equation}
 use Rattle.sm_num.specs.Tightening.{has_no_part}
 use Rattle.sm_num.specs.FormLaws.{same_atom}
@@ -15,6 +15,8 @@ use Rattle.sm_num.proofs.KeptLemmas.{parts_apart}
 use Rattle.sm_omega.specs.Solving.{at, has, others, lesser, lesser_first, least_variable}
 use Rattle.sm_omega.specs.Equalities.{beside, first_equation, least_part_of, least_part}
 use Rattle.sm_omega.proofs.Predicates.{EachOf, IsListed, AreListed}
+use Rattle.sm_lemmas.proofs.Tests.{not_true, or_true}
+use Rattle.sm_num.proofs.OneForm.{equation_is}
 
 -- equations
 
@@ -33,11 +35,6 @@ abbrev pub IfFound : (Linear ℕ → Type 0) → List (Linear ℕ) → Option (L
 IfFound P all None = EachOf (λ (f : Linear ℕ). has_no_part f.parts ≡ false → f.kind ≡ Le) all
 IfFound P all (Some found) = IsFound P all found.0 found.1
 
--- true is one of two
-either_true : (b : Bool) → (b || true) ≡ true
-either_true true = refl
-either_true false = refl
-
 -- a form in front that is no equation with parts
 beside_found : (P : Linear ℕ → Type 0) (f : Linear ℕ) (fs : List (Linear ℕ)) (found : Option (Linear ℕ × List (Linear ℕ))) → P f →
     (has_no_part f.parts ≡ false → f.kind ≡ Le) → IfFound P fs found → IfFound P (f ∷ fs) (beside f found)
@@ -48,24 +45,14 @@ beside_found P f fs (Some found) first le more = record {
   first = more.first;
   rest = (first, more.rest);
   long = ap suc more.long;
-  any_of = λ test e. ap (λ (b : Bool). test f || b) (more.any_of test e) ∙ either_true (test f);
+  any_of = λ test e. ap (λ (b : Bool). test f || b) (more.any_of test e) ∙ or_true (test f);
 }
-
--- a kind by its test
-eq_by_test : (kind : Kind) → is_equation kind ≡ true → kind ≡ Eq
-eq_by_test Le e = absurd cc
-eq_by_test Eq e = refl
 
 -- a form with parts that is not taken is no equation
 le_by_test : (kind : Kind) (b : Bool) → is_equation kind && not b ≡ false → b ≡ false → kind ≡ Le
 le_by_test Le b e f = refl
 le_by_test Eq true e f = absurd cc
 le_by_test Eq false e f = absurd cc
-
--- the contrary of true
-not_true : (b : Bool) → not b ≡ true → b ≡ false
-not_true true e = absurd cc
-not_true false e = refl
 
 -- the first equation, or that there is none
 pub first_found : (P : Linear ℕ → Type 0) (fs : List (Linear ℕ)) → EachOf P fs → IfFound P fs (first_equation fs)
@@ -77,7 +64,7 @@ first_found P (f ∷ fs) each = by (is_equation f.kind && not (has_no_part f.par
     by true e more =
         let both = and_parts (is_equation f.kind) (not (has_no_part f.parts)) e in
         record {
-          kind = eq_by_test f.kind both.0;
+          kind = equation_is f.kind both.0;
           some = not_true (has_no_part f.parts) both.1;
           first = each.0;
           rest = each.1;
@@ -191,7 +178,7 @@ lesser_is s f fs a None less here more = (less, ap (λ (b : Bool). b || list_any
 lesser_is s f fs a (Some m) less here more = by (nat_lt m a)
   where
     by : (b : Bool) → IsLeast s (f ∷ fs) (Some (if b then m else a))
-    by true = (more.0, ap (λ (b : Bool). has m f || b) more.1 ∙ either_true (has m f))
+    by true = (more.0, ap (λ (b : Bool). has m f || b) more.1 ∙ or_true (has m f))
     by false = (less, ap (λ (b : Bool). b || list_any (has a) fs) here)
 
 -- the least variable of listed forms

@@ -4,8 +4,7 @@ use Rattle.std.proofs.lemmas.Bool.{ltb-true, lt-ltb}
 use Rattle.sm_num.specs.Forms.{Linear}
 use Rattle.sm_num.specs.Combining.{Outcome, Fits, Leaves}
 use Rattle.sm_num.specs.Tightening.{has_no_part, tightened, is_contradictory}
-use Rattle.sm_omega.specs.Counting.{Decision, Done, Passed, Outside, Shallow, go_on, with_result, counted}
-use Rattle.sm_omega.specs.Counting.{Item, Stay, Enter, Count, Entered, led, entering, entered}
+use Rattle.sm_omega.specs.Counting.{Decision, Done, Passed, Outside, Shallow, go_on, with_result, counted, Item, Stay, Enter, Count, Entered, led, entering, entered}
 use Rattle.sm_omega.specs.Solving.{Values, put}
 use Rattle.sm_omega.specs.Rules.{Answer, giving, with_value, or_else, or_next}
 

@@ -102,11 +102,6 @@ upper_met (pos n) r z some most =
     omega (arith, sums)
 upper_met (negsuc n) r z some most = absurd (omega (arith, sums))
 
--- signs by their tests
-pub negative_below : (z : ℤ) → is_negative z ≡ true → z <ℤ pos 0
-negative_below (pos n) e = absurd cc
-negative_below (negsuc n) e = omega (arith, sums)
-
 pub other_above : (z : ℤ) → (not (int_eq z (pos 0)) && not (is_negative z)) ≡ true → pos 0 <ℤ z
 other_above (pos zero) e = absurd cc
 other_above (pos (suc n)) e = omega (arith, sums)

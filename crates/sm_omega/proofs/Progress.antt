@@ -2,21 +2,17 @@
 use Rattle.std.proofs.Common.{◌≡◌, ◌<◌, ◌≤◌, ◌==◌, nat_lt, ℕ, zero, suc, ◌+◌, ◌-◌, ℤ, pos, nat_abs, Bool, true, false, not, ◌&&◌, ◌||◌, if◌then◌else◌, Some, None, List, [], ◌∷◌, ◌++◌, map, length, refl, ap, subst, ◌∙◌, arith}
 use Rattle.std.specs.List.{list_any}
 use Rattle.std.specs.Ordering.{int_eq}
-use Rattle.std.proofs.lemmas.Bool.{ltb-true}
+use Rattle.std.proofs.lemmas.Bool.{ltb-true, or_parts}
 use Rattle.std.proofs.lemmas.Bool.Decides.{Decides-int_eq}
 use Rattle.sm_num.specs.Forms.{Linear}
 use Rattle.sm_num.specs.Combining.{Outcome, Fits, Leaves, combined}
 use Rattle.sm_num.specs.Eliminating.{eliminated}
 use Rattle.sm_num.specs.Tightening.{has_no_part, tightened, is_contradictory}
-use Rattle.sm_omega.specs.Counting.{Done, Passed, Outside, Shallow, go_on, with_result}
-use Rattle.sm_omega.specs.Counting.{Item, Stay, Enter, Count, Entered, led, entering, entered}
+use Rattle.sm_omega.specs.Counting.{Done, Passed, Outside, Shallow, go_on, with_result, Item, Stay, Enter, Count, Entered, led, entering, entered}
 use Rattle.sm_omega.specs.Solving.{at, has, others, lower_bounds, upper_bounds, bounds_below, least_variable}
 use Rattle.sm_omega.specs.Rules.{Answer, Solver, solved, or_refuted, giving}
-use Rattle.sm_omega.specs.Equalities.{first_equation, least_part, eliminated_item, modular}
-use Rattle.sm_omega.specs.Equalities.{modular_item}
-use Rattle.sm_omega.specs.Equalities.{value_by, by_equation}
-use Rattle.sm_omega.specs.Inequalities.{shadow, shadows, standing, greatest_bound, by_bounds}
-use Rattle.sm_omega.specs.Inequalities.{by_variable}
+use Rattle.sm_omega.specs.Equalities.{first_equation, least_part, eliminated_item, modular, modular_item, value_by, by_equation}
+use Rattle.sm_omega.specs.Inequalities.{shadow, shadows, standing, greatest_bound, by_bounds, by_variable}
 use Rattle.sm_omega.specs.Exact.{by_least, by_first, solved_within}
 
 -- what is left of a list: two for each count that is left, and one for each form
@@ -202,37 +198,32 @@ splinter_fewer fs o =
 -- lists without the variable
 
 -- a form that hasn't it
-without_it : (t : ℕ) (f : Linear ℕ) → has t f ≡ false → at t f ≡ pos 0
+pub without_it : (t : ℕ) (f : Linear ℕ) → has t f ≡ false → at t f ≡ pos 0
 without_it t f e = (Decides-int_eq (at t f) (pos 0)).0 (turned (int_eq (at t f) (pos 0)) e)
   where
     turned : (b : Bool) → not b ≡ false → b ≡ true
     turned true e = refl
     turned false e = absurd cc
 
--- the first and the others
-neither : (b c : Bool) → (b || c) ≡ false → (b ≡ false) × (c ≡ false)
-neither true c e = absurd cc
-neither false c e = (refl, e)
-
 -- all forms are without it
 others_all : (t : ℕ) (fs : List (Linear ℕ)) → list_any (has t) fs ≡ false → others t fs ≡ fs
 others_all t [] none = refl
 others_all t (f ∷ fs) none =
-    let both = neither (has t f) (list_any (has t) fs) none in
+    let both = or_parts (has t f) (list_any (has t) fs) none in
     ap (λ (b : Bool). if not b then f ∷ others t fs else others t fs) both.0 ∙ ap (λ gs. f ∷ gs) (others_all t fs both.1)
 
 -- so none bounds it from above
 upper_none : (t : ℕ) (fs : List (Linear ℕ)) → list_any (has t) fs ≡ false → upper_bounds t fs ≡ []
 upper_none t [] none = refl
 upper_none t (f ∷ fs) none =
-    let both = neither (has t f) (list_any (has t) fs) none in
+    let both = or_parts (has t f) (list_any (has t) fs) none in
     ap (λ (b : Bool). if b && not (bounds_below t f) then f ∷ upper_bounds t fs else upper_bounds t fs) both.0 ∙ upper_none t fs both.1
 
 -- a modular step at a variable that no form has changes none
 modular_stays : (d : Linear ℕ) (t : ℕ) (fs : List (Linear ℕ)) → list_any (has t) fs ≡ false → map (modular_item d t) fs ≡ standing fs
 modular_stays d t [] none = refl
 modular_stays d t (f ∷ fs) none =
-    let both = neither (has t f) (list_any (has t) fs) none in
+    let both = or_parts (has t f) (list_any (has t) fs) none in
     ap (λ (b : Bool). (if b then Count (combined f (pos 1) d (at t f) f.kind) else Stay f) ∷ map (modular_item d t) fs) both.0
     ∙ ap (λ items. Stay f ∷ items) (modular_stays d t fs both.1)
 

@@ -5,8 +5,7 @@ use Rattle.sm_num.specs.Combining.{Outcome, Fits, Leaves}
 use Rattle.sm_omega.specs.Counting.{Done, Passed, Outside, Shallow, Item, with_result}
 use Rattle.sm_omega.specs.Solving.{Values, lower_bounds, upper_bounds, others, put}
 use Rattle.sm_omega.specs.Rules.{Answer, solved, giving, or_else}
-use Rattle.sm_omega.specs.Inequalities.{shadows, standing, greatest_at, greatest_bound}
-use Rattle.sm_omega.specs.Inequalities.{by_all_splinters, by_bounds}
+use Rattle.sm_omega.specs.Inequalities.{shadows, standing, greatest_at, greatest_bound, by_all_splinters, by_bounds}
 use Rattle.sm_omega.specs.ExactLaws.{AllHold}
 use Rattle.sm_omega.proofs.Predicates.{Fitting, EachOf, ItemsHold, Decides}
 use Rattle.sm_omega.proofs.Bounds.{NoEquations}

@@ -1,8 +1,8 @@
 -- The first equation of a list and the forms beside it, its part with the least coefficient, and facts
 -- of items that are made of forms.
 use Rattle.std.proofs.Common.{◌≡◌, ℕ, false, Some, List, [], ◌∷◌, map, refl}
-use Rattle.sm_num.specs.declared.kind.Kind.TheVariants.{Eq}
 use Rattle.sm_num.specs.Forms.{Linear}
+use Rattle.sm_num.specs.declared.kind.Kind.TheVariants.{Eq}
 use Rattle.sm_num.specs.Combining.{Outcome, Fits, Leaves}
 use Rattle.sm_num.specs.Tightening.{has_no_part}
 use Rattle.sm_num.proofs.OutcomeLemmas.{Gives}

@@ -2,8 +2,8 @@
 -- a new variable, have the solutions of the list.
 use Rattle.std.proofs.Common.{◌≡◌, ◌<◌, ℕ, ◌==◌, ℤ, pos, negsuc, neg_ℤ, nat_abs, ◌+ℤ◌, ◌*ℤ◌, Bool, true, false, if◌then◌else◌, List, [], ◌∷◌, map, Some, refl, sym, ap, subst, ◌∙◌, arith}
 use Rattle.std.proofs.lemmas.Bool.{eqb-true, eq-eqb, ne_eqb}
-use Rattle.sm_num.specs.declared.kind.Kind.{Kind}
 use Rattle.sm_num.specs.Forms.{Linear, Satisfies, HoldsAt, coefficient, without, IsKept}
+use Rattle.sm_num.specs.declared.kind.Kind.{Kind}
 use Rattle.sm_num.specs.Combining.{Fits, with_part, combined}
 use Rattle.sm_num.specs.FormLaws.{same_atom, value_of_form}
 use Rattle.sm_num.proofs.RingLemmas.{sums, mul-add_right, mul-neg_right, mul-neg_left, one_mul, mul_zero}
@@ -15,8 +15,7 @@ use Rattle.sm_num.proofs.ResultsReduced.{AreAmong}
 use Rattle.sm_num.proofs.KeptLemmas.{parts_reduced}
 use Rattle.sm_omega.specs.Counting.{Stay, Count}
 use Rattle.sm_omega.specs.Solving.{Values, at, has, put}
-use Rattle.sm_omega.specs.Equalities.{first_equation, quotient, modular_parts, modular}
-use Rattle.sm_omega.specs.Equalities.{modular_item, value_by}
+use Rattle.sm_omega.specs.Equalities.{first_equation, quotient, modular_parts, modular, modular_item, value_by}
 use Rattle.sm_omega.specs.ExactLaws.{AllHold}
 use Rattle.sm_omega.proofs.Predicates.{Fitting, EachOf, IsListed, AreListed, ItemHolds, ItemsHold}
 use Rattle.sm_omega.proofs.ValueLemmas.{value_split, value_put, holds_put, holds_below}

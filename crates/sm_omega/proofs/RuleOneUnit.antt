@@ -1,9 +1,9 @@
 -- An equation whose coefficient at a variable is 1 or -1: the forms that lose the variable by it have the
 -- solutions of the list.
 use Rattle.std.proofs.Common.{◌≡◌, ℕ, ℤ, pos, negsuc, neg_ℤ, nat_abs, ◌+ℤ◌, ◌*ℤ◌, ◌<ℤ◌, Bool, true, false, ◌&&◌, ◌||◌, not, if◌then◌else◌, IsTrue, List, map, Some, refl, sym, ap, subst, ◌∙◌, arith}
+use Rattle.sm_num.specs.Forms.{Linear, Satisfies, HoldsAt, sum_of_parts, without}
 use Rattle.sm_num.specs.declared.kind.Kind.{Kind}
 use Rattle.sm_num.specs.declared.kind.Kind.TheVariants.{Le, Eq}
-use Rattle.sm_num.specs.Forms.{Linear, Satisfies, HoldsAt, sum_of_parts, without}
 use Rattle.sm_num.specs.Combining.{Fits}
 use Rattle.sm_num.specs.Eliminating.{is_equation, signs_alike, can_cancel, multipliers, kind_of_sum, eliminated}
 use Rattle.sm_num.specs.FormLaws.{same_atom, value_of_form}

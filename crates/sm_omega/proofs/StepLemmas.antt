@@ -6,22 +6,15 @@ use Rattle.sm_num.specs.Combining.{Outcome}
 use Rattle.sm_omega.specs.Counting.{Done, Item, Count, entered}
 use Rattle.sm_omega.specs.Solving.{Values, at, has, others, lower_bounds, upper_bounds, least_variable}
 use Rattle.sm_omega.specs.Rules.{Answer, Solver, or_refuted, solved, giving}
-use Rattle.sm_omega.specs.Equalities.{first_equation, least_part, eliminated_item, modular}
-use Rattle.sm_omega.specs.Equalities.{modular_item, value_by, by_equation}
-use Rattle.sm_omega.specs.Inequalities.{shadows, standing, greatest_at, splinters_at, splinter}
-use Rattle.sm_omega.specs.Inequalities.{by_splinters}
-use Rattle.sm_omega.specs.Inequalities.{by_all_splinters, greatest_bound, least_bound}
-use Rattle.sm_omega.specs.Inequalities.{by_bounds, by_variable}
+use Rattle.sm_omega.specs.Equalities.{first_equation, least_part, eliminated_item, modular, modular_item, value_by, by_equation}
+use Rattle.sm_omega.specs.Inequalities.{shadows, standing, greatest_at, splinters_at, splinter, by_splinters, by_all_splinters, greatest_bound, least_bound, by_bounds, by_variable}
 use Rattle.sm_omega.specs.Exact.{by_least, by_first, by_rule, solved_within}
 use Rattle.sm_omega.proofs.Predicates.{IsGood, IsListed, AreListed, IsGoodItem, AreGoodItems}
 use Rattle.sm_omega.proofs.EachLemmas.{each_append}
-use Rattle.sm_omega.proofs.ListedLemmas.{each_lower, each_upper, each_others, entered_listed, standing_good, eliminated_items_good}
-use Rattle.sm_omega.proofs.ListedLemmas.{modular_items_good, modular_good, shadows_good, splinter_good}
+use Rattle.sm_omega.proofs.ListedLemmas.{each_lower, each_upper, each_others, entered_listed, standing_good, eliminated_items_good, modular_items_good, modular_good, shadows_good, splinter_good}
 use Rattle.sm_omega.proofs.FoundLemmas.{found_is, found_long, least_is_part, has_part, least_some, others_fewer}
-use Rattle.sm_omega.proofs.Progress.{left, forms_in, counts_in, entered_left, eliminated_fewer, modular_fewer, dark_fewer, splinter_fewer}
-use Rattle.sm_omega.proofs.Progress.{stuck_variable, shallow_variable, stuck_equation, shallow_equation}
-use Rattle.sm_omega.proofs.MatchLemmas.{Matches, done_matches, shallow_matches, matches_weaker, go_on_matches, result_matches, entered_matches}
-use Rattle.sm_omega.proofs.MatchLemmas.{giving_matches, or_else_matches}
+use Rattle.sm_omega.proofs.Progress.{left, forms_in, counts_in, entered_left, eliminated_fewer, modular_fewer, dark_fewer, splinter_fewer, stuck_variable, shallow_variable, stuck_equation, shallow_equation}
+use Rattle.sm_omega.proofs.MatchLemmas.{Matches, done_matches, shallow_matches, matches_weaker, go_on_matches, result_matches, entered_matches, giving_matches, or_else_matches}
 
 -- a depth is enough for a list
 pub record IsDeep (limit depth s : ℕ) (fs : List (Linear ℕ)) (c : ℕ) : Type 0 where

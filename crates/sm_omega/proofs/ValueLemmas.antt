@@ -1,12 +1,10 @@
 -- A value that is put for a variable, and the value of a form by its part at the variable and the rest.
-use Rattle.std.proofs.Common.{◌≡◌, ◌↔◌, ◌<◌, ℕ, ◌==◌, ℤ, pos, ◌+ℤ◌, ◌*ℤ◌, Bool, true, false, not, if◌then◌else◌, IsTrue, List, [], ◌∷◌, refl, sym, ap, subst, ◌∙◌, arith}
+use Rattle.std.proofs.Common.{◌≡◌, ◌↔◌, ◌<◌, ℕ, ◌==◌, ℤ, pos, ◌+ℤ◌, ◌*ℤ◌, Bool, false, not, if◌then◌else◌, IsTrue, List, [], ◌∷◌, refl, sym, ap, subst, ◌∙◌, arith}
 use Rattle.std.proofs.lemmas.Bool.{eq-eqb, ne_eqb}
-use Rattle.std.specs.Ordering.{int_eq}
-use Rattle.std.proofs.lemmas.Bool.Decides.{Decides-int_eq}
-use Rattle.sm_num.specs.declared.op.Op.TheVariants.{Add, Mul}
 use Rattle.sm_num.specs.Range.{fits_form}
 use Rattle.sm_num.specs.Forms.{Linear, Satisfies, HoldsAt, sum_of_parts, without}
 use Rattle.sm_num.specs.Combining.{Fits, computed}
+use Rattle.sm_num.specs.declared.op.Op.TheVariants.{Add, Mul}
 use Rattle.sm_num.specs.FormLaws.{same_atom, value_of_form}
 use Rattle.sm_num.proofs.RingLemmas.{sums, zero_mul}
 use Rattle.sm_num.proofs.OutcomeLemmas.{Gives, gives_fits, gives_more, then_gives, computed_gives}
@@ -14,6 +12,7 @@ use Rattle.sm_num.proofs.SameAtomLemmas.{IsApart, same_atom_sound, apart_turned,
 use Rattle.sm_num.proofs.ResultsReduced.{AreAmong}
 use Rattle.sm_num.proofs.FormValues.{sum_without}
 use Rattle.sm_omega.specs.Solving.{Values, at, has, put, sum_from, rest_of}
+use Rattle.sm_omega.proofs.Progress.{without_it}
 
 -- the variable's value is the one that is put
 pub put_same : (t : ℕ) (z : ℤ) (v : Values) → put t z v t ≡ z
@@ -83,14 +82,6 @@ value_put t z v f =
     value_split t (put t z v) f ∙ ap (λ (x : ℤ). (at t f *ℤ x) +ℤ value_of_form (put t z v) (without same_atom t f)) (put_same t z v)
     ∙ ap (λ (x : ℤ). (at t f *ℤ z) +ℤ x) (value_put_without t z v f)
 
--- what a form that has no variable has there
-pub has_none : (t : ℕ) (f : Linear ℕ) → has t f ≡ false → at t f ≡ pos 0
-has_none t f e = (Decides-int_eq (at t f) (pos 0)).0 (turned (int_eq (at t f) (pos 0)) e)
-  where
-    turned : (b : Bool) → not b ≡ false → b ≡ true
-    turned true e = refl
-    turned false e = absurd cc
-
 -- a form without the variable has the same value, whatever is put
 pub value_none : (t : ℕ) (z : ℤ) (v : Values) (f : Linear ℕ) → at t f ≡ pos 0 → value_of_form (put t z v) f ≡ value_of_form v f
 value_none t z v f none =
@@ -103,7 +94,7 @@ value_none t z v f none =
 -- whether a form without a variable holds doesn't depend on what is put for it
 pub holds_put : (t : ℕ) (z : ℤ) (v : Values) (f : Linear ℕ) → has t f ≡ false → HoldsAt v f ↔ HoldsAt (put t z v) f
 holds_put t z v f e =
-    let same = value_none t z v f (has_none t f e) in
+    let same = value_none t z v f (without_it t f e) in
     (subst (Satisfies f.kind) (sym same), subst (Satisfies f.kind) same)
 
 -- a sum that is computed behind another

@@ -1,10 +1,9 @@
 -- Cited by public clauses: how a decision counts what it computes, and how forms enter the list
 -- that it decides. A form is made tight as it enters.
-use Rattle.std.specs.Prelude.{ℕ, suc, nat_lt, ℤ, if◌then◌else◌}
-use Rattle.std.specs.Prelude.{Option, Some, None, List, [], ◌∷◌}
-use Rattle.sm_num.specs.declared.op.Op.{Op}
+use Rattle.std.specs.Prelude.{ℕ, suc, nat_lt, ℤ, if◌then◌else◌, Option, Some, None, List, [], ◌∷◌}
 use Rattle.sm_num.specs.Forms.{Linear}
 use Rattle.sm_num.specs.Combining.{Outcome, Fits, Leaves}
+use Rattle.sm_num.specs.declared.op.Op.{Op}
 use Rattle.sm_num.specs.Tightening.{has_no_part, tightened, is_contradictory}
 
 -- what a decision comes to

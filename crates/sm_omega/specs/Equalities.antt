@@ -1,17 +1,14 @@
 -- Cited by public clauses: the rule of equalities of the Omega test. An equation gives the value of
 -- a variable whose coefficient there has size 1; where it has none, a modular step puts a new
 -- variable in, so that the coefficients fall.
-use Rattle.std.specs.Prelude.{ℕ, suc, ◌==◌, nat_lt, ℤ, pos, negsuc, neg_ℤ, nat_abs}
-use Rattle.std.specs.Prelude.{◌&&◌, not, if◌then◌else◌}
-use Rattle.std.specs.Prelude.{Option, Some, None, List, [], ◌∷◌, map}
-use Rattle.sm_num.specs.declared.kind.Kind.TheVariants.{Eq}
+use Rattle.std.specs.Prelude.{ℕ, suc, ◌==◌, nat_lt, ℤ, pos, negsuc, neg_ℤ, nat_abs, ◌&&◌, not, if◌then◌else◌, Option, Some, None, List, [], ◌∷◌, map}
 use Rattle.sm_num.specs.Forms.{Linear}
+use Rattle.sm_num.specs.declared.kind.Kind.TheVariants.{Eq}
 use Rattle.sm_num.specs.Combining.{Outcome, Fits, then_with, with_part, combined}
 use Rattle.sm_num.specs.Eliminating.{is_equation, is_negative, floor_of, eliminated}
 use Rattle.sm_num.specs.Tightening.{has_no_part}
 use Rattle.sm_omega.specs.Counting.{Item, Stay, Count}
-use Rattle.sm_omega.specs.Solving.{Values, at, has, rest_of}
-use Rattle.sm_omega.specs.Solving.{value_from}
+use Rattle.sm_omega.specs.Solving.{Values, at, has, rest_of, value_from}
 use Rattle.sm_omega.specs.Rules.{Answer, Solver, solved, giving}
 
 -- a form that is found with the forms beside it, of which one more stands in front

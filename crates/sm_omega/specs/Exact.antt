@@ -1,8 +1,7 @@
 -- Cited by public clauses: whether whole numbers satisfy linear forms, decided by the Omega test
 -- with a count of the forms that are computed. Over 128 bits, and within a count, it needn't come to an
 -- answer; where it does, the answer is right (`ExactLaws`).
-use Rattle.std.specs.Prelude.{ℕ, zero, suc, ◌+◌, ℤ, pos, Option, Some, None, List, [], ◌∷◌, map, length}
-use Rattle.std.specs.Prelude.{nat_lt, if◌then◌else◌}
+use Rattle.std.specs.Prelude.{ℕ, zero, suc, ◌+◌, ℤ, pos, Option, Some, None, List, [], ◌∷◌, map, length, nat_lt, if◌then◌else◌}
 use Rattle.sm_num.specs.Forms.{Linear}
 use Rattle.sm_omega.specs.Counting.{Done, Shallow, Enter}
 use Rattle.sm_omega.specs.Solving.{least_variable}

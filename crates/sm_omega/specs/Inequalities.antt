@@ -2,19 +2,15 @@
 -- from one side goes with its forms. Of one that is bounded from both, the dark shadow is what surely
 -- leaves it a whole number; a solution that the dark shadow misses is near a lower bound, on one of
 -- its splinters.
-use Rattle.std.specs.Prelude.{ℕ, zero, suc, ℤ, pos, negsuc, neg_ℤ, nat_abs, ◌-ℤ◌}
-use Rattle.std.specs.Prelude.{None, List, [], ◌∷◌, ◌++◌, map}
-use Rattle.sm_num.specs.declared.op.Op.TheVariants.{Add, Sub, Mul}
-use Rattle.sm_num.specs.declared.kind.Kind.TheVariants.{Le, Eq}
+use Rattle.std.specs.Prelude.{ℕ, zero, suc, ℤ, pos, negsuc, neg_ℤ, nat_abs, ◌-ℤ◌, None, List, [], ◌∷◌, ◌++◌, map}
 use Rattle.sm_num.specs.Forms.{Linear}
+use Rattle.sm_num.specs.declared.kind.Kind.TheVariants.{Le, Eq}
 use Rattle.sm_num.specs.Combining.{Outcome, Fits, then_with, computed, combined}
+use Rattle.sm_num.specs.declared.op.Op.TheVariants.{Add, Sub, Mul}
 use Rattle.sm_num.specs.Eliminating.{floor_of}
-use Rattle.sm_omega.specs.Counting.{Done, with_result}
-use Rattle.sm_omega.specs.Counting.{Item, Stay, Count}
-use Rattle.sm_omega.specs.Solving.{Values, at, lower_bounds, upper_bounds, others}
-use Rattle.sm_omega.specs.Solving.{bounds_of, greatest, least}
-use Rattle.sm_omega.specs.Rules.{Answer, solved, giving}
-use Rattle.sm_omega.specs.Rules.{or_else}
+use Rattle.sm_omega.specs.Counting.{Done, with_result, Item, Stay, Count}
+use Rattle.sm_omega.specs.Solving.{Values, at, lower_bounds, upper_bounds, others, bounds_of, greatest, least}
+use Rattle.sm_omega.specs.Rules.{Answer, solved, giving, or_else}
 
 -- the dark shadow of a lower and an upper bound of t
 abbrev pub shadow : ℕ → Linear ℕ → Linear ℕ → Outcome (Linear ℕ)

@@ -1,12 +1,10 @@
 -- Cited by public clauses: how the rules of the Omega test go on with lists of forms, after Pugh,
 -- "A practical algorithm for exact array dependence analysis" (CACM 35, 1992). A rule makes a list
 -- of forms into others, and a solution of those into one of the list.
-use Rattle.std.specs.Prelude.{ℕ, ℤ}
-use Rattle.std.specs.Prelude.{Option, Some, None, List}
+use Rattle.std.specs.Prelude.{ℕ, ℤ, Option, Some, None, List}
 use Rattle.sm_num.specs.Forms.{Linear}
 use Rattle.sm_num.specs.Combining.{Outcome}
-use Rattle.sm_omega.specs.Counting.{Decision, Done, go_on, with_result}
-use Rattle.sm_omega.specs.Counting.{Item, entered}
+use Rattle.sm_omega.specs.Counting.{Decision, Done, go_on, with_result, Item, entered}
 use Rattle.sm_omega.specs.Solving.{Values, put}
 
 -- an answer: a solution, or none, since there is none

@@ -1,13 +1,12 @@
 -- Cited by public clauses: the variable that is taken, the forms in which it stands, and the value
 -- that it gets from a solution of the rest.
-use Rattle.std.specs.Prelude.{ℕ, ◌==◌, nat_lt, ℤ, pos, int_lt, neg_ℤ, nat_abs}
-use Rattle.std.specs.Prelude.{Bool, ◌&&◌, not, if◌then◌else◌, Option, Some, None, List, [], ◌∷◌}
+use Rattle.std.specs.Prelude.{ℕ, ◌==◌, nat_lt, ℤ, pos, int_lt, neg_ℤ, nat_abs, Bool, ◌&&◌, not, if◌then◌else◌, Option, Some, None, List, [], ◌∷◌}
 use Rattle.std.specs.List.{filter}
 use Rattle.std.specs.Ordering.{int_eq}
-use Rattle.sm_num.specs.declared.op.Op.TheVariants.{Add, Mul}
 use Rattle.sm_num.specs.Forms.{Linear, coefficient, without}
 use Rattle.sm_num.specs.FormLaws.{same_atom}
 use Rattle.sm_num.specs.Combining.{Outcome, Fits, then_with, computed}
+use Rattle.sm_num.specs.declared.op.Op.TheVariants.{Add, Mul}
 use Rattle.sm_num.specs.Eliminating.{is_negative, floor_of, ceiling_of}
 
 -- a value for each variable

@@ -1,6 +1,5 @@
 // Laws of the decision, as contracts.
-ghost use Rattle.sm_omega.specs.ExactLaws.{ExactIsRight, ExactAnswers};
-ghost use Rattle.sm_omega.specs.ExactLaws.{CountIsWithin, LimitDoesNotMatter};
+ghost use Rattle.sm_omega.specs.ExactLaws.{ExactIsRight, ExactAnswers, CountIsWithin, LimitDoesNotMatter};
 
 /// Where it says that there is no solution, no whole numbers satisfy the forms; and the values of a
 /// solution satisfy each of them.

@@ -14,8 +14,7 @@ use Rattle.sm_plan.specs.Limits.{is_kept, is_shallow}
 use Rattle.sm_plan.specs.States.{start_state}
 use Rattle.sm_plan.specs.Nodes.{Step}
 use Rattle.sm_plan.specs.Plans.{IsFresh, obligations}
-use Rattle.sm_plan.specs.Cases.{never_ends, never_plan, unequal_turns, unequal_steps, pending_after, first_nodes, NeverEndsIsFree}
-use Rattle.sm_plan.specs.Cases.{CasesComeOut}
+use Rattle.sm_plan.specs.Cases.{never_ends, never_plan, unequal_turns, unequal_steps, pending_after, first_nodes, NeverEndsIsFree, CasesComeOut}
 use Rattle.sm_plan.proofs.PlanSound.{plan_conflict_free}
 
 -- the one obligation

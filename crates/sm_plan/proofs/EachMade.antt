@@ -3,8 +3,8 @@ use Rattle.std.proofs.Common.{◌≡◌, Result, Ok, Err}
 use Rattle.std.specs.Prelude.{IfOk}
 use Rattle.std.proofs.lemmas.Result.{IfOk-at_ok}
 use Rattle.sm_syntax.specs.claim.ConflictFree.{Copy, O, A, B, M}
-use Rattle.sm_syntax.specs.declared.copies.PerCopy.{PerCopy}
 use Rattle.sm_syntax.specs.trees.Copies.{of_copy}
+use Rattle.sm_syntax.specs.declared.copies.PerCopy.{PerCopy}
 
 -- what holds of each of four results holds of what they made
 pub each_made : {T E : Type 0} (P : Copy → T → Type 0) (base a b candidate : Result T E) (all : Result (PerCopy T) E) →

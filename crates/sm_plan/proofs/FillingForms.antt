@@ -1,21 +1,20 @@
 -- Formulas with their slots replaced, over tables that grow.
-use Rattle.std.proofs.Common.{◌≡◌, ℕ, zero, suc, ◌<◌, arith, Some, List, [], ◌∷◌, ◌++◌, map, length, get_or, take, ◌+◌, slice_get, refl}
-use Rattle.std.proofs.Common.{sym, ap, ◌∙◌, subst}
-use Rattle.std.proofs.lemmas.List.{append-nil, map-append, map_more}
+use Rattle.std.proofs.Common.{◌≡◌, ℕ, zero, suc, ◌<◌, arith, Some, List, [], ◌∷◌, ◌++◌, map, length, get_or, take, ◌+◌, slice_get, refl, sym, ap, ◌∙◌, subst}
+use Rattle.std.proofs.lemmas.List.{map-append, map_more}
 use Rattle.sm_syntax.specs.declared.copies.PerCopy.{PerCopy}
 use Rattle.sm_syntax.specs.claim.ConflictFree.{Copy}
 use Rattle.sm_syntax.specs.text.Sorts.{Sorts}
-use Rattle.sm_term.specs.declared.formula.Formula.{Formula}
 use Rattle.sm_term.specs.declared.symbolic.SymStore.{SymStore}
 use Rattle.sm_term.specs.Assertions as plain
 use Rattle.sm_term.specs.Assertions.{Assertion}
 use Rattle.sm_term.specs.Formulas as form
-use Rattle.sm_term.specs.Formulas.{NumberedFormula, numbered, assertion_in, IsFormulaWithin}
+use Rattle.sm_term.specs.Formulas.{numbered, assertion_in, IsFormulaWithin}
+use Rattle.sm_term.specs.declared.formula.Formula.{Formula}
 use Rattle.sm_term.specs.Slots.{fill_term, at_stores, all_at_stores}
 use Rattle.sm_term.specs.Sorted.{tree_sort, IsSorted, IsFormSorted, AreFormsSorted}
 use Rattle.sm_term.specs.Symbolic.{SymbolicStore}
 use Rattle.sm_term.specs.Tables.{TableValue, trees_in, sorts_in, tree_at}
-use Rattle.sm_term.specs.TableLaws.{AddsTerms, ExtendsTable}
+use Rattle.sm_term.specs.TableLaws.{AddsTerms}
 use Rattle.sm_term.specs.Terms.{Tree}
 use Rattle.sm_term.proofs.ExpressionLemmas.{tree_got, there}
 use Rattle.sm_term.proofs.FormsLemmas.{assertion-more, form_kept}
@@ -23,14 +22,6 @@ use Rattle.sm_plan.specs.ReadyStates.{IsFormReady, AreFormsReady, AreStoresReady
 use Rattle.sm_plan.specs.Views.{forms_in, stores_in}
 use Rattle.sm_plan.proofs.FillingGrows.{stores_more}
 use Rattle.sm_plan.proofs.SortedTerms.{filled_sorted}
-
--- a table that grew is wider
-pub wider : (v w : TableValue) → AddsTerms v w → ExtendsTable v w
-wider v w grows = record {
-  sorts = grows.sorts;
-  codes = ([], grows.codes ∙ sym (append-nil _));
-  trees = grows.trees;
-}
 
 -- the terms of formulas are in a table of so many terms
 abbrev pub AreFormsWithin : ℕ → List Formula → Type 0

@@ -1,16 +1,14 @@
 -- A walk over the terms under a term: its way descends, and each number that is found is one fewer that isn't known.
-use Rattle.std.proofs.Common.{◌≡◌, ◌≢◌, ◌<◌, ◌≤◌, ◌+◌, ◌*◌, ℕ, zero, suc, true, false, if◌then◌else◌, nat_eq, Option, Some, None}
-use Rattle.std.proofs.Common.{List, [], ◌∷◌, ◌++◌, length, refl, sym, ap, subst, ◌∙◌, ⊎_elim, arith}
+use Rattle.std.proofs.Common.{◌≡◌, ◌≢◌, ◌<◌, ◌≤◌, ◌+◌, ℕ, zero, suc, true, false, if◌then◌else◌, nat_eq, Option, Some, None, List, [], ◌∷◌, ◌++◌, length, refl, sym, ap, subst, ◌∙◌, ⊎_elim, arith}
 use Rattle.std.specs.Prelude.{is_some, unwrap_or}
 use Rattle.std.specs.Map.{update}
 use Rattle.std.proofs.lemmas.Map.{update_here, update_apart}
 use Rattle.std.proofs.lemmas.Bool.{cases_Bool}
-use Rattle.std.proofs.Math.Nat.{mul-le-mul_left}
 use Rattle.std.proofs.lemmas.Bool.Decides.{Decides-eqb}
 use Rattle.sm_syntax.specs.claim.ConflictFree.{Copy}
-use Rattle.sm_term.specs.declared.term.TermId.{TermId}
 use Rattle.sm_term.specs.Symbolic.{SymbolicStore}
 use Rattle.sm_term.specs.Tables.{TableValue, trees_in}
+use Rattle.sm_term.specs.declared.term.TermId.{TermId}
 use Rattle.sm_plan.specs.Filling.{IsFilled, AreKnown, Descends, IsWay, AreOpen, unknown_below}
 
 -- a way ends below its start
@@ -119,15 +117,6 @@ module _ (f g : ℕ → Option TermId) (k : ℕ) (made : TermId) (gains : (q : �
       ap (λ (o : Option TermId). (if is_some o then 0 else 1) + unknown_below g b) (apart b other) in
       omega arith)
       (cases_Bool (nat_eq b k))
-
--- fewer rounds are fewer, whatever is left of one
-pub rounds_less : (m n t x y : ℕ) → m + 1 ≡ n → x ≤ t → m * (t + 1) + x < n * (t + 1) + y
-rounds_less m n t x y e h =
-    let more : (t + 1) * (m + 1) ≤ (t + 1) * n = mul-le-mul_left (t + 1) (omega arith) in
-    grind (arith, more)
-
-pub step_less : (m p q : ℕ) → p < q → m + p < m + q
-step_less m p q h = omega arith
 
 -- a way without a number that waits is at its start
 pub way_start : (t : ℕ) (ns : List ℕ) (next : ℕ) → IsWay t ns next → ns ≡ [] → next ≡ t

@@ -1,14 +1,13 @@
 -- Formulas that nodes keep: their size, and the parts of a conjunction.
-use Rattle.std.proofs.Common.{◌≡◌, ◌⊎◌, ℕ, ◌+◌, ◌<◌, ◌≤◌, max, nat_le, inl, inr, Bool, true, false, ◌&&◌, Option, Some, None, is_some, List}
-use Rattle.std.proofs.Common.{[], ◌∷◌, ◌++◌, map, length, refl, sym, ap, ◌∙◌, subst, ⊎_elim, arith}
+use Rattle.std.proofs.Common.{◌≡◌, ◌⊎◌, ℕ, ◌+◌, ◌<◌, ◌≤◌, max, nat_le, inl, inr, Bool, true, false, ◌&&◌, Option, Some, None, is_some, List, [], ◌∷◌, ◌++◌, map, length, refl, sym, ap, ◌∙◌, subst, ⊎_elim, arith}
 use Rattle.std.specs.Prelude.{MatchOption}
 use Rattle.std.proofs.lemmas.Bool.{and_from, le-leb}
 use Rattle.std.proofs.lemmas.Bool.Decides.{leb_tells}
 use Rattle.std.proofs.lemmas.List.{map-append}
 use Rattle.sm_syntax.specs.text.Sorts.{Sorts}
-use Rattle.sm_term.specs.declared.formula.Formula.{Formula}
 use Rattle.sm_term.specs.Assertions.{conj}
 use Rattle.sm_term.specs.Formulas.{NumberedFormula, Yes, No, Eq, Ne, Le, Lt, And, Or, numbered, assertion_in, IsFormulaWithin}
+use Rattle.sm_term.specs.declared.formula.Formula.{Formula}
 use Rattle.sm_term.specs.Sorted.{AreFormsSorted}
 use Rattle.sm_term.specs.Terms.{Tree}
 use Rattle.sm_plan.specs.Kept.{nodes_in, depth_in, parts_in}
@@ -109,7 +108,7 @@ parts_conj sorts trees (And p q) =
     map-append (assertion_in sorts trees) (parts_in p) (parts_in q) ∙ (λ i. parts_conj sorts trees p i ++ parts_conj sorts trees q i)
 parts_conj sorts trees (Or p q) = refl
 
-by_numbers : (sorts : Sorts) (trees : List Tree) (fs : List Formula) →
+pub by_numbers : (sorts : Sorts) (trees : List Tree) (fs : List Formula) →
     forms_in sorts trees fs ≡ map (assertion_in sorts trees) (map numbered fs)
 by_numbers sorts trees [] = refl
 by_numbers sorts trees (f ∷ fs) = ap (λ l. assertion_in sorts trees (numbered f) ∷ l) (by_numbers sorts trees fs)

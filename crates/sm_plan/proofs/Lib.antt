@@ -39,3 +39,4 @@ pub mod TurnedLemmas
 pub mod HeadsLemmas
 pub mod TurnsMade
 pub mod LoopsOpened
+pub mod OpenedSame

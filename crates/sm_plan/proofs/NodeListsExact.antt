@@ -1,6 +1,5 @@
 -- Plans and lists of nodes: the nodes of a plan prove what it proves, and nodes that prove a task's start are a plan's.
-use Rattle.std.proofs.Common.{◌≡◌, ◌≤◌, ℕ, suc, ◌+◌, ◌==◌, Bool, true, false, if◌then◌else◌, max, Some, Result, Ok, Err, List, [], ◌∷◌}
-use Rattle.std.proofs.Common.{◌++◌, length, refl, ap, sym, ◌∙◌, subst, arith, eq-eqb}
+use Rattle.std.proofs.Common.{◌≡◌, ◌≤◌, ℕ, suc, ◌+◌, ◌==◌, Bool, true, false, if◌then◌else◌, max, Some, Result, Ok, Err, List, [], ◌∷◌, ◌++◌, length, refl, ap, sym, ◌∙◌, subst, arith, eq-eqb}
 use Rattle.std.proofs.lemmas.Bool.Decides.{nat_tests}
 use Rattle.std.proofs.lemmas.List.{append_assoc, append-nil}
 use Rattle.sm_syntax.specs.claim.ConflictFree.{Task}
@@ -8,23 +7,23 @@ use Rattle.sm_term.specs.Assertions.{Assertion}
 use Rattle.sm_plan.specs.Limits.{is_shallow}
 use Rattle.sm_plan.specs.States.{State, start_state}
 use Rattle.sm_plan.specs.Nodes.{Node, Opened, opened_by, rule_of, is_branching}
-use Rattle.sm_plan.specs.Plans.{Plan, At, Plans, Over, More, size, sizes, count, nodes_of, all_nodes, branches, most_branches, IsFresh}
-use Rattle.sm_plan.specs.Plans.{AreFresh, Due, Fault, Wrong, Deep, due, joined, expand, expand_all, obligations, AllValid, AllDischarged}
+use Rattle.sm_plan.specs.Plans.{Plan, At, Plans, Over, More, size, sizes, count, nodes_of, all_nodes, branches, most_branches, IsFresh, AreFresh, Due, Fault, Wrong, Deep, due, joined, expand, expand_all, obligations, AllValid}
+use Rattle.sm_plan.specs.Plans.{AllDischarged}
 use Rattle.sm_plan.specs.NodeLists.{Pending, above_opened, pending_states, states_of, NodesProve, start_pending}
 use Rattle.sm_plan.proofs.PlanSound.{opened_is, passed, joined_is, parts_discharged, due_valid, shallow, states-pending}
 
 -- few enough branching nodes
-is_few : (n : ℕ) → n ≤ 1000 → is_shallow n ≡ true
+pub is_few : (n : ℕ) → n ≤ 1000 → is_shallow n ≡ true
 unfolding is_shallow
 is_few n few = grind (arith, nat_tests)
 
 -- a number of branching nodes that passes the test is at most 1,000
-few_is : (n : ℕ) → is_shallow n ≡ true → n ≤ 1000
+pub few_is : (n : ℕ) → is_shallow n ≡ true → n ≤ 1000
 unfolding is_shallow
 few_is n h = grind (arith, nat_tests)
 
 -- a node's own branching counts above what it opens
-counts_above : (b : Bool) (above most : ℕ) → above + (if b then suc most else most) ≤ 1000 → (if b then suc above else above) + most ≤ 1000
+pub counts_above : (b : Bool) (above most : ℕ) → above + (if b then suc most else most) ≤ 1000 → (if b then suc above else above) + most ≤ 1000
 counts_above true above most few = omega (arith, few)
 counts_above false above most few = omega (arith, few)
 
@@ -34,10 +33,10 @@ counts_below true above most few = omega (arith, few)
 counts_below false above most few = omega (arith, few)
 
 -- either of two that are few
-first_few : (above a b : ℕ) → above + max a b ≤ 1000 → above + a ≤ 1000
+pub first_few : (above a b : ℕ) → above + max a b ≤ 1000 → above + a ≤ 1000
 first_few above a b few = omega (arith, few)
 
-second_few : (above a b : ℕ) → above + max a b ≤ 1000 → above + b ≤ 1000
+pub second_few : (above a b : ℕ) → above + max a b ≤ 1000 → above + b ≤ 1000
 second_few above a b few = omega (arith, few)
 
 -- both
@@ -264,7 +263,7 @@ nodes_are_plan t nodes h =
     (p, one.1, one.2, one.4, ap (λ (b : Bool). if b then expand 0 (start_state t) p else Err Deep) few ∙ one.5, one.6)
 
 -- a test that passed
-test_passed : (b : Bool) (r : Result (List Due) Fault) (ds : List Due) → (if b then r else Err Deep) ≡ Ok ds → b ≡ true
+pub test_passed : (b : Bool) (r : Result (List Due) Fault) (ds : List Due) → (if b then r else Err Deep) ≡ Ok ds → b ≡ true
 test_passed true r ds e = refl
 test_passed false r ds e = absurd cc
 

@@ -14,13 +14,12 @@ use Rattle.sm_plan.specs.Statements.{is_over, is_long, front, rest_after, is_loo
 use Rattle.sm_plan.specs.Limits.{is_kept}
 use Rattle.sm_plan.specs.States.{State}
 use Rattle.sm_plan.specs.Successors as next
-use Rattle.sm_plan.specs.Nodes.{Node, Step, Abs, Fork, Loop, Block, Dead, Ends, Unfit, Opened, follows, asks, where_true, after_step}
-use Rattle.sm_plan.specs.Nodes.{both_ways, opened_by}
+use Rattle.sm_plan.specs.Nodes.{Node, Step, Abs, Fork, Loop, Block, Dead, Ends, Unfit, Opened, follows, asks, where_true, after_step, both_ways, opened_by}
 use Rattle.sm_plan.specs.SortedStates.{IsStateSorted, AreStatesSorted, IsNodeSorted}
 use Rattle.sm_plan.proofs.SortedCode.{append_well, front_well, rest_well}
-use Rattle.sm_plan.proofs.SortedTerms.{negate_sorted, form_sorted, conj_sorted, all_at_stores_sorted}
-use Rattle.sm_plan.proofs.SortedStates.{stepped_sorted, states_append, moved_sorted, moved_alone, summary_sorted, turns_sorted}
-use Rattle.sm_plan.proofs.SortedStates.{after_sorted, inner_sorted, after_block_sorted}
+use Rattle.sm_plan.proofs.SortedTerms.{form_sorted, conj_sorted, all_at_stores_sorted}
+use Rattle.sm_plan.proofs.SortedStates.{stepped_sorted, states_append, moved_sorted, moved_alone, summary_sorted, turns_sorted, after_sorted, inner_sorted, after_block_sorted}
+use Rattle.sm_term.proofs.SortedForms.{negate_sorted}
 
 -- goals and states are sorted
 abbrev pub AreOpenedSorted : Sorts → Opened → Type 0

@@ -1,6 +1,5 @@
 -- One node of a plan: its state is sound where what it opens is, and what it opens names no later value.
-use Rattle.std.proofs.Common.{◌≡◌, ℕ, suc, Bool, true, false, not, ◌&&◌, ◌||◌, nat_le, Option, Some, None, List, [], ◌∷◌, ◌++◌, map, refl}
-use Rattle.std.proofs.Common.{sym, subst, arith}
+use Rattle.std.proofs.Common.{◌≡◌, ℕ, suc, Bool, true, false, not, ◌&&◌, ◌||◌, nat_le, Option, Some, None, List, [], ◌∷◌, ◌++◌, map, refl, sym, subst, arith}
 use Rattle.std.proofs.lemmas.Option.{same_Some}
 use Rattle.std.proofs.lemmas.Bool.{and_parts}
 use Rattle.sm_syntax.specs.claim.Syntax.{Code, End, Skip, Assign, Write, If, While, Hole, append}
@@ -15,15 +14,13 @@ use Rattle.sm_plan.specs.Statements.{is_over, is_long, front, rest_after, is_loo
 use Rattle.sm_plan.specs.Limits.{is_kept}
 use Rattle.sm_plan.specs.States.{State}
 use Rattle.sm_plan.specs.Successors as next
-use Rattle.sm_plan.specs.Nodes.{Node, Step, Abs, Fork, Loop, Block, Dead, Ends, Unfit, Opened, follows, asks, where_true, after_step}
-use Rattle.sm_plan.specs.Nodes.{both_ways, opened_by, IsFreshAt}
+use Rattle.sm_plan.specs.Nodes.{Node, Step, Abs, Fork, Loop, Block, Dead, Ends, Unfit, Opened, follows, asks, where_true, after_step, both_ways, opened_by, IsFreshAt}
 use Rattle.sm_plan.specs.Plans.{AllValid}
 use Rattle.sm_plan.specs.SoundStates.{IsSound, AreSound, IsStateBelow, AreStatesBelow}
 use Rattle.sm_plan.proofs.CopySound.{step_sound, both_ways_sound, summary_sound}
 use Rattle.sm_plan.proofs.LoopsSound.{ends_sound, block_sound, loop_node_sound}
-use Rattle.sm_plan.proofs.BelowLemmas.{conj_below, all_at_stores_below, stepped_below, moved_below, form_below, negate_below}
-use Rattle.sm_plan.proofs.BelowLemmas.{summarized_below, false_guard_below, state_later, states_append, turns_below, after_below}
-use Rattle.sm_plan.proofs.BelowLemmas.{inner_below, after_block_below}
+use Rattle.sm_plan.proofs.BelowLemmas.{conj_below, all_at_stores_below, stepped_below, moved_below, form_below, negate_below, summarized_below, false_guard_below, state_later, states_append, turns_below, after_below, inner_below}
+use Rattle.sm_plan.proofs.BelowLemmas.{after_block_below}
 
 -- a test that passed
 where_true_is : (b : Bool) (r q : Opened) → where_true b r ≡ Some q → (b ≡ true) × (r ≡ q)

@@ -5,13 +5,11 @@ use Rattle.sm_term.specs.declared.formula.Formula.{Formula}
 use Rattle.sm_term.specs.Assertions.{Assertion}
 use Rattle.sm_term.specs.Terms.{Tree}
 use Rattle.sm_term.specs.Tables.{TableValue, trees_in, sorts_in}
-use Rattle.sm_plan.specs.declared.opening.Opened.{Opened}
-use Rattle.sm_plan.specs.declared.state.SymState.{SymState}
 use Rattle.sm_plan.specs.Nodes as plan
 use Rattle.sm_plan.specs.Openings.{IsOpening}
 use Rattle.sm_plan.specs.States.{State}
 use Rattle.sm_plan.specs.Successors.{with_facts}
-use Rattle.sm_plan.specs.Views.{forms_in, successor_in}
+use Rattle.sm_plan.specs.Views.{forms_in, successor_in, SymState, Opened}
 use Rattle.sm_plan.specs.ReadyStates.{AreFormsReady, AreSuccessorsReady, AreStoresReady}
 
 -- no more facts

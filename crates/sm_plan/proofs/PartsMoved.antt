@@ -6,19 +6,18 @@ use Rattle.sm_syntax.specs.claim.ConflictFree.{Copy, O, A, B, M}
 use Rattle.sm_syntax.specs.text.Sorts.{Sorts, IsWellSorted}
 use Rattle.sm_syntax.specs.trees.Copies.{of_copy}
 use Rattle.sm_term.specs.SameTerms.{is_copy}
-use Rattle.sm_term.specs.declared.symbolic.SymStore.{SymStore}
 use Rattle.sm_term.specs.Assertions.{Assertion}
 use Rattle.sm_term.specs.Symbolic.{SymbolicStore}
 use Rattle.sm_term.specs.SymStores.{tree_or_start, store_in}
+use Rattle.sm_term.specs.declared.symbolic.SymStore.{SymStore}
 use Rattle.sm_term.specs.Sorted.{IsDeclaredIn, IsStoreSorted}
 use Rattle.sm_term.specs.Terms.{Tree}
-use Rattle.sm_term.specs.declared.term.TermId.{TermId}
 use Rattle.sm_term.specs.Tables.{TableValue, trees_in, sorts_in, AreBefore}
+use Rattle.sm_term.specs.declared.term.TermId.{TermId}
 use Rattle.sm_term.specs.TableLaws.{ExtendsTable}
-use Rattle.sm_plan.specs.declared.state.SymState.{SymState}
 use Rattle.sm_plan.specs.Copies.{with_copy}
 use Rattle.sm_plan.specs.Successors.{moved, with_facts}
-use Rattle.sm_plan.specs.Views.{rest_code, forms_in, stores_in, state_in}
+use Rattle.sm_plan.specs.Views.{rest_code, forms_in, stores_in, state_in, SymState}
 use Rattle.sm_plan.specs.ReadyStates.{AreFormsReady, IsStoreReady, IsStoreFull, IsStateReady}
 use Rattle.sm_plan.proofs.TablesWiden.{store_stays, store_ready, forms_stay, forms_ready}
 

@@ -1,6 +1,5 @@
 -- Whole proofs: from the obligations of a plan, or from a list of nodes, to a merge that is free of conflicts.
-use Rattle.std.proofs.Common.{◌≡◌, ◌<◌, ℕ, suc, ◌+◌, ◌==◌, ℤ, pos, Bool, true, false, if◌then◌else◌, Option, Some, None, Result, Ok, Err}
-use Rattle.std.proofs.Common.{List, [], ◌∷◌, ◌++◌, length, inl, inr, refl, ap, sym, subst, ⊎_elim, arith}
+use Rattle.std.proofs.Common.{◌≡◌, ◌<◌, ℕ, suc, ◌+◌, ◌==◌, ℤ, pos, Bool, true, false, if◌then◌else◌, Option, Some, None, Result, Ok, Err, List, [], ◌∷◌, ◌++◌, length, inl, inr, refl, ap, sym, subst, ⊎_elim, arith}
 use Rattle.std.specs.Prelude.{Contains, All}
 use Rattle.std.proofs.lemmas.List.Elements.{All-nil, All-cons, All-contains}
 use Rattle.std.specs.List.{flat_map}
@@ -18,8 +17,7 @@ use Rattle.sm_term.proofs.AssertionsLemmas.{form_means, holds_parts, conj_means}
 use Rattle.sm_plan.specs.Limits.{is_shallow}
 use Rattle.sm_plan.specs.States.{State, place, keeps_goals, start_store, start_facts, start_state}
 use Rattle.sm_plan.specs.Nodes.{Node, Opened, opened_by, rule_of}
-use Rattle.sm_plan.specs.Plans.{Plan, At, Plans, Over, More, size, count, branches, IsFresh, AreFresh, Due, Fault, Wrong, Deep, due, joined}
-use Rattle.sm_plan.specs.Plans.{opened, expand, expand_all, obligations, AllValid, AllDischarged}
+use Rattle.sm_plan.specs.Plans.{Plan, At, Plans, Over, More, size, count, branches, IsFresh, AreFresh, Due, Fault, Wrong, Deep, due, joined, opened, expand, expand_all, obligations, AllValid, AllDischarged}
 use Rattle.sm_plan.specs.NodeLists.{Pending, above_opened, pending_states, states_of, NodesProve, start_pending}
 use Rattle.sm_plan.specs.SoundStates.{IsSound, AreSound, IsStateBelow, AreStatesBelow}
 use Rattle.sm_plan.proofs.CopiesLemmas.{In}
@@ -152,12 +150,12 @@ goals_at m (o ∷ rest) output (inr h) all =
     goals_at m rest output h (holds_parts m (keeps_goals (place o)) (flat_map (λ (p : ℕ × Sort). keeps_goals (place p)) rest) all).1
 
 -- the elements of a list stand in it
-all_in : {T : Type 0} (xs : List T) → All (λ (y : T). In y xs) xs
+pub all_in : {T : Type 0} (xs : List T) → All (λ (y : T). In y xs) xs
 all_in {T} [] = All-nil (λ (y : T). In y [])
 all_in {T} (x ∷ xs) = All-cons (λ (y : T). In y (x ∷ xs)) x xs (inl refl) (λ (k : ℕ) (d : T) (h : k < length xs). inr (all_in xs k d h))
 
 -- what a list contains stands in it
-contains_in : {T : Type 0} (x : T) (xs : List T) → Contains xs x → In x xs
+pub contains_in : {T : Type 0} (x : T) (xs : List T) → Contains xs x → In x xs
 contains_in {T} x xs h = All-contains (λ (y : T). In y xs) xs x (all_in xs) h
 
 -- the facts at the start

@@ -1,11 +1,10 @@
 -- Stores in which names have new values, one name after the other.
-use Rattle.std.proofs.Common.{◌≡◌, ℕ, zero, suc, ◌+◌, ◌<◌, ◌==◌, ◌||◌, Bool, true, false, if◌then◌else◌, List, [], ◌∷◌, ◌++◌, length}
-use Rattle.std.proofs.Common.{get_or, take, slice_get, refl, sym, ap, ◌∙◌, subst, arith}
+use Rattle.std.proofs.Common.{◌≡◌, ℕ, zero, suc, ◌+◌, ◌<◌, ◌==◌, ◌||◌, Bool, true, false, if◌then◌else◌, List, [], ◌∷◌, ◌++◌, length, get_or, take, slice_get, refl, sym, ap, ◌∙◌, subst, arith}
 use Rattle.std.proofs.Math.Path.{fun_ext}
 use Rattle.std.proofs.lemmas.Bool.{eqb-true, eq-eqb}
 use Rattle.std.proofs.lemmas.List.{map_more}
 use Rattle.sm_syntax.specs.declared.tree.Name.{Name}
-use Rattle.sm_syntax.specs.claim.ConflictFree.{Copy, O, A, B, M, copy_of}
+use Rattle.sm_syntax.specs.claim.ConflictFree.{Copy, O, A, B, M}
 use Rattle.sm_syntax.specs.claim.Syntax.{Code}
 use Rattle.sm_syntax.specs.Assigns.{assigns}
 use Rattle.sm_syntax.specs.text.Conditions.{is_in}
@@ -15,22 +14,15 @@ use Rattle.sm_term.specs.Rows.{names_in_list}
 use Rattle.sm_term.specs.Sorted.{IsDeclaredIn, IsStoreSorted}
 use Rattle.sm_term.specs.Symbolic.{SymbolicStore, with_term}
 use Rattle.sm_term.specs.Terms.{Tree, Havoc}
-use Rattle.sm_term.specs.declared.symbolic.SymStore.{SymStore}
-use Rattle.sm_term.specs.declared.term.TermId.{TermId}
 use Rattle.sm_term.specs.SymStores.{tree_or_start, store_in, IsStoreWithin}
+use Rattle.sm_term.specs.declared.symbolic.SymStore.{SymStore}
 use Rattle.sm_term.specs.Tables.{TableValue, trees_in, sorts_in}
+use Rattle.sm_term.specs.declared.term.TermId.{TermId}
 use Rattle.sm_term.specs.TableLaws.{AddsTerms}
 use Rattle.sm_term.proofs.ExpressionLemmas.{store-more, within_more, sorted_more}
 use Rattle.sm_plan.specs.ReadyStates.{IsStoreReady, IsStoreFull}
 use Rattle.sm_plan.specs.Heads.{with_new}
 use Rattle.sm_plan.proofs.SortedStates.{renewed_sorted}
-
--- a copy's number
-pub copy_numbered : (c : Copy) → copy_of (number_of c) ≡ c
-copy_numbered O = refl
-copy_numbered A = refl
-copy_numbered B = refl
-copy_numbered M = refl
 
 pub number_below : (c : Copy) → number_of c < 4
 number_below O = omega arith
@@ -88,13 +80,6 @@ pub new_sorted : (sorts : Sorts) (k : ℕ) (c : Copy) (done : Code) (s : Symboli
     IsStoreSorted sorts (with_new k c (assigns done) s)
 new_sorted sorts k c done s well good = renewed_sorted sorts k (λ (d : Copy). done) (λ (d : Copy). s) (λ (d : Copy). well)
     (λ (d : Copy). good) c
-
--- what is so of each copy
-pub each_copy : (P : Copy → Type 0) → P O → P A → P B → P M → (c : Copy) → P c
-each_copy P o a b m O = o
-each_copy P o a b m A = a
-each_copy P o a b m B = b
-each_copy P o a b m M = m
 
 -- stores with the same terms
 pub store_alike : (trees : List Tree) (s u : SymStore) → s.list.items ≡ u.list.items → store_in trees s ≡ store_in trees u

@@ -1,15 +1,14 @@
 -- What a node opens at a sorted state is sorted.
-use Rattle.std.proofs.Common.{◌≡◌, ℕ, Bool, true, false, ◌==◌, ◌||◌, if◌then◌else◌, Option, Some, None, is_some, List, [], ◌∷◌, ◌++◌, map}
-use Rattle.std.proofs.Common.{refl, ap, sym, ◌∙◌, subst}
+use Rattle.std.proofs.Common.{◌≡◌, ℕ, Bool, true, false, ◌==◌, if◌then◌else◌, Option, Some, None, is_some, List, [], ◌∷◌, ◌++◌, map, refl, ap, sym, ◌∙◌, subst}
 use Rattle.std.specs.List.{flat_map}
-use Rattle.std.proofs.lemmas.Bool.{eq-eqb}
-use Rattle.sm_syntax.specs.declared.tree.Sort.{Sort}
-use Rattle.sm_syntax.specs.declared.tree.Sort.TheVariants.{Num, Arr}
+use Rattle.std.proofs.lemmas.Bool.{eq-eqb, or_right, or_left}
 use Rattle.sm_syntax.specs.claim.Syntax as syntax
 use Rattle.sm_syntax.specs.claim.Syntax.{Condition, Code, append}
 use Rattle.sm_syntax.specs.claim.ConflictFree.{Copy, O, A, B, M, Task}
 use Rattle.sm_syntax.specs.text.Conditions.{is_in}
 use Rattle.sm_syntax.specs.text.Sorts.{Sorts, IsWellSortedCondition, IsWellSorted}
+use Rattle.sm_syntax.specs.declared.tree.Sort.{Sort}
+use Rattle.sm_syntax.specs.declared.tree.Sort.TheVariants.{Num, Arr}
 use Rattle.sm_syntax.specs.Assigns.{assigns}
 use Rattle.sm_term.specs.Terms.{Tree, Start, Havoc, Write, Fun}
 use Rattle.sm_term.specs.Assertions.{Assertion, negate, conj}
@@ -25,17 +24,10 @@ use Rattle.sm_plan.specs.Successors as next
 use Rattle.sm_plan.specs.SortedStates.{IsStateSorted, AreStatesSorted, IsAssumptionSorted, AreOutputsDeclared, IsTaskSorted}
 use Rattle.sm_plan.proofs.CopiesLemmas.{one_copy}
 use Rattle.sm_plan.proofs.SortedCode.{front_well, rest_well, guard_well, body_well, last_guard_well}
-use Rattle.sm_plan.proofs.SortedTerms.{declared_with, named_sort, sort_is, of_declared, term_sorted, negate_sorted, form_sorted}
-use Rattle.sm_plan.proofs.SortedTerms.{forms_append, conj_sorted, all_at_stores_sorted, choice_sorted, with_term_sorted}
-
--- a test that one of two passes
-either_left : (p q : Bool) → p ≡ true → (p || q) ≡ true
-either_left true q e = refl
-either_left false q e = absurd cc
-
-either_right : (p q : Bool) → q ≡ true → (p || q) ≡ true
-either_right true q e = refl
-either_right false q e = e
+use Rattle.sm_plan.proofs.SortedTerms.{sort_is, of_declared, term_sorted, form_sorted, conj_sorted, all_at_stores_sorted, choice_sorted, with_term_sorted}
+use Rattle.sm_term.proofs.ExpressionLemmas.{named_declared}
+use Rattle.sm_term.proofs.TermsLemmas.{named}
+use Rattle.sm_term.proofs.SortedForms.{negate_sorted, forms_append}
 
 -- names with their present terms, each declared
 present_sorted : (sorts : Sorts) (s : SymbolicStore) → IsStoreSorted sorts s → (names : List ℕ) →
@@ -43,11 +35,11 @@ present_sorted : (sorts : Sorts) (s : SymbolicStore) → IsStoreSorted sorts s �
     AreArgumentsSorted sorts (next.present s names)
 present_sorted sorts s good [] all = tt
 present_sorted sorts s good (x ∷ rest) all =
-    let here : IsDeclaredIn sorts x = all x (either_left (x == x) (is_in rest x) (eq-eqb x x refl)) in
+    let here : IsDeclaredIn sorts x = all x (or_left (x == x) (is_in rest x) (eq-eqb x x refl)) in
     let of_x = of_declared sorts s good x here in (
-      named_sort sorts x here ∙ ap (λ (sort : Sort). Some sort) (sym of_x.1),
+      named sorts x here ∙ ap (λ (sort : Sort). Some sort) (sym of_x.1),
       of_x.0,
-      present_sorted sorts s good rest (λ (y : ℕ) (h : is_in rest y ≡ true). all y (either_right (y == x) (is_in rest y) h)),
+      present_sorted sorts s good rest (λ (y : ℕ) (h : is_in rest y ≡ true). all y (or_right (y == x) (is_in rest y) h)),
     )
 
 -- a store with new terms for names that code assigns
@@ -58,7 +50,7 @@ assigned_sorted sorts c s new well good of_new = record {
   declared = λ (x : ℕ) (sort : Sort) (e : sorts x ≡ Some sort).
       choice_sorted sorts sort (assigns c x) (new x) (s x)
       (λ (h : assigns c x ≡ true).
-      subst (λ (r : Sort). HasSort sorts r (new x)) (sort_is sorts x sort e) (of_new x (declared_with sorts x sort e)))
+      subst (λ (r : Sort). HasSort sorts r (new x)) (sort_is sorts x sort e) (of_new x (named_declared sorts x sort e)))
       (λ (h : assigns c x ≡ false). good.declared x sort e);
   other = λ (x : ℕ) (e : sorts x ≡ None). left x (assigns c x) refl e;
 }
@@ -268,8 +260,8 @@ after_block_sorted sorts k st counts keep b kept =
 
 -- the place of an output's cell
 pub place_sorted : (sorts : Sorts) (x : ℕ) (sort : Sort) (c : Copy) → sorts x ≡ Some sort → HasSort sorts Num (place (x, sort) c)
-place_sorted sorts x Num c e = (declared_with sorts x Num e, sort_is sorts x Num e)
-place_sorted sorts x Arr c e = ((declared_with sorts x Arr e, sort_is sorts x Arr e, tt, refl), refl)
+place_sorted sorts x Num c e = (named_declared sorts x Num e, sort_is sorts x Num e)
+place_sorted sorts x Arr c e = ((named_declared sorts x Arr e, sort_is sorts x Arr e, tt, refl), refl)
 
 -- the goals of outputs
 pub goals_sorted : (sorts : Sorts) (outputs : List (ℕ × Sort)) → AreOutputsDeclared sorts outputs →
@@ -284,7 +276,7 @@ goals_sorted sorts (output ∷ rest) d =
 -- the start store
 pub start_store_sorted : (sorts : Sorts) → IsStoreSorted sorts start_store
 start_store_sorted sorts = record {
-  declared = λ (x : ℕ) (sort : Sort) (e : sorts x ≡ Some sort). (declared_with sorts x sort e, sort_is sorts x sort e);
+  declared = λ (x : ℕ) (sort : Sort) (e : sorts x ≡ Some sort). (named_declared sorts x sort e, sort_is sorts x sort e);
   other = λ (x : ℕ) (e : sorts x ≡ None). refl;
 }
 

@@ -1,34 +1,22 @@
 -- Terms and formulas that are made of sorted ones are sorted.
-use Rattle.std.proofs.Common.{◌≡◌, ℕ, Bool, true, false, ◌==◌, if◌then◌else◌, Option, Some, None, is_some, unwrap_or, List, [], ◌∷◌, ◌++◌}
-use Rattle.std.proofs.Common.{refl, ap, sym, ◌∙◌, subst}
+use Rattle.std.proofs.Common.{◌≡◌, ℕ, Bool, true, false, ◌==◌, if◌then◌else◌, Option, Some, None, unwrap_or, List, [], ◌∷◌, refl, ap, sym, ◌∙◌, subst}
 use Rattle.std.proofs.lemmas.Bool.{eqb-true}
 use Rattle.std.proofs.lemmas.Option.{same_Some}
-use Rattle.sm_syntax.specs.declared.tree.Cmp.{Cmp}
 use Rattle.sm_syntax.specs.declared.tree.Cmp.TheVariants as cmp
-use Rattle.sm_syntax.specs.declared.tree.Sort.{Sort}
-use Rattle.sm_syntax.specs.declared.tree.Sort.TheVariants.{Num, Arr}
 use Rattle.sm_syntax.specs.claim.Syntax as syntax
-use Rattle.sm_syntax.specs.claim.Syntax.{Expression, Condition, Code}
+use Rattle.sm_syntax.specs.claim.Syntax.{Expression, Condition}
+use Rattle.sm_syntax.specs.declared.tree.Cmp.{Cmp}
 use Rattle.sm_syntax.specs.claim.ConflictFree.{Copy}
 use Rattle.sm_syntax.specs.text.Sorts.{Sorts, IsWellSortedExpression, IsWellSortedCondition}
+use Rattle.sm_syntax.specs.declared.tree.Sort.{Sort}
+use Rattle.sm_syntax.specs.declared.tree.Sort.TheVariants.{Num, Arr}
 use Rattle.sm_term.specs.Terms.{Tree, Lit, Start, Havoc, Slot, Cell, Read, Write, Neg, Add, Sub, Mul, Fun, Arguments, Over, Given}
 use Rattle.sm_term.specs.Assertions.{Assertion, Yes, No, Eq, Ne, Le, Lt, And, Or, negate, conj}
 use Rattle.sm_term.specs.Symbolic.{SymbolicStore, with_term, term_of, comparison_form, form_of}
 use Rattle.sm_term.specs.Slots.{fill_term, fill_arguments, at_stores, all_at_stores}
-use Rattle.sm_term.specs.Sorted.{sort_named, tree_sort, IsDeclaredIn, IsSorted, AreArgumentsSorted, HasSort, IsFormSorted, AreFormsSorted}
-use Rattle.sm_term.specs.Sorted.{IsStoreSorted}
-
--- a name with a sort is declared
-pub declared_with : (sorts : Sorts) (x : ℕ) (sort : Sort) → sorts x ≡ Some sort → IsDeclaredIn sorts x
-declared_with sorts x sort e = ap (λ (o : Option Sort). is_some o) e
-
--- a declared name has the sort by which it is named
-pub named_sort : (sorts : Sorts) (x : ℕ) → IsDeclaredIn sorts x → sorts x ≡ Some (sort_named sorts x)
-named_sort sorts x here = of (sorts x) here
-  where
-    of : (o : Option Sort) → is_some o ≡ true → o ≡ Some (unwrap_or o Num)
-    of None e = absurd cc
-    of (Some sort) e = refl
+use Rattle.sm_term.specs.Sorted.{sort_named, tree_sort, IsDeclaredIn, IsSorted, AreArgumentsSorted, HasSort, IsFormSorted, AreFormsSorted, IsStoreSorted}
+use Rattle.sm_term.proofs.TermsLemmas.{named}
+use Rattle.sm_term.proofs.SortedForms.{negate_sorted, forms_append}
 
 -- the sort by which a name is named
 pub sort_is : (sorts : Sorts) (x : ℕ) (sort : Sort) → sorts x ≡ Some sort → sort_named sorts x ≡ sort
@@ -37,7 +25,7 @@ sort_is sorts x sort e = ap (λ (o : Option Sort). unwrap_or o Num) e
 -- the term of a name that is declared
 pub of_declared : (sorts : Sorts) (s : SymbolicStore) → IsStoreSorted sorts s → (x : ℕ) → IsDeclaredIn sorts x →
     HasSort sorts (sort_named sorts x) (s x)
-of_declared sorts s good x here = good.declared x (sort_named sorts x) (named_sort sorts x here)
+of_declared sorts s good x here = good.declared x (sort_named sorts x) (named sorts x here)
 
 -- the term of an expression
 pub term_sorted : (sorts : Sorts) (e : Expression) (s : SymbolicStore) → IsWellSortedExpression sorts e → IsStoreSorted sorts s →
@@ -72,17 +60,6 @@ compared_sorted sorts cmp.Le t u first second = (first, second)
 compared_sorted sorts cmp.Gt t u first second = (second, first)
 compared_sorted sorts cmp.Ge t u first second = (second, first)
 
--- a formula's contrary
-pub negate_sorted : (sorts : Sorts) (f : Assertion) → IsFormSorted sorts f → IsFormSorted sorts (negate f)
-negate_sorted sorts Yes b = tt
-negate_sorted sorts No b = tt
-negate_sorted sorts (Eq sort t u) b = b
-negate_sorted sorts (Ne sort t u) b = b
-negate_sorted sorts (Le t u) b = (b.1, b.0)
-negate_sorted sorts (Lt t u) b = (b.1, b.0)
-negate_sorted sorts (And p q) b = (negate_sorted sorts p b.0, negate_sorted sorts q b.1)
-negate_sorted sorts (Or p q) b = (negate_sorted sorts p b.0, negate_sorted sorts q b.1)
-
 -- the formula of a condition
 pub form_sorted : (sorts : Sorts) (b : Condition) (s : SymbolicStore) → IsWellSortedCondition sorts b → IsStoreSorted sorts s →
     IsFormSorted sorts (form_of b s)
@@ -93,12 +70,6 @@ form_sorted sorts (syntax.Compare op d e) s w good =
 form_sorted sorts (syntax.Not c) s w good = negate_sorted sorts (form_of c s) (form_sorted sorts c s w good)
 form_sorted sorts (syntax.And c d) s w good = (form_sorted sorts c s w.0 good, form_sorted sorts d s w.1 good)
 form_sorted sorts (syntax.Or c d) s w good = (form_sorted sorts c s w.0 good, form_sorted sorts d s w.1 good)
-
--- formulas one after the other
-pub forms_append : (sorts : Sorts) (fs gs : List Assertion) → AreFormsSorted sorts fs → AreFormsSorted sorts gs →
-    AreFormsSorted sorts (fs ++ gs)
-forms_append sorts [] gs b d = d
-forms_append sorts (f ∷ fs) gs b d = (b.0, forms_append sorts fs gs b.1 d)
 
 -- the parts of a conjunction
 pub conj_sorted : (sorts : Sorts) (f : Assertion) → IsFormSorted sorts f → AreFormsSorted sorts (conj f)

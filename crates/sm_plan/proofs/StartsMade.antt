@@ -1,6 +1,5 @@
 -- The start values of declared names, which are numbered from 0 on.
-use Rattle.std.proofs.Common.{◌≡◌, ℕ, zero, suc, ◌+◌, ◌<◌, ◌==◌, Bool, true, false, if◌then◌else◌, Option, Some, None, is_some, List, []}
-use Rattle.std.proofs.Common.{◌∷◌, ◌++◌, length, map, get_or, slice_get, refl, sym, ap, ◌∙◌, arith}
+use Rattle.std.proofs.Common.{◌≡◌, ℕ, zero, suc, ◌+◌, ◌<◌, ◌==◌, Bool, true, false, if◌then◌else◌, Option, Some, None, is_some, List, [], ◌∷◌, ◌++◌, length, map, get_or, slice_get, refl, sym, ap, ◌∙◌, arith}
 use Rattle.std.specs.List.{range_with_len}
 use Rattle.std.proofs.lemmas.Bool.{eq-eqb, eqb-true}
 use Rattle.std.proofs.lemmas.List.{length-map}
@@ -10,15 +9,16 @@ use Rattle.std.proofs.Math.Path.{fun_ext}
 use Rattle.sm_syntax.specs.declared.tree.Name.{Name}
 use Rattle.sm_syntax.specs.declared.tree.Sort.{Sort}
 use Rattle.sm_syntax.specs.text.Parts.{sort_of}
-use Rattle.sm_term.specs.declared.term.TermId.{TermId}
-use Rattle.sm_term.specs.declared.symbolic.SymStore.{SymStore}
 use Rattle.sm_term.specs.Terms.{Tree, Start}
 use Rattle.sm_term.specs.SymStores.{tree_or_start, store_in}
+use Rattle.sm_term.specs.declared.symbolic.SymStore.{SymStore}
 use Rattle.sm_term.specs.Tables.{TableValue, trees_in, tree_at, AreBefore}
+use Rattle.sm_term.specs.declared.term.TermId.{TermId}
 use Rattle.sm_term.specs.TableLaws.{ExtendsTable}
 use Rattle.sm_plan.specs.Starts.{AreNumbered}
 use Rattle.sm_plan.specs.States.{start_store}
 use Rattle.sm_plan.proofs.TablesWiden.{tree_stays}
+use Rattle.sm_lemmas.proofs.Lists.{get_mapped}
 
 -- declarations by number
 abbrev pub pairs : List (Name × Sort) → List (ℕ × Sort)
@@ -61,21 +61,16 @@ declared_below ds numbered x h =
     let same : 0 + r.0 ≡ x = sym (get_or-range_with_len 0 (length ds) r.0 0 r.1) ∙ place in
     omega (arith, same, r.1)
 
-at_map : {T U : Type 0} (f : T → U) (l : List T) (i : ℕ) (a : T) → slice_get l i ≡ Some a → slice_get (map f l) i ≡ Some (f a)
-at_map f [] i a e = absurd cc
-at_map f (b ∷ l) zero a e = ap (λ x. Some (f x)) (same_Some b a e)
-at_map f (b ∷ l) (suc i) a e = at_map f l i a e
-
 -- the start values of numbered names
 start_at : (trees : List Tree) (l : List TermId) (names : List ℕ) → trees_of trees l ≡ map (λ (n : ℕ). Start n) names →
     names ≡ range_with_len 0 (length names) →
     (x : ℕ) (t : TermId) → slice_get l x ≡ Some t → tree_at trees t.0 ≡ Start x
 start_at trees l names e numbered x t s =
     let here : slice_get (map (λ (n : ℕ). Start n) names) x ≡ Some (tree_at trees t.0) = ap (λ m. slice_get m x) (sym e)
-    ∙ at_map (λ (u : TermId). tree_at trees u.0) l x t s in
+    ∙ get_mapped (λ (u : TermId). tree_at trees u.0) l x t s in
     let long = length-map names (λ (n : ℕ). Start n) in
     let inside : x < length names = omega (arith, long, slice_get_within (map (λ (n : ℕ). Start n) names) x (tree_at trees t.0) here) in
-    let named = at_map (λ (n : ℕ). Start n) names x (get_or names x 0) (slice_get-get_or names x 0 inside) in
+    let named = get_mapped (λ (n : ℕ). Start n) names x (get_or names x 0) (slice_get-get_or names x 0 inside) in
     let same : tree_at trees t.0 ≡ Start (get_or names x 0) = same_Some (tree_at trees t.0) (Start (get_or names x 0)) (sym here ∙ named) in
     let number : get_or names x 0 ≡ x = ap (λ l. get_or l x 0) numbered ∙ get_or-range_with_len 0 (length names) x 0 inside ∙ omega arith in
     same ∙ ap (λ (n : ℕ). Start n) number

@@ -3,18 +3,16 @@ use Rattle.std.proofs.Common.{◌≡◌, Some, List, [], ◌∷◌, ◌++◌, le
 use Rattle.sm_syntax.specs.claim.ConflictFree.{Copy}
 use Rattle.sm_syntax.specs.text.Sorts.{IsWellSorted}
 use Rattle.sm_syntax.specs.trees.Copies.{of_copy}
-use Rattle.sm_term.specs.declared.symbolic.SymStore.{SymStore}
 use Rattle.sm_term.specs.Assertions.{Assertion}
 use Rattle.sm_term.specs.Sorted.{IsStoreSorted}
 use Rattle.sm_term.specs.SymStores.{store_in, IsStoreWithin}
+use Rattle.sm_term.specs.declared.symbolic.SymStore.{SymStore}
 use Rattle.sm_term.specs.Tables.{TableValue, trees_in, sorts_in}
 use Rattle.sm_term.specs.TableLaws.{AddsTerms}
-use Rattle.sm_plan.specs.declared.rest.Continuation.{Continuation}
-use Rattle.sm_plan.specs.declared.state.SymState.{SymState}
 use Rattle.sm_plan.specs.Copies.{with_copy}
 use Rattle.sm_plan.specs.Nodes as plan
 use Rattle.sm_plan.specs.Successors.{stepped, moved}
-use Rattle.sm_plan.specs.Views.{rest_code, state_in}
+use Rattle.sm_plan.specs.Views.{rest_code, state_in, SymState, Continuation}
 use Rattle.sm_plan.specs.ReadyStates.{IsStoreFull, IsStateReady}
 use Rattle.sm_plan.proofs.OpeningsMade.{no_facts}
 use Rattle.sm_plan.proofs.PartsMoved.{numbers_of, moved_is, moved_ready}

@@ -1,22 +1,16 @@
 -- A store with another term for a name.
-use Rattle.std.proofs.Common.{◌≡◌, ℕ, zero, suc, ◌<◌, ◌==◌, Bool, true, false, if◌then◌else◌, Some, List, [], ◌∷◌, length, slice_get}
-use Rattle.std.proofs.Common.{slice_set, refl, sym, ap, ◌∙◌, subst, arith}
+use Rattle.std.proofs.Common.{◌≡◌, ℕ, zero, suc, ◌<◌, ◌==◌, Bool, true, false, if◌then◌else◌, Some, List, [], ◌∷◌, length, slice_get, slice_set, refl, sym, ap, ◌∙◌, subst}
 use Rattle.std.proofs.lemmas.Bool.{eqb-true, eqb-false}
 use Rattle.std.proofs.Math.Path.{fun_ext}
-use Rattle.sm_term.specs.declared.term.TermId.{TermId}
-use Rattle.sm_term.specs.declared.symbolic.SymStore.{SymStore}
 use Rattle.sm_term.specs.Terms.{Tree}
 use Rattle.sm_term.specs.Symbolic.{with_term}
 use Rattle.sm_term.specs.SymStores.{tree_or_start, store_in, IsStoreWithin}
+use Rattle.sm_term.specs.declared.symbolic.SymStore.{SymStore}
 use Rattle.sm_term.specs.Tables.{TableValue, trees_in, AreBefore}
+use Rattle.sm_term.specs.declared.term.TermId.{TermId}
 use Rattle.sm_term.specs.TableLaws.{AddsTerms}
 use Rattle.sm_term.proofs.ExpressionLemmas.{tree_got, there, store-more, within_more}
-
--- what stands in a list after a write
-set_same : {T : Type 0} (l : List T) (x : ℕ) (t : T) → x < length l → slice_get (slice_set l x t) x ≡ Some t
-set_same [] x t h = absurd (omega arith)
-set_same (a ∷ l) zero t h = refl
-set_same (a ∷ l) (suc x) t h = set_same l x t (omega arith)
+use Rattle.sm_lemmas.proofs.Lists.{get_set}
 
 set_other : {T : Type 0} (l : List T) (x y : ℕ) (t : T) → (y ≡ x → ⊥) → slice_get (slice_set l x t) y ≡ slice_get l y
 set_other [] x y t h = refl
@@ -36,7 +30,7 @@ store_set trees s u x t tree h e got =
         ≡ (if b then tree else store_in trees s y)
     by y true is =
         ap (λ (z : ℕ). tree_or_start trees y (slice_get (slice_set s.list.items x t) z)) (eqb-true y x is)
-        ∙ ap (tree_or_start trees y) (set_same s.list.items x t h) ∙ tree_got trees t.0 tree got
+        ∙ ap (tree_or_start trees y) (get_set s.list.items x t h) ∙ tree_got trees t.0 tree got
     by y false is = ap (tree_or_start trees y) (set_other s.list.items x y t (eqb-false y x is))
 
 -- over a table that has grown, a store with a written list has the new term for the name

@@ -1,6 +1,5 @@
 -- The terms of a summary's inputs, and the store with the summaries of some names.
-use Rattle.std.proofs.Common.{◌≡◌, ℕ, zero, suc, ◌+◌, ◌<◌, ◌==◌, ◌||◌, Bool, true, false, if◌then◌else◌, Some, List, [], ◌∷◌, ◌++◌, length}
-use Rattle.std.proofs.Common.{map, take, get_or, slice_get, refl, sym, ap, ◌∙◌, arith}
+use Rattle.std.proofs.Common.{◌≡◌, ℕ, zero, suc, ◌+◌, ◌<◌, ◌==◌, ◌||◌, Bool, true, false, if◌then◌else◌, Some, List, [], ◌∷◌, ◌++◌, length, map, take, get_or, slice_get, refl, sym, ap, ◌∙◌, arith}
 use Rattle.std.proofs.lemmas.Bool.{eq-eqb, eqb-true, and_from}
 use Rattle.std.proofs.lemmas.List.Folds.{list_any-append}
 use Rattle.std.proofs.lemmas.Option.{slice_get-get_or, get_or_from_slice_get, slice_get_read}
@@ -12,14 +11,14 @@ use Rattle.sm_syntax.specs.text.Conditions.{is_in}
 use Rattle.sm_syntax.specs.text.Sorts.{Sorts}
 use Rattle.sm_syntax.specs.Assigns.{assigns}
 use Rattle.sm_deps.specs.Inputs.{inputs}
-use Rattle.sm_term.specs.declared.term.TermId.{TermId}
-use Rattle.sm_term.specs.declared.symbolic.SymStore.{SymStore}
 use Rattle.sm_term.specs.Terms.{Tree, Fun, Given}
 use Rattle.sm_term.specs.Fitting.{arguments_fit}
 use Rattle.sm_term.specs.Symbolic.{SymbolicStore, with_term}
 use Rattle.sm_term.specs.Sorted.{sort_named, IsDeclaredIn}
 use Rattle.sm_term.specs.SymStores.{tree_or_start, store_in}
+use Rattle.sm_term.specs.declared.symbolic.SymStore.{SymStore}
 use Rattle.sm_term.specs.Tables.{arguments_in, AreBefore, AreNamesDeclared}
+use Rattle.sm_term.specs.declared.term.TermId.{TermId}
 use Rattle.sm_term.proofs.ExpressionLemmas.{sort_got, name_stored}
 use Rattle.sm_term.proofs.TermsLemmas.{part_before}
 use Rattle.sm_plan.specs.Openings.{terms_named, AreNamesBelow}

@@ -1,7 +1,5 @@
 -- What a table's numbers stand for stays where the table has more behind.
-use Rattle.std.proofs.Common.{◌≡◌, ℕ, zero, suc, ◌<◌, ◌≤◌, Option, Some, None, List, [], ◌∷◌, ◌++◌, length, slice_get, refl, sym, ap, ◌∙◌}
-use Rattle.std.proofs.Common.{subst, arith}
-use Rattle.std.proofs.Common.{append-nil, append_assoc, take}
+use Rattle.std.proofs.Common.{◌≡◌, ℕ, zero, suc, ◌<◌, ◌≤◌, Option, Some, None, List, [], ◌∷◌, ◌++◌, length, slice_get, refl, sym, ap, ◌∙◌, subst, arith, append-nil, append_assoc, take}
 use Rattle.std.proofs.Math.Seq.{take-append_seam}
 use Rattle.std.proofs.Math.Path.{fun_ext}
 use Rattle.std.proofs.lemmas.List.{length-append}
@@ -10,21 +8,20 @@ use Rattle.sm_syntax.specs.claim.ConflictFree.{Copy}
 use Rattle.sm_syntax.specs.text.Sorts.{Sorts, IsWellSorted}
 use Rattle.sm_syntax.specs.trees.Copies.{of_copy}
 use Rattle.sm_syntax.specs.declared.copies.PerCopy.{PerCopy}
-use Rattle.sm_term.specs.declared.term.TermId.{TermId}
-use Rattle.sm_term.specs.declared.formula.Formula.{Formula}
-use Rattle.sm_term.specs.declared.symbolic.SymStore.{SymStore}
 use Rattle.sm_term.specs.Terms.{Tree}
 use Rattle.sm_term.specs.Assertions as plain
 use Rattle.sm_term.specs.Assertions.{Assertion}
 use Rattle.sm_term.specs.Sorted.{tree_sort, IsFormSorted, IsStoreSorted}
 use Rattle.sm_term.specs.Formulas.{NumberedFormula, Yes, No, Eq, Ne, Le, Lt, And, Or, numbered, assertion_in, IsFormulaWithin}
+use Rattle.sm_term.specs.declared.formula.Formula.{Formula}
 use Rattle.sm_term.specs.SymStores.{tree_or_start, store_in, IsStoreWithin}
+use Rattle.sm_term.specs.declared.symbolic.SymStore.{SymStore}
 use Rattle.sm_term.specs.Tables.{TableValue, trees_in, sorts_in, codes_in, tree_at}
+use Rattle.sm_term.specs.declared.term.TermId.{TermId}
 use Rattle.sm_term.specs.TableLaws.{AddsTerms, ExtendsTable}
 use Rattle.sm_term.proofs.TermsLemmas.{part_before}
 use Rattle.sm_term.proofs.TreesLemmas.{tree_at-more, before-later}
-use Rattle.sm_plan.specs.declared.state.SymState.{SymState}
-use Rattle.sm_plan.specs.Views.{rest_code, forms_in, stores_in, state_in}
+use Rattle.sm_plan.specs.Views.{rest_code, forms_in, stores_in, state_in, SymState}
 use Rattle.sm_plan.specs.ReadyStates.{IsFormReady, AreFormsReady, IsStoreReady, AreStoresReady, AreStoresFull, IsStateReady}
 
 -- a table widens by nothing, by what it grows, and twice

@@ -1,18 +1,17 @@
 -- The goals of outputs over a table that grows.
-use Rattle.std.proofs.Common.{◌≡◌, ℕ, zero, suc, ◌+◌, ◌<◌, Some, List, [], ◌∷◌, ◌++◌, length, map, take, get_or, refl, sym, ap, subst, ◌∙◌}
-use Rattle.std.proofs.Common.{arith}
+use Rattle.std.proofs.Common.{◌≡◌, ℕ, zero, suc, ◌+◌, ◌<◌, Some, List, [], ◌∷◌, ◌++◌, length, map, take, get_or, refl, sym, ap, subst, ◌∙◌, arith}
 use Rattle.std.specs.List.{flat_map}
 use Rattle.std.proofs.lemmas.List.{take_more}
 use Rattle.std.proofs.lemmas.Grind.{flat_map-append}
 use Rattle.sm_syntax.specs.declared.tree.Name.{Name}
-use Rattle.sm_syntax.specs.declared.tree.Sort.{Sort}
-use Rattle.sm_syntax.specs.declared.tree.Sort.TheVariants.{Num}
 use Rattle.sm_syntax.specs.claim.ConflictFree.{Copy, O, A, B, M, copy_of}
 use Rattle.sm_syntax.specs.text.Sorts.{Sorts}
+use Rattle.sm_syntax.specs.declared.tree.Sort.{Sort}
+use Rattle.sm_syntax.specs.declared.tree.Sort.TheVariants.{Num}
 use Rattle.sm_syntax.specs.trees.Copies.{number_of}
-use Rattle.sm_term.specs.declared.formula.Formula.{Formula}
 use Rattle.sm_term.specs.Assertions.{Eq, Ne, Or}
 use Rattle.sm_term.specs.Formulas.{NumberedFormula, numbered, assertion_in}
+use Rattle.sm_term.specs.declared.formula.Formula.{Formula}
 use Rattle.sm_term.specs.Sorted.{sort_named, tree_sort, AreFormsSorted}
 use Rattle.sm_term.specs.Terms.{Tree}
 use Rattle.sm_term.specs.Tables.{TableValue, trees_in, sorts_in, tree_at}
@@ -31,12 +30,6 @@ copy_back O = refl
 copy_back A = refl
 copy_back B = refl
 copy_back M = refl
-
--- formulas by way of their numbers
-pub forms_map : (sorts : Sorts) (trees : List Tree) (fs : List Formula) →
-    forms_in sorts trees fs ≡ map (assertion_in sorts trees) (map numbered fs)
-forms_map sorts trees [] = refl
-forms_map sorts trees (f ∷ fs) = ap (λ l. assertion_in sorts trees (numbered f) ∷ l) (forms_map sorts trees fs)
 
 -- the goals of an output, where its places are known
 pub goals_are : (sorts : Sorts) (trees : List Tree) (at : Copy → ℕ) (o : ℕ × Sort) → ((c : Copy) → tree_at trees (at c) ≡ place o c) →

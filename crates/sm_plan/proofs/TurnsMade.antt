@@ -1,24 +1,22 @@
 -- The turns of loops, by ascending masks.
-use Rattle.std.proofs.Common.{◌≡◌, ℕ, zero, suc, ◌+◌, ◌==◌, ◌≤◌, ◌<◌, bit_and, Bool, true, false, if◌then◌else◌, List, [], ◌∷◌, ◌++◌, map}
-use Rattle.std.proofs.Common.{length, refl, sym, ap, ◌∙◌, subst, arith}
+use Rattle.std.proofs.Common.{◌≡◌, ℕ, zero, suc, ◌+◌, ◌==◌, ◌≤◌, ◌<◌, bit_and, Bool, true, false, if◌then◌else◌, List, [], ◌∷◌, ◌++◌, map, length, refl, sym, ap, ◌∙◌, subst, arith}
 use Rattle.std.specs.List.{filter, range_with_len}
 use Rattle.std.proofs.lemmas.List.Elements.{filter-append}
-use Rattle.std.proofs.Math.Path.{fun_ext}
 use Rattle.sm_syntax.specs.claim.Syntax.{Code, End}
 use Rattle.sm_syntax.specs.text.Sorts.{Sorts, IsWellSorted}
 use Rattle.sm_term.specs.declared.symbolic.SymStore.{SymStore}
-use Rattle.sm_term.specs.declared.term.TermId.{TermId}
 use Rattle.sm_term.specs.Sorted.{IsDeclaredIn, IsStoreSorted}
 use Rattle.sm_term.specs.Tables.{AreBefore}
+use Rattle.sm_term.specs.declared.term.TermId.{TermId}
 use Rattle.sm_term.specs.Terms.{Tree}
-use Rattle.sm_plan.specs.declared.opening.Successor.{Successor}
 use Rattle.sm_plan.specs.Copies.{Copies, subsets}
 use Rattle.sm_plan.specs.Masks.{set_of, mask_of}
-use Rattle.sm_plan.specs.ReadyStates.{IsStoreReady, IsStoreFull, IsSuccessorReady, AreSuccessorsReady}
+use Rattle.sm_plan.specs.ReadyStates.{IsStoreReady, IsStoreFull, IsSuccessorReady, AreSuccessorsReady, Successor}
 use Rattle.sm_plan.specs.Statements.{loop_body, rest_after}
 use Rattle.sm_plan.proofs.MasksExact.{subsets_ascend, mask_exact}
 use Rattle.sm_plan.proofs.RenewedStores.{store_alike}
 use Rattle.sm_plan.proofs.SortedCode.{body_well, rest_well}
+use Rattle.sm_lemmas.proofs.Lists.{range_more}
 
 -- stores with the same terms
 pub same_store_ready : (sorts : Sorts) (trees : List Tree) (s u : SymStore) → u.list.items ≡ s.list.items → IsStoreReady sorts trees s →
@@ -37,19 +35,12 @@ pub bodies_ready : (sorts : Sorts) (b : Bool) (code : Code) → IsWellSorted sor
 bodies_ready sorts true code well = body_well sorts code well
 bodies_ready sorts false code well = tt
 
--- one mask more
-range_push : (a n : ℕ) → range_with_len a (suc n) ≡ range_with_len a n ++ (a + n) ∷ []
-range_push a zero = ap (λ (m : ℕ). m ∷ []) (omega arith)
-range_push a (suc n) =
-    ap (λ (l : List ℕ). a ∷ l) (range_push (a + 1) n)
-    ∙ ap (λ (m : ℕ). range_with_len a (suc n) ++ m ∷ []) (omega arith)
-
 pub filter_push : (p : ℕ → Bool) (n : ℕ) → filter p (range_with_len 1 (n + 1)) ≡ filter p (range_with_len 1 n)
     ++ (if p (n + 1) then (n + 1) ∷ [] else [])
 filter_push p n =
     let more : n + 1 ≡ suc n = omega arith in
     let same : 1 + n ≡ n + 1 = omega arith in
-    ap (λ (m : ℕ). filter p (range_with_len 1 m)) more ∙ ap (filter p) (range_push 1 n)
+    ap (λ (m : ℕ). filter p (range_with_len 1 m)) more ∙ ap (filter p) (range_more 1 n)
     ∙ filter-append p (range_with_len 1 n) ((1 + n) ∷ [])
     ∙ ap (λ (m : ℕ). filter p (range_with_len 1 n) ++ (if p m then m ∷ [] else [])) same
 

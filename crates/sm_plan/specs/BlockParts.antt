@@ -3,18 +3,17 @@ use Rattle.std.specs.Prelude.{◌≡◌, ℕ, false, List}
 use Rattle.sm_syntax.specs.claim.ConflictFree.{Copy}
 use Rattle.sm_syntax.specs.text.Sorts.{Sorts}
 use Rattle.sm_syntax.specs.trees.Copies.{of_copy}
-use Rattle.sm_term.specs.declared.formula.Formula.{Formula}
 use Rattle.sm_term.specs.Assertions.{conj}
 use Rattle.sm_term.specs.Formulas.{numbered, assertion_in}
+use Rattle.sm_term.specs.declared.formula.Formula.{Formula}
 use Rattle.sm_term.specs.Slots.{all_at_stores}
 use Rattle.sm_term.specs.Tables.{TableValue, trees_in, sorts_in}
 use Rattle.sm_term.specs.Terms.{Tree}
 use Rattle.sm_plan.specs.declared.blocks.BlockParts.{BlockParts}
-use Rattle.sm_plan.specs.declared.state.SymState.{SymState}
 use Rattle.sm_plan.specs.ReadyStates.{AreFormsReady, AreStoresReady, AreStoresFull}
 use Rattle.sm_plan.specs.Statements.{front}
 use Rattle.sm_plan.specs.Successors.{renewed}
-use Rattle.sm_plan.specs.Views.{rest_code, forms_in, stores_in}
+use Rattle.sm_plan.specs.Views.{rest_code, forms_in, stores_in, SymState}
 
 -- over a later table: the first statements of each copy, new values for what they assign, and the
 -- kept formula, in parts and with these values

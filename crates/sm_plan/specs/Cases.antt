@@ -10,12 +10,10 @@
 --
 -- Loops with unequal steps: `while (y > 0) { x = x + 2; y = y - 1; }`, but `x = x + 1;` in A.
 -- Summaries of different code are different terms. No plan shows this merge.
-use Rattle.std.specs.Prelude.{◌≡◌, ℕ, suc, pos, true, false, Option, Some, None, option_map, Ok}
-use Rattle.std.specs.Prelude.{List, [], ◌∷◌, ◌++◌, length}
+use Rattle.std.specs.Prelude.{◌≡◌, ℕ, suc, pos, true, false, Option, Some, None, option_map, Ok, List, [], ◌∷◌, ◌++◌, length}
 use Rattle.sm_syntax.specs.declared.tree.Cmp.TheVariants as cmp
 use Rattle.sm_syntax.specs.declared.tree.Sort.TheVariants.{Num}
-use Rattle.sm_syntax.specs.claim.Syntax.{Condition, Code, End, Skip, Assign, While, Hole, Compare}
-use Rattle.sm_syntax.specs.claim.Syntax.{Expression, Var, Lit, Plus, Minus}
+use Rattle.sm_syntax.specs.claim.Syntax.{Condition, Code, End, Skip, Assign, While, Hole, Compare, Expression, Var, Lit, Plus, Minus}
 use Rattle.sm_syntax.specs.claim.Syntax as syntax
 use Rattle.sm_syntax.specs.text.Parts.{by_copy}
 use Rattle.sm_syntax.specs.claim.ConflictFree.{Copy, O, A, B, M, Task, ConflictFree}

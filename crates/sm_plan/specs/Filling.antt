@@ -1,8 +1,6 @@
 -- Private: terms with their slots replaced, while they are made part by part.
-use Rattle.std.specs.Prelude.{◌≡◌, ◌<◌, ◌+◌, ℕ, zero, suc, IsTrue, Option, Some, None, is_some}
-use Rattle.std.specs.Prelude.{if◌then◌else◌, List, [], ◌∷◌, length, map, slice_get}
+use Rattle.std.specs.Prelude.{◌≡◌, ◌<◌, ◌+◌, ℕ, zero, suc, IsTrue, Option, Some, None, is_some, if◌then◌else◌, List, [], ◌∷◌, length, map, slice_get}
 use Rattle.sm_syntax.specs.claim.ConflictFree.{Copy}
-use Rattle.sm_term.specs.declared.term.TermId.{TermId}
 use Rattle.sm_term.specs.declared.term.Term.TheVariants as row
 use Rattle.sm_term.specs.declared.term.Terms.{Terms}
 use Rattle.sm_term.specs.declared.term.BodyId.{BodyId}
@@ -12,8 +10,8 @@ use Rattle.sm_syntax.specs.trees.Programs.{outputs_of}
 use Rattle.sm_term.specs.Fitting.{term_fits}
 use Rattle.sm_term.specs.Slots.{fill_term}
 use Rattle.sm_term.specs.Symbolic.{SymbolicStore}
-use Rattle.sm_term.specs.Tables.{TableValue, trees_in, sorts_in, codes_in, tree_at, tree_in}
-use Rattle.sm_term.specs.Tables.{IsTermWithin, AreBefore}
+use Rattle.sm_term.specs.Tables.{TableValue, trees_in, sorts_in, codes_in, tree_at, tree_in, IsTermWithin, AreBefore}
+use Rattle.sm_term.specs.declared.term.TermId.{TermId}
 use Rattle.sm_plan.specs.declared.filling.Filling.{Filling}
 use Rattle.sm_plan.specs.declared.filling.Filling.TheVariants.{There, Made, Part}
 use Rattle.sm_plan.specs.declared.filling.Found.{Found}

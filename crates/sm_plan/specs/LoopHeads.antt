@@ -6,10 +6,9 @@ use Rattle.sm_term.specs.declared.formula.Formula.{Formula}
 use Rattle.sm_term.specs.Slots.{all_at_stores}
 use Rattle.sm_term.specs.Symbolic.{SymbolicStore}
 use Rattle.sm_term.specs.Tables.{TableValue, trees_in, sorts_in}
-use Rattle.sm_plan.specs.declared.state.SymState.{SymState}
 use Rattle.sm_plan.specs.Copies.{Copies}
 use Rattle.sm_plan.specs.Successors.{renewed}
-use Rattle.sm_plan.specs.Views.{rest_code, forms_in, stores_in}
+use Rattle.sm_plan.specs.Views.{rest_code, forms_in, stores_in, SymState}
 use Rattle.sm_syntax.specs.text.Sorts.{Sorts}
 use Rattle.sm_term.specs.Terms.{Tree}
 use Rattle.sm_plan.specs.declared.turns.Head.{Head}

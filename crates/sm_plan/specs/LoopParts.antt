@@ -3,21 +3,20 @@ use Rattle.std.specs.Prelude.{◌≡◌, ℕ, true, nat_le, List, map}
 use Rattle.sm_syntax.specs.claim.ConflictFree.{Copy}
 use Rattle.sm_syntax.specs.text.Sorts.{Sorts}
 use Rattle.sm_syntax.specs.trees.Copies.{of_copy}
-use Rattle.sm_term.specs.declared.formula.Formula.{Formula}
 use Rattle.sm_term.specs.Assertions.{Assertion, conj}
 use Rattle.sm_term.specs.Formulas.{numbered, assertion_in}
+use Rattle.sm_term.specs.declared.formula.Formula.{Formula}
 use Rattle.sm_term.specs.Slots.{all_at_stores}
 use Rattle.sm_term.specs.Tables.{TableValue, trees_in, sorts_in}
 use Rattle.sm_term.specs.Terms.{Tree}
 use Rattle.sm_plan.specs.declared.turns.LoopParts.{LoopParts}
-use Rattle.sm_plan.specs.declared.state.SymState.{SymState}
 use Rattle.sm_plan.specs.Copies.{subsets}
 use Rattle.sm_plan.specs.Heads.{guard_forms, guards_at}
 use Rattle.sm_plan.specs.LoopHeads.{IsHeadReady, stores_at}
 use Rattle.sm_plan.specs.Masks.{set_of}
 use Rattle.sm_plan.specs.ReadyStates.{AreFormsReady, AreSuccessorsReady}
 use Rattle.sm_plan.specs.Successors.{turn_state}
-use Rattle.sm_plan.specs.Views.{rest_code, forms_in, stores_in, state_in, successor_in}
+use Rattle.sm_plan.specs.Views.{rest_code, forms_in, stores_in, state_in, successor_in, SymState}
 
 -- over a later table: the kept formula before the loops, what their head has, and the turns where
 -- the number of the set is that of one

@@ -1,20 +1,17 @@
 -- Private: what the program opens at a state is what a node opens there.
-use Rattle.std.specs.Prelude.{◌≡◌, ◌⊎◌, ◌<◌, ℕ, Bool, true, false, Option, Some, None}
-use Rattle.std.specs.Prelude.{List, [], ◌∷◌, map, get_or, option_map, IfSome}
+use Rattle.std.specs.Prelude.{◌≡◌, ◌⊎◌, ◌<◌, ℕ, Bool, true, false, Option, Some, None, List, [], ◌∷◌, map, get_or, option_map, IfSome}
 use Rattle.sm_syntax.specs.declared.tree.Name.{Name}
-use Rattle.sm_term.specs.declared.term.TermId.{TermId}
 use Rattle.sm_syntax.specs.claim.Syntax.{Code}
 use Rattle.sm_syntax.specs.claim.ConflictFree.{Copy}
 use Rattle.sm_syntax.specs.trees.Copies.{of_copy}
 use Rattle.sm_term.specs.Assertions.{Assertion}
 use Rattle.sm_term.specs.Symbolic.{SymbolicStore}
 use Rattle.sm_term.specs.Tables.{TableValue, trees_in, sorts_in}
-use Rattle.sm_plan.specs.declared.opening.Opened.{Opened}
-use Rattle.sm_plan.specs.declared.state.SymState.{SymState}
+use Rattle.sm_term.specs.declared.term.TermId.{TermId}
 use Rattle.sm_plan.specs.Copies.{with_copy}
 use Rattle.sm_plan.specs.Nodes as plan
 use Rattle.sm_plan.specs.ReadyStates.{AreSuccessorsReady, AreFormsReady, AreStoresReady}
-use Rattle.sm_plan.specs.Views.{rest_code, opened_in, stores_in}
+use Rattle.sm_plan.specs.Views.{rest_code, opened_in, stores_in, SymState, Opened}
 
 -- what a statement leaves of code and of a store, where it is done
 abbrev pub done_if : Bool → Code → SymbolicStore → Option (Code × SymbolicStore)

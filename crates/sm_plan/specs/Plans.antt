@@ -1,6 +1,5 @@
 -- Cited by public clauses: plans as trees of nodes, and the obligations of a plan.
-use Rattle.std.specs.Prelude.{ℕ, suc, ◌+◌, ◌==◌, Bool, ◌&&◌, if◌then◌else◌, max}
-use Rattle.std.specs.Prelude.{Option, Some, None, Result, Ok, Err, List, [], ◌∷◌, ◌++◌, length}
+use Rattle.std.specs.Prelude.{ℕ, suc, ◌+◌, ◌==◌, Bool, ◌&&◌, if◌then◌else◌, max, Option, Some, None, Result, Ok, Err, List, [], ◌∷◌, ◌++◌, length}
 use Rattle.sm_syntax.specs.claim.ConflictFree.{Task}
 use Rattle.sm_term.specs.Assertions.{Assertion, IsValid}
 use Rattle.sm_plan.specs.Limits.{is_shallow}

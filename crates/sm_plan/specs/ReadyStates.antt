@@ -4,17 +4,15 @@ use Rattle.sm_syntax.specs.claim.ConflictFree.{Copy}
 use Rattle.sm_syntax.specs.text.Sorts.{Sorts, IsWellSorted}
 use Rattle.sm_syntax.specs.trees.Copies.{of_copy}
 use Rattle.sm_syntax.specs.declared.copies.PerCopy.{PerCopy}
-use Rattle.sm_term.specs.declared.formula.Formula.{Formula}
-use Rattle.sm_term.specs.declared.symbolic.SymStore.{SymStore}
 use Rattle.sm_term.specs.Terms.{Tree}
 use Rattle.sm_term.specs.Formulas.{numbered, assertion_in, IsFormulaWithin}
+use Rattle.sm_term.specs.declared.formula.Formula.{Formula}
 use Rattle.sm_term.specs.Sorted.{IsFormSorted, IsStoreSorted, IsDeclaredIn}
 use Rattle.sm_term.specs.SymStores.{store_in, IsStoreWithin}
-use Rattle.sm_plan.specs.declared.node.NodeRow.{NodeRow}
+use Rattle.sm_term.specs.declared.symbolic.SymStore.{SymStore}
 use Rattle.sm_plan.specs.declared.node.NodeRow.TheVariants as row
-use Rattle.sm_plan.specs.declared.opening.Successor.{Successor}
-use Rattle.sm_plan.specs.declared.state.SymState.{SymState}
-use Rattle.sm_plan.specs.Views.{rest_code}
+pub use Rattle.sm_plan.specs.declared.opening.Successor.{Successor}
+use Rattle.sm_plan.specs.Views.{rest_code, SymState, NodeRow}
 
 -- a formula of a table, in which each part has the sort that it is used with
 abbrev pub IsFormReady : Sorts → List Tree → Formula → Type 0

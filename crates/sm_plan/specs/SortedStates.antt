@@ -1,7 +1,7 @@
 -- Cited by public clauses: states and nodes in which each part has the sort that it is used with.
 use Rattle.std.specs.Prelude.{◌≡◌, ℕ, Option, Some, None, List, [], ◌∷◌}
-use Rattle.sm_syntax.specs.declared.tree.Sort.{Sort}
 use Rattle.sm_syntax.specs.text.Sorts.{Sorts, IsWellSorted, IsWellSortedCondition}
+use Rattle.sm_syntax.specs.declared.tree.Sort.{Sort}
 use Rattle.sm_syntax.specs.claim.Syntax.{Condition}
 use Rattle.sm_syntax.specs.claim.ConflictFree.{Copy, Task, program_of}
 use Rattle.sm_term.specs.Sorted.{IsFormSorted, AreFormsSorted, IsStoreSorted}

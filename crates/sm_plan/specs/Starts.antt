@@ -2,9 +2,9 @@
 -- target over numbers of terms.
 use Rattle.std.specs.Prelude.{◌≡◌, ℕ, List, [], ◌∷◌, map, length}
 use Rattle.std.specs.List.{range_with_len}
-use Rattle.sm_syntax.specs.declared.tree.Sort.{Sort}
 use Rattle.sm_syntax.specs.claim.ConflictFree.{Copy, O, A, B, M}
 use Rattle.sm_syntax.specs.text.Sorts.{Sorts}
+use Rattle.sm_syntax.specs.declared.tree.Sort.{Sort}
 use Rattle.sm_term.specs.Formulas.{NumberedFormula, Eq, Ne, Or, IsFormulaWithin}
 use Rattle.sm_term.specs.Sorted.{sort_named}
 

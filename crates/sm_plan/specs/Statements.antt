@@ -1,7 +1,6 @@
 -- Cited by public clauses: the first statement of code, the code after it, and what is asked of
 -- both.
-use Rattle.std.specs.Prelude.{ℕ, zero, suc, Bool, true, false, if◌then◌else◌}
-use Rattle.std.specs.Prelude.{Option, Some, None, is_some, is_none}
+use Rattle.std.specs.Prelude.{ℕ, zero, suc, Bool, true, false, if◌then◌else◌, Option, Some, None, is_some, is_none}
 use Rattle.sm_syntax.specs.claim.Syntax as code
 use Rattle.sm_syntax.specs.claim.Syntax.{Expression, Condition, No, Code, End}
 

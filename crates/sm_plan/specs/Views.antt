@@ -4,23 +4,23 @@ use Rattle.std.specs.Prelude.{nat_le, if◌then◌else◌, List, [], ◌∷◌, 
 use Rattle.sm_syntax.specs.claim.Syntax.{Code, End}
 use Rattle.sm_syntax.specs.claim.ConflictFree.{Copy}
 use Rattle.sm_syntax.specs.text.Sorts.{Sorts}
-use Rattle.sm_syntax.specs.declared.copies.PerCopy.{PerCopy}
-use Rattle.sm_syntax.specs.declared.tree.Stmt.{Stmt}
 use Rattle.sm_syntax.specs.trees.Copies.{of_copy, copy_named}
+use Rattle.sm_syntax.specs.declared.copies.PerCopy.{PerCopy}
 use Rattle.sm_syntax.specs.trees.Views.{sequence, statement_of}
-use Rattle.sm_term.specs.declared.formula.Formula.{Formula}
-use Rattle.sm_term.specs.declared.symbolic.SymStore.{SymStore}
+use Rattle.sm_syntax.specs.declared.tree.Stmt.{Stmt}
 use Rattle.sm_term.specs.Terms.{Tree}
 use Rattle.sm_term.specs.Assertions.{Assertion}
 use Rattle.sm_term.specs.Formulas.{numbered, assertion_in}
+use Rattle.sm_term.specs.declared.formula.Formula.{Formula}
 use Rattle.sm_term.specs.Symbolic.{SymbolicStore}
 use Rattle.sm_term.specs.SymStores.{store_in}
-use Rattle.sm_plan.specs.declared.node.NodeRow.{NodeRow}
+use Rattle.sm_term.specs.declared.symbolic.SymStore.{SymStore}
+pub use Rattle.sm_plan.specs.declared.node.NodeRow.{NodeRow}
 use Rattle.sm_plan.specs.declared.node.NodeRow.TheVariants as row
-use Rattle.sm_plan.specs.declared.opening.Opened.{Opened}
+pub use Rattle.sm_plan.specs.declared.opening.Opened.{Opened}
 use Rattle.sm_plan.specs.declared.opening.Successor.{Successor}
-use Rattle.sm_plan.specs.declared.rest.Continuation.{Continuation}
-use Rattle.sm_plan.specs.declared.state.SymState.{SymState}
+pub use Rattle.sm_plan.specs.declared.rest.Continuation.{Continuation}
+pub use Rattle.sm_plan.specs.declared.state.SymState.{SymState}
 use Rattle.sm_plan.specs.Masks.{set_of}
 use Rattle.sm_plan.specs.Nodes as plan
 use Rattle.sm_plan.specs.States.{State}

@@ -3,7 +3,7 @@ ghost use Rattle.std.specs.Prelude.{◌≡◌, ◌&&◌, List, [], ◌∷◌, �
 ghost use Rattle.sm_syntax.specs.text.Sorts.{Sorts};
 ghost use Rattle.sm_term.specs.Assertions.{Assertion, conj};
 ghost use Rattle.sm_term.specs.Terms.{Tree};
-ghost use Rattle.sm_plan.specs.ReadyStates.{AreFormsReady, AreStoresReady, AreSuccessorsReady};
+ghost use Rattle.sm_plan.specs.ReadyStates.{AreFormsReady, AreStoresReady, AreSuccessorsReady, IsStateReady, IsFormReady};
 ghost use Rattle.sm_syntax.specs.claim.ConflictFree.{Copy};
 ghost use Rattle.sm_syntax.specs.trees.Copies.{of_copy};
 ghost use Rattle.sm_term.specs.Formulas.{numbered, assertion_in};
@@ -15,7 +15,6 @@ ghost use Rattle.sm_plan.specs.Copies.{each};
 ghost use Rattle.sm_plan.specs.Limits as limits;
 ghost use Rattle.sm_plan.specs.Nodes as plan;
 ghost use Rattle.sm_plan.specs.Openings.{IsOpening};
-ghost use Rattle.sm_plan.specs.ReadyStates.{IsStateReady, IsFormReady};
 ghost use Rattle.sm_plan.specs.Statements.{is_long, front, rest_after};
 ghost use Rattle.sm_plan.specs.Views.{rest_code, forms_in, state_in, stores_in, successor_in};
 

@@ -1,14 +1,12 @@
 // A term with the present terms of names in place of its slots.
-ghost use Rattle.std.specs.Prelude.{◌≡◌, ◌<◌, ◌⊎◌, length, Some, None, nat_eq, slice_get};
-ghost use Rattle.std.specs.Prelude.{IfOk, IfErr};
+ghost use Rattle.std.specs.Prelude.{◌≡◌, ◌<◌, ◌⊎◌, length, Some, None, nat_eq, slice_get, IfOk, IfErr};
 ghost use Rattle.std.specs.HashMap.{get};
 ghost use Rattle.sm_term.specs.Slots.{fill_term};
 ghost use Rattle.sm_term.specs.Tables.{trees_in, sorts_in, tree_at};
 ghost use Rattle.sm_term.specs.TableLaws.{AddsTerms};
 ghost use Rattle.sm_syntax.specs.claim.ConflictFree.{copy_of};
 ghost use Rattle.sm_syntax.specs.trees.Copies.{of_copy};
-ghost use Rattle.sm_plan.specs.Filling.{AreKnown, IsFilling, IsFound, ArePartsKnown};
-ghost use Rattle.sm_plan.specs.Filling.{IsSummary, at_name};
+ghost use Rattle.sm_plan.specs.Filling.{AreKnown, IsFilling, IsFound, ArePartsKnown, IsSummary, at_name};
 ghost use Rattle.sm_plan.specs.ReadyStates.{AreStoresReady};
 ghost use Rattle.sm_plan.specs.Views.{stores_in};
 

@@ -1,6 +1,5 @@
 // Loops of a set of copies: their bodies and guards.
-ghost use Rattle.std.specs.Prelude.{◌≡◌, ◌++◌, Bool, List, length, option_map, if◌then◌else◌};
-ghost use Rattle.std.specs.Prelude.{IfOk, IfSome, OnOk, Some, None};
+ghost use Rattle.std.specs.Prelude.{◌≡◌, ◌++◌, Bool, List, length, option_map, if◌then◌else◌, IfOk, IfSome, OnOk, Some, None};
 ghost use Rattle.sm_syntax.specs.claim.ConflictFree.{Copy};
 ghost use Rattle.sm_syntax.specs.claim.Syntax.{End};
 ghost use Rattle.sm_syntax.specs.text.Sorts.{Sorts, IsWellSorted};

@@ -1,6 +1,5 @@
 // Formulas that nodes keep.
-ghost use Rattle.std.specs.Prelude.{◌≡◌, ◌+◌, ◌<◌, ◌≤◌, ◌⊎◌, ◌++◌, List, map, max};
-ghost use Rattle.std.specs.Prelude.{MatchOption, IfOk, OnOk};
+ghost use Rattle.std.specs.Prelude.{◌≡◌, ◌+◌, ◌<◌, ◌≤◌, ◌⊎◌, ◌++◌, List, map, max, MatchOption, IfOk, OnOk};
 ghost use Rattle.sm_syntax.specs.text.Sorts.{Sorts};
 ghost use Rattle.sm_term.specs.Assertions.{conj};
 ghost use Rattle.sm_term.specs.Formulas.{numbered, assertion_in};

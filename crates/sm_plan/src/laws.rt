@@ -1,10 +1,7 @@
 // What plans prove, as contracts.
 ghost use Rattle.sm_plan.specs.Cases.{CasesComeOut};
 ghost use Rattle.sm_plan.specs.Example.{ExampleHolds};
-ghost use Rattle.sm_plan.specs.Laws.{NodeIsSound, NodeStaysBelow, NodeGoalsBelow, StartIsBelow};
-ghost use Rattle.sm_plan.specs.Laws.{SoundStartIsFree, PlanIsSound, NodesAreSound, PlanNodesProve};
-ghost use Rattle.sm_plan.specs.Laws.{NodesArePlan, SubsetsAscend, MaskIsExact};
-ghost use Rattle.sm_plan.specs.Laws.{SortsAreKept, StartIsSorted};
+ghost use Rattle.sm_plan.specs.Laws.{NodeIsSound, NodeStaysBelow, NodeGoalsBelow, StartIsBelow, SoundStartIsFree, PlanIsSound, NodesAreSound, PlanNodesProve, NodesArePlan, SubsetsAscend, MaskIsExact, SortsAreKept, StartIsSorted};
 
 /// A state is sound where a node's goals are valid and the states that it opens are sound.
 pub fn node_is_sound()

@@ -1,6 +1,5 @@
 // What the loops of a set of copies open.
-ghost use Rattle.std.specs.Prelude.{◌≡◌, ◌&&◌, ◌||◌, not, nat_le, List, if◌then◌else◌, IfOk};
-ghost use Rattle.std.specs.Prelude.{OnOk, IfSome, Some, None, option_map, length};
+ghost use Rattle.std.specs.Prelude.{◌≡◌, ◌&&◌, ◌||◌, not, nat_le, List, if◌then◌else◌, IfOk, OnOk, IfSome, Some, None, option_map, length};
 ghost use Rattle.sm_syntax.specs.claim.ConflictFree.{Copy};
 ghost use Rattle.sm_syntax.specs.text.Sorts.{Sorts, IsWellSorted};
 ghost use Rattle.sm_syntax.specs.trees.Copies.{copy_named, of_copy};
@@ -18,8 +17,7 @@ ghost use Rattle.sm_plan.specs.LoopParts.{IsLoopOf, IsLoopReady};
 ghost use Rattle.sm_plan.specs.Masks.{set_of};
 ghost use Rattle.sm_plan.specs.Nodes as plan;
 ghost use Rattle.sm_plan.specs.Openings.{IsOpening};
-ghost use Rattle.sm_plan.specs.ReadyStates.{IsFormReady, AreFormsReady, IsStateReady};
-ghost use Rattle.sm_plan.specs.ReadyStates.{IsStoreReady, AreStoresReady};
+ghost use Rattle.sm_plan.specs.ReadyStates.{IsFormReady, AreFormsReady, IsStateReady, IsStoreReady, AreStoresReady};
 ghost use Rattle.sm_plan.specs.Statements.{is_loop, loop_guard};
 ghost use Rattle.sm_plan.specs.Views.{rest_code, stores_in, state_in};
 

@@ -1,13 +1,11 @@
 // What nodes open.
-ghost use Rattle.std.specs.Prelude.{◌≡◌, ◌⊎◌, List, [], option_map, IfOk, IfSome, IfNone};
-ghost use Rattle.std.specs.Prelude.{OnErr};
+ghost use Rattle.std.specs.Prelude.{◌≡◌, ◌⊎◌, List, [], option_map, IfOk, IfSome, IfNone, OnErr};
 ghost use Rattle.sm_term.specs.Tables.{trees_in, sorts_in};
 ghost use Rattle.sm_term.specs.TableLaws.{ExtendsTable};
 ghost use Rattle.sm_term.specs.Assertions.{Assertion};
 ghost use Rattle.sm_plan.specs.Nodes as plan;
 ghost use Rattle.sm_plan.specs.Views.{state_in, node_in, opened_in, stores_in};
-ghost use Rattle.sm_plan.specs.ReadyStates.{IsStateReady, IsNodeReady, AreSuccessorsReady};
-ghost use Rattle.sm_plan.specs.ReadyStates.{AreFormsReady, AreStoresReady};
+ghost use Rattle.sm_plan.specs.ReadyStates.{IsStateReady, IsNodeReady, AreSuccessorsReady, AreFormsReady, AreStoresReady};
 
 use crate::blocks::open_block;
 use crate::ends::{open_dead, open_end};

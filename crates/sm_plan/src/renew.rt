@@ -11,8 +11,7 @@ ghost use Rattle.sm_term.specs.SymStores.{store_in, IsStoreWithin};
 ghost use Rattle.sm_term.specs.Tables.{trees_in, sorts_in};
 ghost use Rattle.sm_term.specs.TableLaws.{AddsTerms};
 ghost use Rattle.sm_plan.specs.Heads.{with_new};
-ghost use Rattle.sm_plan.specs.ReadyStates.{IsStoreReady, IsStoreFull};
-ghost use Rattle.sm_plan.specs.ReadyStates.{AreStoresReady, AreStoresFull};
+ghost use Rattle.sm_plan.specs.ReadyStates.{IsStoreReady, IsStoreFull, AreStoresReady, AreStoresFull};
 ghost use Rattle.sm_plan.specs.Successors.{renewed};
 ghost use Rattle.sm_plan.specs.Views.{rest_code, stores_in};
 

@@ -1,6 +1,5 @@
 // What is left of programs.
-ghost use Rattle.std.specs.Prelude.{◌≡◌, ◌≤◌, ℕ, take, drop, length, map, option_map};
-ghost use Rattle.std.specs.Prelude.{IfOk, OnOk, MatchOption};
+ghost use Rattle.std.specs.Prelude.{◌≡◌, ◌≤◌, ℕ, take, drop, length, map, option_map, IfOk, OnOk, MatchOption};
 ghost use Rattle.std.specs.List.Sorted.{IsStrictlyIncreasing};
 ghost use Rattle.sm_syntax.specs.Assigns.{assigns};
 ghost use Rattle.sm_syntax.specs.claim.Syntax.{Code, End, append};

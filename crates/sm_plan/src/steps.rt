@@ -1,6 +1,5 @@
 // Simple statements.
-ghost use Rattle.std.specs.Prelude.{◌≡◌, ◌<◌, ℕ, length, slice_set, slice_get, Some};
-ghost use Rattle.std.specs.Prelude.{IsTrue, IfOk, OnOk};
+ghost use Rattle.std.specs.Prelude.{◌≡◌, ◌<◌, ℕ, length, slice_set, slice_get, Some, IsTrue, IfOk, OnOk};
 ghost use Rattle.sm_syntax.specs.declared.tree.Sort.TheVariants.{Num, Arr};
 ghost use Rattle.sm_syntax.specs.text.Sorts.{IsAsDeclared, IsWellSorted, IsWellSortedExpression};
 ghost use Rattle.sm_syntax.specs.trees.Views.{expression_of};

@@ -3,8 +3,7 @@ ghost use Rattle.std.specs.Prelude.{◌≡◌, List, [], ◌∷◌, ◌++◌, ma
 ghost use Rattle.sm_syntax.specs.text.Sorts.{Sorts};
 ghost use Rattle.sm_term.specs.Assertions.{Assertion};
 ghost use Rattle.sm_term.specs.Terms.{Tree};
-ghost use Rattle.sm_plan.specs.ReadyStates.{IsStateReady, AreFormsReady, AreSuccessorsReady};
-ghost use Rattle.sm_plan.specs.ReadyStates.{IsSuccessorReady, AreStoresReady};
+ghost use Rattle.sm_plan.specs.ReadyStates.{IsStateReady, AreFormsReady, AreSuccessorsReady, IsSuccessorReady, AreStoresReady};
 ghost use Rattle.sm_plan.specs.Views.{forms_in, state_in, successor_in};
 
 use crate::opening::{Opened, Successor};

@@ -1,7 +1,5 @@
 // First statements of a copy, as summaries of the names that they assign.
-ghost use Rattle.std.specs.Prelude.{◌≡◌, ◌<◌, ◌&&◌, List, map, length, nat_le, slice_get};
-ghost use Rattle.std.specs.Prelude.{option_map};
-ghost use Rattle.std.specs.Prelude.{Some, IfSome, IfOk, OnOk, ◌∷◌, []};
+ghost use Rattle.std.specs.Prelude.{◌≡◌, ◌<◌, ◌&&◌, List, map, length, nat_le, slice_get, option_map, Some, IfSome, IfOk, OnOk, ◌∷◌, []};
 ghost use Rattle.sm_syntax.specs.claim.ConflictFree.{Copy};
 ghost use Rattle.sm_syntax.specs.text.Sorts.{IsWellSorted, IsWellSortedCondition};
 ghost use Rattle.sm_syntax.specs.trees.Copies.{copy_named, of_copy};

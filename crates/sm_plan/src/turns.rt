@@ -1,6 +1,5 @@
 // The turns of the loops of a set of copies, and what comes after them.
-ghost use Rattle.std.specs.Prelude.{◌≡◌, ◌==◌, bit_and, List, [], ◌∷◌, ◌++◌, map};
-ghost use Rattle.std.specs.Prelude.{if◌then◌else◌, IfOk, OnOk};
+ghost use Rattle.std.specs.Prelude.{◌≡◌, ◌==◌, bit_and, List, [], ◌∷◌, ◌++◌, map, if◌then◌else◌, IfOk, OnOk};
 ghost use Rattle.std.specs.List.{filter, range_with_len};
 ghost use Rattle.sm_syntax.specs.claim.ConflictFree.{Copy};
 ghost use Rattle.sm_syntax.specs.text.Sorts.{Sorts, IsWellSorted};

@@ -1,12 +1,9 @@
 -- Tasks with an if at a hole or around it, each with its product and its templates, and what is read off fillings
 -- and guards, worked by hand.
-use Rattle.std.proofs.Common.{◌≡◌, ℕ, zero, suc, pos, refl, None, List, [], ◌∷◌, ◌++◌, map}
-use Rattle.std.proofs.Common.{if◌then◌else◌}
+use Rattle.std.proofs.Common.{◌≡◌, ℕ, zero, suc, pos, refl, None, List, [], ◌∷◌, ◌++◌, map, if◌then◌else◌}
 use Rattle.sm_syntax.specs.declared.tree.Cmp.TheVariants as cmp
 use Rattle.sm_syntax.specs.declared.tree.Sort.TheVariants.{Num}
-use Rattle.sm_syntax.specs.claim.Syntax.{Expression, Condition, Code, End, Skip, Assign, Write, If}
-use Rattle.sm_syntax.specs.claim.Syntax.{While, Hole, Compare, Var}
-use Rattle.sm_syntax.specs.claim.Syntax.{Plus, Minus, Times, Neg}
+use Rattle.sm_syntax.specs.claim.Syntax.{Expression, Condition, Code, End, Skip, Assign, Write, If, While, Hole, Compare, Var, Plus, Minus, Times, Neg}
 use Rattle.sm_syntax.specs.claim.Syntax as syntax
 use Rattle.sm_syntax.specs.claim.ConflictFree.{Copy, O, A, B, M}
 use Rattle.sm_syntax.specs.claim.Fill.{filling}

@@ -17,8 +17,7 @@ use Rattle.sm_product.specs.LoopTurns.{HaveLoops}
 use Rattle.sm_product.specs.MiniProducts.{statements_left}
 use Rattle.sm_product.specs.Paths.{IsFilled}
 use Rattle.sm_product.proofs.FitsLemmas.{bodies_left}
-use Rattle.sm_product.proofs.SmallerLemmas.{IsRest, fewer_in, fewer_of, one_smaller, moved_less, moved_smaller, bodies_less}
-use Rattle.sm_product.proofs.SmallerLemmas.{bodies_smaller}
+use Rattle.sm_product.proofs.SmallerLemmas.{IsRest, fewer_in, fewer_of, one_smaller, moved_less, moved_smaller, bodies_less, bodies_smaller}
 use Rattle.sm_product.proofs.StraightLemmas.{rest_more, filled_is, says_of}
 
 -- the code that goes on is filled and has fewer statements than there were
@@ -91,7 +90,7 @@ module _ (r : Copy → Code) (no_hole : (c : Copy) → has_hole (r c) ≡ false)
       }
 
 -- sorts stay
-first_well : (sorts : Sorts) (code : Code) → IsWellSorted sorts code → IsWellSorted sorts (by_first_block code)
+pub first_well : (sorts : Sorts) (code : Code) → IsWellSorted sorts code → IsWellSorted sorts (by_first_block code)
 first_well sorts End well = well
 first_well sorts (Skip k) well = well
 first_well sorts (Assign x v k) well = well
@@ -100,7 +99,7 @@ first_well sorts (If b one other k) well = append_well sorts one k well.1 well.3
 first_well sorts (While b body k) well = well
 first_well sorts (Hole h k) well = well
 
-second_well : (sorts : Sorts) (code : Code) → IsWellSorted sorts code → IsWellSorted sorts (by_second_block code)
+pub second_well : (sorts : Sorts) (code : Code) → IsWellSorted sorts code → IsWellSorted sorts (by_second_block code)
 second_well sorts End well = well
 second_well sorts (Skip k) well = well
 second_well sorts (Assign x v k) well = well

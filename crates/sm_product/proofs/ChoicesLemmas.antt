@@ -1,14 +1,13 @@
 -- What a site keeps under a choice: the parts of its formula are the chosen templates, all of them where all are chosen.
-use Rattle.std.proofs.Common.{◌≡◌, ℕ, zero, suc, ◌+◌, ◌-◌, ◌/◌, ◌≤◌, ℤ, Option, Some, List, [], ◌∷◌, ◌++◌, take, drop, length}
-use Rattle.std.proofs.Common.{slice_get, refl, ap, sym, ◌∙◌, subst, arith}
+use Rattle.std.proofs.Common.{◌≡◌, ℕ, zero, suc, ◌+◌, ◌-◌, ◌/◌, ◌≤◌, ℤ, Option, Some, List, [], ◌∷◌, ◌++◌, take, drop, length, slice_get, refl, ap, sym, ◌∙◌, subst, arith}
 use Rattle.std.specs.Prelude.{option_to_list, unwrap_or}
 use Rattle.std.specs.List.{range_with_len}
 use Rattle.std.proofs.lemmas.List.{append_assoc, length-append, length-take, length-drop, take-append-drop}
 use Rattle.std.proofs.lemmas.Option.{same_Some}
-use Rattle.sm_syntax.specs.declared.tree.Cmp.{Cmp}
 use Rattle.sm_syntax.specs.declared.tree.Cmp.TheVariants as cmp
 use Rattle.sm_syntax.specs.declared.tree.Sort.{Sort}
 use Rattle.sm_syntax.specs.claim.Syntax.{Expression, Code}
+use Rattle.sm_syntax.specs.declared.tree.Cmp.{Cmp}
 use Rattle.sm_syntax.specs.claim.ConflictFree.{Copy}
 use Rattle.sm_syntax.specs.text.Parts.{Parts}
 use Rattle.sm_term.specs.Assertions.{Assertion, conj}
@@ -23,13 +22,11 @@ use Rattle.sm_sketch.specs.Sketches.{SketchNode, site_at, sites_of}
 use Rattle.sm_sketch.proofs.PickedLemmas.{each_picked}
 use Rattle.sm_product.specs.Products.{sketch_of}
 use Rattle.sm_product.proofs.NodesLemmas.{HoldsOfNodes, sketch_nodes, each_site}
+use Rattle.sm_lemmas.proofs.Numbers.{half_less}
 
 -- a formula that is no conjunction
 abbrev pub IsSingle : Assertion → Type 0
 IsSingle f = conj f ≡ f ∷ []
-
-half_less : (n m : ℕ) → suc (suc n) ≤ suc m → (suc (suc n) / 2 ≤ m) × (suc (suc n) - suc (suc n) / 2 ≤ m)
-half_less n m h = (omega arith, omega arith)
 
 -- the parts of a conjunction by halves are the formulas
 pub conj_halved : (n : ℕ) (fs : List Assertion) → length fs ≤ n → Each IsSingle fs → conj (halved n fs) ≡ fs

@@ -9,8 +9,7 @@ use Rattle.sm_plan.specs.Statements.{is_long, front, rest_after, is_loop}
 use Rattle.sm_moves.specs.CodeShapes.{is_simple}
 use Rattle.sm_moves.specs.CopySets.{members}
 use Rattle.sm_moves.specs.Moves.{moved_on}
-use Rattle.sm_moves.proofs.SetsLemmas.{each_moved, AreReady, each_moved_is, each_ready, Each}
-use Rattle.sm_moves.proofs.SetsLemmas.{each_of_all, IsWithin, each_subset}
+use Rattle.sm_moves.proofs.SetsLemmas.{each_moved, AreReady, each_moved_is, each_ready, Each, each_of_all, IsWithin, each_subset}
 use Rattle.sm_sketch.specs.Sketches.{Sketch, ends, each_of, turns_then, looped, apart}
 use Rattle.sm_product.proofs.FitsLemmas.{Fits, FitAll, fits_same, bodies_left}
 

@@ -1,8 +1,5 @@
 -- Where each node of a sketch may stand at what is left of the copies, its plans have obligations.
-use Rattle.std.proofs.Common.{◌≡◌, ℕ, suc, ◌+◌, ◌==◌, nat_le, Bool, true, false, not, ◌&&◌, ◌||◌}
-use Rattle.std.proofs.Common.{if◌then◌else◌, Option, Some}
-use Rattle.std.proofs.Common.{Result, Ok, Err, List, [], ◌∷◌, ◌++◌, map, length, refl, ap, sym, ◌∙◌}
-use Rattle.std.proofs.Common.{subst, arith}
+use Rattle.std.proofs.Common.{◌≡◌, ℕ, suc, ◌+◌, ◌==◌, nat_le, Bool, true, false, not, ◌&&◌, ◌||◌, if◌then◌else◌, Option, Some, Result, Ok, Err, List, [], ◌∷◌, ◌++◌, map, length, refl, ap, sym, ◌∙◌, subst, arith}
 use Rattle.std.proofs.lemmas.List.{length-map}
 use Rattle.sm_syntax.specs.claim.Syntax.{Code, End, Skip, Assign, Write, If, While, Hole}
 use Rattle.sm_syntax.specs.claim.ConflictFree.{Copy, O, A, B, M}
@@ -11,22 +8,16 @@ use Rattle.sm_term.specs.Assertions.{Assertion}
 use Rattle.sm_term.specs.Symbolic.{SymbolicStore}
 use Rattle.sm_plan.specs.Copies.{Copies, each, has, is_inhabited, subsets, with_copy}
 use Rattle.sm_plan.specs.Limits.{is_kept}
-use Rattle.sm_plan.specs.Nodes.{Node, Step, Abs, Fork, Loop, Block, Dead, Ends, Unfit, Opened}
-use Rattle.sm_plan.specs.Nodes.{opened_by, rule_of, where_true}
-use Rattle.sm_plan.specs.Nodes.{after_step, both_ways}
+use Rattle.sm_plan.specs.Nodes.{Node, Step, Abs, Fork, Loop, Block, Dead, Ends, Unfit, Opened, opened_by, rule_of, where_true, after_step, both_ways}
 use Rattle.sm_plan.specs.Plans as plan
-use Rattle.sm_plan.specs.Plans.{Plan, Plans, Due, Fault, Wrong, due, joined, opened, expand}
-use Rattle.sm_plan.specs.Plans.{expand_all, count}
+use Rattle.sm_plan.specs.Plans.{Plan, Plans, Due, Fault, Wrong, due, joined, opened, expand, expand_all, count}
 use Rattle.sm_plan.specs.States.{State}
 use Rattle.sm_plan.specs.Statements.{is_over, is_long, front, rest_after, is_loop, loop_body}
 use Rattle.sm_plan.specs.Successors as next
 use Rattle.sm_moves.specs.CodeShapes.{is_simple, is_fork, by_first_block, by_second_block}
 use Rattle.sm_moves.specs.CopySets.{only_in}
 use Rattle.sm_moves.specs.Moves.{moved_on}
-use Rattle.sm_sketch.specs.Sketches.{SketchNode, Plain, LoopSite, BlockSite, Sketch, Draw}
-use Rattle.sm_sketch.specs.Sketches.{Sketches, Over, More}
-use Rattle.sm_sketch.specs.Sketches.{site_at, sites_of, sites_below, node_with, plan_with}
-use Rattle.sm_sketch.specs.Sketches.{plans_with}
+use Rattle.sm_sketch.specs.Sketches.{SketchNode, Plain, LoopSite, BlockSite, Sketch, Draw, Sketches, Over, More, site_at, sites_of, sites_below, node_with, plan_with, plans_with}
 use Rattle.sm_product.specs.Laws.{AreKept}
 
 -- a node that is chosen may stand where this is left

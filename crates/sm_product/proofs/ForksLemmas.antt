@@ -1,6 +1,5 @@
 -- Forks of the copies of a set, one after the other, fit where what is drawn for each outcome does.
-use Rattle.std.proofs.Common.{◌≡◌, Bool, true, false, not, ◌&&◌, ◌||◌, if◌then◌else◌, List, [], ◌∷◌}
-use Rattle.std.proofs.Common.{refl, ap, sym, ◌∙◌, subst}
+use Rattle.std.proofs.Common.{◌≡◌, Bool, true, false, not, ◌&&◌, ◌||◌, if◌then◌else◌, List, [], ◌∷◌, refl, ap, sym, ◌∙◌, subst}
 use Rattle.sm_syntax.specs.claim.Syntax.{Condition, Code, End, If, append}
 use Rattle.sm_syntax.specs.claim.ConflictFree.{Copy, O, A, B, M}
 use Rattle.sm_term.specs.SameTerms.{is_copy}
@@ -8,12 +7,12 @@ use Rattle.sm_plan.specs.Copies.{Copies, has, no_copies, with_copy}
 use Rattle.sm_plan.proofs.CopiesLemmas.{has_that}
 use Rattle.sm_moves.specs.CodeShapes.{is_fork, by_first_block, by_second_block}
 use Rattle.sm_moves.specs.CopySets.{members, with_member, without}
-use Rattle.sm_moves.proofs.CodesLemmas.{neither}
-use Rattle.sm_moves.proofs.SetsLemmas.{IsOneOf, among_members, members_wait, Waits, copy_itself}
-use Rattle.sm_moves.proofs.SetsLemmas.{same_copies, other_copies}
+use Rattle.sm_moves.proofs.SetsLemmas.{IsOneOf, among_members, members_wait, Waits, other_copies}
 use Rattle.sm_sketch.specs.Sketches.{Sketch}
 use Rattle.sm_product.specs.Products.{forked}
 use Rattle.sm_product.proofs.FitsLemmas.{Fits, fits_same}
+use Rattle.std.proofs.lemmas.Bool.{or_parts}
+use Rattle.sm_term.proofs.SameTermsLemmas.{copy_itself, copy_gives}
 
 -- an if of each copy of a set, nothing for the others
 abbrev pub ifs_of : (Copy → Condition) → (Copy → Code) → (Copy → Code) → Copies → Copy → Code
@@ -36,7 +35,7 @@ waits_more : (set taken : Copies) (c : Copy) (cs : List Copy) → IsOneOf cs c �
     Waits set cs (with_member taken c)
 waits_more set taken c [] e h = tt
 waits_more set taken c (d ∷ cs) e h =
-    let p = neither (is_copy c d) (IsOneOf cs c) e in
+    let p = or_parts (is_copy c d) (IsOneOf cs c) e in
     (h.0, (has_member taken c d ∙ ap (λ (b : Bool). b || has taken d) p.0 ∙ h.1.0, (h.1.1.0, waits_more set taken c cs p.1 h.1.1.1)))
 
 module _ (guard : Copy → Condition) (first second : Copy → Code) (inner : Copies → Sketch) (set : Copies)
@@ -76,7 +75,7 @@ module _ (guard : Copy → Condition) (first second : Copy → Code) (inner : Co
   split c v f g here there d = by (is_copy c d) refl
     where
       by : (b : Bool) → is_copy c d ≡ b → f d ≡ (if b then v else g d)
-      by true e = subst (λ (x : Copy). f x ≡ v) (same_copies c d e) here
+      by true e = subst (λ (x : Copy). f x ≡ v) (copy_gives c d e) here
       by false e = there d e
 
   forks_from : (cs : List Copy) (taken : Copies) → Waits set cs taken → Fits (forked inner cs taken) (pending cs taken)

@@ -1,6 +1,5 @@
 -- A mini-product is the same for each bound on moves that is no less than the statements left.
-use Rattle.std.proofs.Common.{◌≡◌, ℕ, zero, suc, ◌≤◌, Bool, true, false, List, [], ◌∷◌, refl, ap}
-use Rattle.std.proofs.Common.{sym, ◌∙◌, arith}
+use Rattle.std.proofs.Common.{◌≡◌, ℕ, zero, suc, ◌≤◌, Bool, true, false, List, [], ◌∷◌, refl, ap, sym, ◌∙◌, arith}
 use Rattle.sm_syntax.specs.claim.Syntax.{Code, End}
 use Rattle.sm_syntax.specs.claim.ConflictFree.{Copy}
 use Rattle.sm_syntax.specs.text.Parts.{Parts}
@@ -10,13 +9,11 @@ use Rattle.sm_plan.specs.Statements.{rest_after}
 use Rattle.sm_moves.specs.CodeShapes.{by_first_block, by_second_block}
 use Rattle.sm_moves.specs.CopySets.{members}
 use Rattle.sm_moves.specs.Moves.{Move, Done, Steps, Summaries, Forks, Loops, move_of, moved_on}
-use Rattle.sm_moves.proofs.CodesLemmas.{simple_left, loop_left, rest_no_hole, blocks_no_hole}
-use Rattle.sm_moves.proofs.CodesLemmas.{fewer_after, fewer_ways}
+use Rattle.sm_moves.proofs.CodesLemmas.{simple_left, loop_left, rest_no_hole, blocks_no_hole, fewer_after, fewer_ways}
 use Rattle.sm_moves.proofs.MovesLemmas.{MoveSays, move_says}
 use Rattle.sm_moves.proofs.SetsLemmas.{Each, each_of_all, IsWithin, each_subset}
 use Rattle.sm_template.specs.Templates.{loop_templates}
-use Rattle.sm_sketch.specs.Sketches.{Sketch, LoopSite, Draw, More, ends, then_draw, each_of}
-use Rattle.sm_sketch.specs.Sketches.{forking, turns_then, looped}
+use Rattle.sm_sketch.specs.Sketches.{Sketch, LoopSite, Draw, More, ends, then_draw, each_of, forking, turns_then, looped}
 use Rattle.sm_product.specs.MiniProducts.{drawn, mini_product, statements_left, side_by_side}
 use Rattle.sm_product.proofs.FitsLemmas.{bodies_left}
 use Rattle.sm_product.proofs.MiniLemmas.{nothing_left}

@@ -15,8 +15,7 @@ use Rattle.sm_moves.specs.CopySets.{members, only_in}
 use Rattle.sm_moves.specs.Moves.{Move, Done, Steps, Summaries, Forks, Loops, move_of, moved_on, is_shared}
 use Rattle.sm_template.specs.Templates.{block_templates, loop_templates}
 use Rattle.sm_sketch.specs.SketchSizes.{sketch_size, sizes_below, sketch_depth, deepest_below, is_branching_node, IsTooLarge}
-use Rattle.sm_sketch.specs.Sketches.{SketchNode, Plain, LoopSite, BlockSite, Sketch, Draw, Sketches, Over, More}
-use Rattle.sm_sketch.specs.Sketches.{ends, then_draw, each_of, forking, turns_then, looped, apart}
+use Rattle.sm_sketch.specs.Sketches.{SketchNode, Plain, LoopSite, BlockSite, Sketch, Draw, Sketches, Over, More, ends, then_draw, each_of, forking, turns_then, looped, apart}
 use Rattle.sm_product.specs.MiniProducts.{drawn, mini_product, side_by_side, statements_left}
 use Rattle.sm_product.specs.Products.{where_any, forked, branched, product_if, product_while, filled, product}
 

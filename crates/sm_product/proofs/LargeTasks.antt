@@ -1,18 +1,16 @@
 -- A task whose sketch is too large isn't within the limits.
-use Rattle.std.proofs.Common.{◌≡◌, ℕ, suc, ◌+◌, ◌<◌, max, nat_le, Bool, false, ◌&&◌, if◌then◌else◌, Result, Ok, Err, List, length, IfErr}
-use Rattle.std.proofs.Common.{inl, inr, refl, sym, ap, subst, arith}
+use Rattle.std.proofs.Common.{◌≡◌, ℕ, suc, ◌+◌, ◌<◌, max, nat_le, Bool, false, ◌&&◌, if◌then◌else◌, Result, Ok, Err, List, length, IfErr, inl, inr, refl, sym, ap, subst, arith}
 use Rattle.std.proofs.lemmas.Bool.{lt-ltb, lt-leb}
 use Rattle.sm_syntax.specs.text.Parts.{Parts, task_of}
 use Rattle.sm_term.specs.Assertions.{Assertion}
 use Rattle.sm_plan.specs.Nodes.{is_branching}
 use Rattle.sm_plan.specs.Plans.{Due, Fault, size, sizes, branches, most_branches, obligations}
 use Rattle.sm_expand.proofs.WholeLemmas.{too_deep}
-use Rattle.sm_sketch.specs.declared.error.ProductError.{ProductError}
 use Rattle.sm_sketch.specs.declared.error.ProductError.TheVariants as error
 use Rattle.sm_sketch.specs.Errors.{TellsSketch}
+use Rattle.sm_sketch.specs.declared.error.ProductError.{ProductError}
 use Rattle.sm_sketch.specs.Choices.{kept_by}
-use Rattle.sm_sketch.specs.Sketches.{SketchNode, Plain, LoopSite, BlockSite, Sketch, Draw, Sketches, Over, More}
-use Rattle.sm_sketch.specs.Sketches.{site_at, sites_of, node_with, plan_with, plans_with}
+use Rattle.sm_sketch.specs.Sketches.{SketchNode, Plain, LoopSite, BlockSite, Sketch, Draw, Sketches, Over, More, site_at, sites_of, node_with, plan_with, plans_with}
 use Rattle.sm_sketch.specs.SketchSizes.{is_branching_node, sketch_size, sizes_below, sketch_depth, deepest_below, IsTooLarge}
 use Rattle.sm_product.specs.Errors.{TellsTask}
 use Rattle.sm_product.specs.ProductPlans.{plan_of, full_choice}

@@ -22,7 +22,7 @@ mod HoleDrawn
 mod TurnsPut
 mod PartsPut
 mod BranchesDrawn
-mod BranchesLeft
+pub mod BranchesLeft
 mod MiniDrawn
 mod PartsDrawn
 mod RoomLemmas

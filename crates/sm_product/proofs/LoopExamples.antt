@@ -1,10 +1,8 @@
 -- Tasks whose holes stand in a loop or are loops, each with its product and its templates, worked by hand.
-use Rattle.std.proofs.Common.{◌≡◌, ℕ, pos, refl, true, Option, None, Some, Result, Ok, Err, List}
-use Rattle.std.proofs.Common.{[], ◌∷◌, ◌++◌, length}
+use Rattle.std.proofs.Common.{◌≡◌, ℕ, pos, refl, true, Option, None, Some, Result, Ok, Err, List, [], ◌∷◌, ◌++◌, length}
 use Rattle.sm_syntax.specs.declared.tree.Cmp.TheVariants as cmp
 use Rattle.sm_syntax.specs.declared.tree.Sort.TheVariants.{Num, Arr}
-use Rattle.sm_syntax.specs.claim.Syntax.{Expression, Condition, Code, End, Assign, Write, While}
-use Rattle.sm_syntax.specs.claim.Syntax.{Hole, Compare, Var, Read, Plus}
+use Rattle.sm_syntax.specs.claim.Syntax.{Expression, Condition, Code, End, Assign, Write, While, Hole, Compare, Var, Read, Plus}
 use Rattle.sm_syntax.specs.claim.Syntax as syntax
 use Rattle.sm_syntax.specs.claim.ConflictFree.{Copy, O, A, B, M}
 use Rattle.sm_syntax.specs.text.Parts.{Parts, by_copy, task_of}

@@ -5,8 +5,8 @@ use Rattle.sm_syntax.specs.claim.ConflictFree.{Copy}
 use Rattle.sm_syntax.specs.text.Parts.{Parts}
 use Rattle.sm_plan.specs.Copies.{Copies}
 use Rattle.sm_moves.specs.Moves.{Move, move_of}
-use Rattle.sm_sketch.specs.declared.error.ProductError.{ProductError}
 use Rattle.sm_sketch.specs.Errors.{TellsSketch}
+use Rattle.sm_sketch.specs.declared.error.ProductError.{ProductError}
 use Rattle.sm_sketch.specs.Sketches.{Sketch}
 use Rattle.sm_sketch.specs.SketchSizes.{sketch_size, sketch_depth}
 use Rattle.sm_product.specs.declared.rooms.Room.{Room}

@@ -1,6 +1,5 @@
 -- A mini-product fits what is left of its copies, where their code has no hole.
-use Rattle.std.proofs.Common.{◌≡◌, ℕ, zero, suc, ◌≤◌, ◌<◌, Bool, true, false, if◌then◌else◌, refl}
-use Rattle.std.proofs.Common.{ap, sym, ◌∙◌, arith}
+use Rattle.std.proofs.Common.{◌≡◌, ℕ, zero, suc, ◌≤◌, ◌<◌, Bool, true, false, if◌then◌else◌, refl, ap, sym, ◌∙◌, arith}
 use Rattle.sm_syntax.specs.claim.Syntax.{Code, End, Skip, Assign, Write, If, While, Hole, append}
 use Rattle.sm_syntax.specs.claim.ConflictFree.{Copy, O, A, B, M}
 use Rattle.sm_syntax.specs.text.Parts.{Parts}
@@ -11,9 +10,7 @@ use Rattle.sm_plan.proofs.CopiesLemmas.{one_copy}
 use Rattle.sm_plan.proofs.StatementsLemmas.{over_is}
 use Rattle.sm_moves.specs.CodeShapes.{has_hole, by_first_block, by_second_block, statements_in}
 use Rattle.sm_moves.specs.Moves.{Move, Done, Steps, Summaries, Forks, Loops, move_of, moved_on}
-use Rattle.sm_moves.proofs.CodesLemmas.{long_append, rest_append, simple_left, simple_append}
-use Rattle.sm_moves.proofs.CodesLemmas.{fork_append, loop_left, loop_append}
-use Rattle.sm_moves.proofs.CodesLemmas.{rest_no_hole, blocks_no_hole, fewer_after, fewer_ways}
+use Rattle.sm_moves.proofs.CodesLemmas.{long_append, rest_append, simple_left, simple_append, fork_append, loop_left, loop_append, rest_no_hole, blocks_no_hole, fewer_after, fewer_ways}
 use Rattle.sm_moves.proofs.MovesLemmas.{MoveSays, move_says}
 use Rattle.sm_moves.proofs.SetsLemmas.{IsWithin}
 use Rattle.sm_template.specs.Templates.{loop_templates}

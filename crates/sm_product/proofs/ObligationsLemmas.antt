@@ -1,7 +1,5 @@
 -- Where a plan has obligations, each of its nodes has, and the formula kept at each site is within its limits.
-use Rattle.std.proofs.Common.{◌≡◌, ℕ, suc, ◌+◌, ◌==◌, Bool, true, false, not, ◌&&◌, ◌||◌}
-use Rattle.std.proofs.Common.{if◌then◌else◌, Option, Some, None, Result, Ok, Err}
-use Rattle.std.proofs.Common.{List, [], ◌∷◌, ◌++◌, length, refl, ap, subst, arith}
+use Rattle.std.proofs.Common.{◌≡◌, ℕ, suc, ◌+◌, ◌==◌, Bool, true, false, not, ◌&&◌, ◌||◌, if◌then◌else◌, Some, Ok, Err, List, [], ◌∷◌, ◌++◌, length, refl, subst, arith}
 use Rattle.std.proofs.lemmas.Bool.{and_parts}
 use Rattle.sm_syntax.specs.claim.ConflictFree.{Copy}
 use Rattle.sm_syntax.specs.text.Parts.{Parts, task_of}
@@ -9,44 +7,16 @@ use Rattle.sm_term.specs.Assertions.{Assertion}
 use Rattle.sm_plan.specs.Copies.{each, has, is_inhabited}
 use Rattle.sm_plan.specs.Limits.{is_kept, is_shallow}
 use Rattle.sm_plan.specs.Nodes.{Opened, opened_by, where_true, rule_of}
-use Rattle.sm_plan.specs.Plans.{Due, Fault, Wrong, Deep, due, joined, opened, expand, expand_all}
-use Rattle.sm_plan.specs.Plans.{count, size, branches, obligations}
+use Rattle.sm_plan.specs.Plans.{Due, Fault, Wrong, Deep, due, joined, opened, expand, expand_all, count, size, branches, obligations}
 use Rattle.sm_plan.specs.States.{State, start_state}
 use Rattle.sm_plan.specs.Statements.{is_long, is_loop}
 use Rattle.sm_sketch.specs.Choices.{Choice, kept_by}
-use Rattle.sm_sketch.specs.Sketches.{SketchNode, Plain, LoopSite, BlockSite, Sketch, Draw}
-use Rattle.sm_sketch.specs.Sketches.{Sketches, Over, More}
-use Rattle.sm_sketch.specs.Sketches.{site_at, sites_of, sites_below, node_with, plan_with}
-use Rattle.sm_sketch.specs.Sketches.{plans_with}
+use Rattle.sm_sketch.specs.Sketches.{SketchNode, Plain, LoopSite, BlockSite, Sketch, Draw, Sketches, Over, More, site_at, sites_of, sites_below, node_with, plan_with, plans_with}
 use Rattle.sm_product.specs.Laws.{AreKept, ProductExpands}
 use Rattle.sm_product.specs.ProductPlans.{plan_of}
 use Rattle.sm_product.specs.Products.{sketch_of}
 use Rattle.sm_product.proofs.ProductLemmas.{plan_expands}
-
--- what is opened, where obligations come of it
-pub opened_back : (o : Option Opened) (w : Fault) (f : Opened → Result (List Due) Fault) (ds : List Due) → opened o w f ≡ Ok ds →
-    (q : Opened) × (o ≡ Some q) × (f q ≡ Ok ds)
-opened_back None w f ds e = absurd cc
-opened_back (Some q) w f ds e = (q, refl, e)
-
--- the obligations of both parts
-pub joined_back : (a b : Result (List Due) Fault) (ds : List Due) → joined a b ≡ Ok ds →
-    (es : List Due) × (gs : List Due) × (a ≡ Ok es) × (b ≡ Ok gs) × (es ++ gs ≡ ds)
-joined_back (Err w) b ds e = absurd cc
-joined_back (Ok es) (Err w) ds e = absurd cc
-joined_back (Ok es) (Ok gs) ds e = (es, gs, refl, refl, ok_same (es ++ gs) ds e)
-  where
-    list_in : List Due → Result (List Due) Fault → List Due
-    list_in other (Ok x) = x
-    list_in other (Err w) = other
-
-    ok_same : (x y : List Due) → (let r : Result (List Due) Fault = Ok x in r) ≡ Ok y → x ≡ y
-    ok_same x y h = ap (list_in x) h
-
--- a test that is passed
-pub passed_back : (b : Bool) (r : Result (List Due) Fault) (w : Fault) (ds : List Due) → (if b then r else Err w) ≡ Ok ds → r ≡ Ok ds
-passed_back true r w ds e = e
-passed_back false r w ds e = absurd cc
+use Rattle.sm_plan.proofs.PlanSound.{opened_is, passed, joined_is}
 
 where_back : (b : Bool) (q p : Opened) → where_true b q ≡ Some p → b ≡ true
 where_back true q p e = refl
@@ -76,11 +46,11 @@ mutual
       let n = s + length (site_at node) in
       let below = plans_with keep n ps in
       let w = Wrong k (rule_of (node_with keep s node)) in
-      let o = opened_back (opened_by k st (node_with keep s node)) w
+      let o = opened_is (opened_by k st (node_with keep s node)) w
       (λ (q : Opened). if count below == length q.states
       then joined (Ok (due k st (node_with keep s node) q.goals)) (expand_all w (suc k) q.states below) else Err w) ds e in
-      let parts = joined_back (Ok (due k st (node_with keep s node) o.0.goals)) (expand_all w (suc k) o.0.states below) ds
-      (passed_back (count below == length o.0.states) _ w ds o.2) in
+      let parts = joined_is (Ok (due k st (node_with keep s node) o.0.goals)) (expand_all w (suc k) o.0.states below) ds
+      (passed (count below == length o.0.states) _ w ds o.2) in
       kept_both keep s n (site_at node) (sites_below ps) refl (node_back keep k s st node o.0 o.1)
       (all_kept_back ps keep w (suc k) n o.0.states parts.1 parts.3)
 
@@ -91,7 +61,7 @@ mutual
   all_kept_back (More p ps) keep w k s [] ds e = absurd cc
   all_kept_back (More p ps) keep w k s (st ∷ states) ds e =
       let n = s + length (sites_of p) in
-      let parts = joined_back (expand k st (plan_with keep s p))
+      let parts = joined_is (expand k st (plan_with keep s p))
       (expand_all w (k + size (plan_with keep s p)) states (plans_with keep n ps)) ds e in
       kept_both keep s n (sites_of p) (sites_below ps) refl (kept_back p keep k s st parts.0 parts.2)
       (all_kept_back ps keep w (k + size (plan_with keep s p)) n states parts.1 parts.3)
@@ -102,7 +72,7 @@ pub obligations_back : (t : Parts) (choice : Choice) (ds : List Due) → obligat
 obligations_back t choice ds e = (
   first (is_shallow (branches (plan_of t choice))) e,
   kept_back (sketch_of t) (kept_by choice) 0 0 (start_state (task_of t)) ds
-      (passed_back (is_shallow (branches (plan_of t choice))) (expand 0 (start_state (task_of t)) (plan_of t choice)) Deep ds e),
+      (passed (is_shallow (branches (plan_of t choice))) (expand 0 (start_state (task_of t)) (plan_of t choice)) Deep ds e),
 )
   where
     first : (b : Bool) → (if b then expand 0 (start_state (task_of t)) (plan_of t choice) else Err Deep) ≡ Ok ds → b ≡ true

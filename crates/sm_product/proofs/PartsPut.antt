@@ -11,11 +11,11 @@ use Rattle.sm_plan.specs.Copies.{Copies, copies, has, no_copies}
 use Rattle.sm_moves.specs.CodeShapes.{has_hole}
 use Rattle.sm_moves.specs.CopySets.{only_in, members, with_member, without}
 use Rattle.sm_template.specs.Templates.{block_templates, loop_templates}
-use Rattle.sm_sketch.specs.declared.error.ProductError.{ProductError}
-use Rattle.sm_sketch.specs.declared.sketch.Sketch.{Sketch}
 use Rattle.sm_sketch.specs.Errors.{TellsSketch}
+use Rattle.sm_sketch.specs.declared.error.ProductError.{ProductError}
 use Rattle.sm_sketch.specs.Sketches as plain
 use Rattle.sm_sketch.specs.SketchViews.{sketch_in, IsSketchReady}
+use Rattle.sm_sketch.specs.declared.sketch.Sketch.{Sketch}
 use Rattle.sm_product.specs.Drawn.{IsDrawn}
 use Rattle.sm_product.specs.Products.{product, product_if, product_while, branched, forked, where_any}
 use Rattle.sm_product.proofs.BlocksDrawn.{forks_out, forks_in}

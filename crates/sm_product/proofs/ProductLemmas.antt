@@ -1,9 +1,7 @@
 -- The sketch of a task fits its programs, where its fillings have no hole, and so its plans have obligations.
-use Rattle.std.proofs.Common.{◌≡◌, ℕ, Bool, true, false, not, ◌&&◌, ◌||◌, if◌then◌else◌, Err, refl}
-use Rattle.std.proofs.Common.{ap, sym, ◌∙◌, subst, arith}
+use Rattle.std.proofs.Common.{◌≡◌, ℕ, Bool, true, false, not, ◌&&◌, ◌||◌, if◌then◌else◌, Err, refl, ap, sym, ◌∙◌, subst, arith}
 use Rattle.std.specs.List.{list_any}
-use Rattle.sm_syntax.specs.claim.Syntax.{Condition, Code, End, Skip, Assign, Write, If, While, Hole}
-use Rattle.sm_syntax.specs.claim.Syntax.{append}
+use Rattle.sm_syntax.specs.claim.Syntax.{Condition, Code, End, Skip, Assign, Write, If, While, Hole, append}
 use Rattle.sm_syntax.specs.claim.Fill.{filling, fill}
 use Rattle.sm_syntax.specs.claim.ConflictFree.{Copy, O, A, B, M, program_of}
 use Rattle.sm_syntax.specs.text.Parts.{Parts, task_of}
@@ -27,12 +25,9 @@ use Rattle.sm_sketch.specs.Sketches.{Sketch, ends, each_of, apart, sites_of}
 use Rattle.sm_product.specs.Laws.{HaveNoHole, AreKept}
 use Rattle.sm_product.specs.MiniProducts.{statements_left, side_by_side}
 use Rattle.sm_product.specs.ProductPlans.{plan_of}
-use Rattle.sm_product.specs.Products.{where_any, forked, branched, product_if, product_while}
-use Rattle.sm_product.specs.Products.{filled, product, sketch_of}
-use Rattle.sm_product.proofs.DrawingLemmas.{steps_fit, summaries_fit, looped_fits, apart_fits}
-use Rattle.sm_product.proofs.DrawingLemmas.{ends_fit}
-use Rattle.sm_product.proofs.FitsLemmas.{Fits, fits_same, bodies_left, IsExpanded}
-use Rattle.sm_product.proofs.FitsLemmas.{expanded}
+use Rattle.sm_product.specs.Products.{where_any, forked, branched, product_if, product_while, filled, product, sketch_of}
+use Rattle.sm_product.proofs.DrawingLemmas.{steps_fit, summaries_fit, looped_fits, apart_fits, ends_fit}
+use Rattle.sm_product.proofs.FitsLemmas.{Fits, fits_same, bodies_left, IsExpanded, expanded}
 use Rattle.sm_product.proofs.ForksLemmas.{ifs_of, blocks_of, forks_fit}
 use Rattle.sm_product.proofs.MiniLemmas.{then_tail, mini_fits}
 use Rattle.sm_product.proofs.SmallerLemmas.{IsRest}

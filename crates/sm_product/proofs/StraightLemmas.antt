@@ -16,12 +16,12 @@ use Rattle.sm_moves.specs.CopySets.{members}
 use Rattle.sm_moves.specs.Moves.{Move, Done, Steps, Summaries, Forks, Loops, move_of, moved_on}
 use Rattle.sm_moves.specs.declared.moves.Move as own
 use Rattle.sm_moves.specs.ProgramMoves.{move_in}
-use Rattle.sm_moves.proofs.CopiesLemmas.{of_each, forked_at}
+use Rattle.sm_moves.proofs.CopiesLemmas.{forked_at}
 use Rattle.sm_moves.proofs.CodesLemmas.{simple_left, rest_no_hole, fewer_after}
 use Rattle.sm_moves.proofs.MovesLemmas.{MoveSays, move_says}
-use Rattle.sm_sketch.specs.declared.error.ProductError.{ProductError}
 use Rattle.sm_sketch.specs.declared.error.ProductError.TheVariants as error
 use Rattle.sm_sketch.specs.Errors.{TellsSketch}
+use Rattle.sm_sketch.specs.declared.error.ProductError.{ProductError}
 use Rattle.sm_sketch.specs.Sketches.{Sketch}
 use Rattle.sm_product.specs.MiniProducts.{drawn, side_by_side, statements_left}
 use Rattle.sm_product.specs.Paths.{IsFilled, is_straight, after_move, move_before, moves_before}

@@ -1,26 +1,18 @@
 -- The obligations of a task's plan, by its parts.
-use Rattle.std.proofs.Common.{◌≡◌, Bor, Option, Some, None, option_map, refl, sym, ap, ◌∙◌}
+use Rattle.std.proofs.Common.{◌≡◌, Bor, Option, option_map, refl, sym, ap}
 use Rattle.std.specs.Option.{option_copied}
 use Rattle.sm_syntax.specs.claim.ConflictFree.{Copy}
-use Rattle.sm_syntax.specs.declared.copies.PerCopy.{PerCopy}
-use Rattle.sm_syntax.specs.declared.tree.Block.{Block}
-use Rattle.sm_syntax.specs.declared.tree.Cond.{Cond}
 use Rattle.sm_syntax.specs.text.Parts.{sorted_outputs, task_of}
 use Rattle.sm_syntax.specs.trees.Copies.{of_copy}
+use Rattle.sm_syntax.specs.declared.copies.PerCopy.{PerCopy}
 use Rattle.sm_syntax.specs.trees.Views.{condition_of, code_of}
+use Rattle.sm_syntax.specs.declared.tree.Block.{Block}
+use Rattle.sm_syntax.specs.declared.tree.Cond.{Cond}
 use Rattle.sm_task.specs.Filling.{AreFilled}
 use Rattle.sm_text.specs.declared.task.Task as tree
 use Rattle.sm_text.specs.Tasks.{parts_of}
 use Rattle.sm_expand.specs.Tasks.{HasParts}
-
--- an assumption behind a borrow
-assumed_same : (o : Option (Bor Cond)) (a : Option Cond) → option_copied o ≡ a →
-    option_map (λ (b : Bor Cond). condition_of b.now) o ≡ option_map condition_of a
-assumed_same o a e = go o ∙ ap (option_map condition_of) e
-  where
-    go : (o : Option (Bor Cond)) → option_map (λ (b : Bor Cond). condition_of b.now) o ≡ option_map condition_of (option_copied o)
-    go None = refl
-    go (Some b) = refl
+use Rattle.sm_syntax.proofs.Assumed.{assumed_same}
 
 -- a task has the parts of its tree
 pub has_parts : (task : tree.Task) (programs : PerCopy Block) (o : Option (Bor Cond)) → AreFilled (parts_of task) programs →

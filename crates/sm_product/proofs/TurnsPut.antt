@@ -5,9 +5,9 @@ use Rattle.sm_syntax.specs.text.Sorts.{Sorts}
 use Rattle.sm_term.specs.Tables.{TableValue, trees_in, sorts_in}
 use Rattle.sm_term.specs.TableLaws.{ExtendsTable}
 use Rattle.sm_term.specs.Terms.{Tree}
-use Rattle.sm_sketch.specs.declared.sketch.Sketch.{Sketch}
 use Rattle.sm_sketch.specs.Sketches as plain
 use Rattle.sm_sketch.specs.SketchViews.{sketch_in, IsSketchReady, AreSketchesReady}
+use Rattle.sm_sketch.specs.declared.sketch.Sketch.{Sketch}
 use Rattle.sm_sketch.proofs.SketchesWiden.{sketches_stay, sketches_ready}
 
 push_ready : (sorts : Sorts) (trees : List Tree) (ss : List Sketch) (s : Sketch) → AreSketchesReady sorts trees ss →

@@ -1,6 +1,5 @@
 -- Cited by public clauses: laws of the plans of products, each for all tasks and choices.
-use Rattle.std.specs.Prelude.{◌≡◌, ◌↔◌, ℕ, suc, true, false, Some, None, Ok, List, [], ◌∷◌}
-use Rattle.std.specs.Prelude.{slice_get}
+use Rattle.std.specs.Prelude.{◌≡◌, ◌↔◌, ℕ, suc, true, false, Some, None, Ok, List, [], ◌∷◌, slice_get}
 use Rattle.sm_syntax.specs.claim.Fill.{filling}
 use Rattle.sm_syntax.specs.claim.ConflictFree.{Copy}
 use Rattle.sm_syntax.specs.text.Conditions.{first_refusal}

@@ -1,6 +1,5 @@
 -- Cited by public clauses: how large the plan of a task may be with all templates chosen.
-use Rattle.std.specs.Prelude.{ℕ, ◌+◌, nat_le, Bool, false, ◌&&◌, Result, Ok, Err, List, [], ◌∷◌}
-use Rattle.std.specs.Prelude.{length}
+use Rattle.std.specs.Prelude.{ℕ, ◌+◌, nat_le, Bool, false, ◌&&◌, Result, Ok, Err, List, [], ◌∷◌, length}
 use Rattle.sm_syntax.specs.text.Parts.{Parts, task_of}
 use Rattle.sm_plan.specs.Plans.{size, Due, Fault, obligations}
 use Rattle.sm_product.specs.ProductPlans.{plan_of, full_choice}

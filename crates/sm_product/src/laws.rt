@@ -1,6 +1,5 @@
 // What holds of the plans of products, as contracts.
-ghost use Rattle.sm_product.specs.Laws.{ProductIsFresh, ProductExpands, KeepsChosen};
-ghost use Rattle.sm_product.specs.Laws.{ValidHasNoHole};
+ghost use Rattle.sm_product.specs.Laws.{ProductIsFresh, ProductExpands, KeepsChosen, ValidHasNoHole};
 
 /// The plan of each choice is fresh, and has obligations exactly where it is within its limits,
 /// wherever no filling has a hole, as in each valid task.

@@ -1,6 +1,5 @@
 // The product of a while of the shared code.
-ghost use Rattle.std.specs.Prelude.{◌≡◌, ◌≤◌, ◌++◌, ◌==◌, map};
-ghost use Rattle.std.specs.Prelude.{if◌then◌else◌, bit_and, ℕ, List, [], ◌∷◌, IfOk, IfErr, OnOk};
+ghost use Rattle.std.specs.Prelude.{◌≡◌, ◌≤◌, ◌++◌, ◌==◌, map, if◌then◌else◌, bit_and, ℕ, List, [], ◌∷◌, IfOk, IfErr, OnOk};
 ghost use Rattle.sm_syntax.specs.claim.ConflictFree.{Copy};
 ghost use Rattle.sm_syntax.specs.text.Sorts.{IsWellSorted};
 ghost use Rattle.sm_syntax.specs.trees.Views.{code_of};

@@ -1,6 +1,5 @@
 // The mini-product of a set of copies: their code, move by move, and then what follows.
-ghost use Rattle.std.specs.Prelude.{◌≡◌, ◌≤◌, false};
-ghost use Rattle.std.specs.Prelude.{IfOk, IfErr};
+ghost use Rattle.std.specs.Prelude.{◌≡◌, ◌≤◌, false, IfOk, IfErr};
 ghost use Rattle.sm_syntax.specs.claim.ConflictFree.{Copy};
 ghost use Rattle.sm_syntax.specs.text.Parts.{Parts};
 ghost use Rattle.sm_syntax.specs.text.Sorts.{IsWellSorted};

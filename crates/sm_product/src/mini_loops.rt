@@ -1,6 +1,5 @@
 // The loops in a mini-product, and their turns.
-ghost use Rattle.std.specs.Prelude.{◌≡◌, ◌==◌, ◌≤◌, bit_and, false, [], ◌∷◌, ◌++◌, map};
-ghost use Rattle.std.specs.Prelude.{IfOk, IfErr, OnOk, if◌then◌else◌};
+ghost use Rattle.std.specs.Prelude.{◌≡◌, ◌==◌, ◌≤◌, bit_and, false, [], ◌∷◌, ◌++◌, map, IfOk, IfErr, OnOk, if◌then◌else◌};
 ghost use Rattle.sm_syntax.specs.claim.ConflictFree.{Copy};
 ghost use Rattle.sm_syntax.specs.text.Parts.{Parts};
 ghost use Rattle.sm_syntax.specs.text.Sorts.{IsWellSorted};

@@ -17,8 +17,7 @@ ghost use Rattle.sm_sketch.specs.Errors.{TellsSketch};
 ghost use Rattle.sm_sketch.specs.Sketches as plain;
 ghost use Rattle.sm_sketch.specs.SketchViews.{sketch_in, IsSketchReady};
 ghost use Rattle.sm_product.specs.MiniProducts.{side_by_side, statements_left};
-ghost use Rattle.sm_product.specs.Paths.{IsFilled, first_taken};
-ghost use Rattle.sm_product.specs.Paths.{is_straight, after_move, move_before, moves_before};
+ghost use Rattle.sm_product.specs.Paths.{IsFilled, first_taken, is_straight, after_move, move_before, moves_before};
 
 use sm_moves::{Move, bit, copy_rests, fork, has, move_of};
 use sm_plan::Continuation;

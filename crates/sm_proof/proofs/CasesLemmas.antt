@@ -5,18 +5,11 @@ use Rattle.sm_theory.specs.Named.{reads_all}
 use Rattle.sm_num.specs.Eliminating.{gcd}
 use Rattle.sm_omega.specs.Exact.{exact}
 use Rattle.sm_plan.specs.Limits.{is_shallow}
-use Rattle.sm_proof.specs.declared.line.FormLine.{FormLine}
-use Rattle.sm_proof.specs.declared.line.NodeLine.{NodeLine}
-use Rattle.sm_proof.specs.declared.line.TermLine.{TermLine}
-use Rattle.sm_proof.specs.declared.word.Word.{Word}
-use Rattle.sm_proof.specs.declared.word.Word.TheVariants.{Truncated, BadVersion, BadLine, Extra}
-use Rattle.sm_proof.specs.Lines.{NumberedLine, ProofLine, Header, Cert}
-use Rattle.sm_proof.specs.Named.{tested_or}
+use Rattle.sm_proof.specs.Lines.{NumberedLine, ProofLine, Header, Cert, TermLine, NodeLine, FormLine}
+use Rattle.sm_proof.specs.Named.{tested_or, Word, Truncated, BadVersion, BadLine, Extra}
 use Rattle.sm_proof.specs.Versions.{has_exact}
-use Rattle.sm_proof.specs.Verdicts.{Subject, Standing, Reached, next_standing, reached_after, reached, lines_in, verdict_at_end, Rejected}
-use Rattle.sm_proof.specs.Verdicts.{Unopened, Before, passes_version, opens_if}
-use Rattle.sm_proof.specs.Cases.{reached_on, verdict_on, AreRead, FilesAreLines, whole, plain, WholeComesOut, VersionsComeOut, WordsComeOut}
-use Rattle.sm_proof.specs.Cases.{ExactComesOut, CasesComeOut}
+use Rattle.sm_proof.specs.Verdicts.{Subject, Standing, Reached, next_standing, reached_after, reached, lines_in, verdict_at_end, Rejected, Unopened, Before, passes_version, opens_if}
+use Rattle.sm_proof.specs.Cases.{reached_on, verdict_on, AreRead, FilesAreLines, whole, plain, WholeComesOut, VersionsComeOut, WordsComeOut, ExactComesOut, CasesComeOut}
 use Rattle.sm_proof.proofs.ExactLines.{goes_alike}
 use Rattle.sm_proof.proofs.TextCases.{texts_come_out}
 

@@ -18,13 +18,10 @@ use Rattle.sm_theory.proofs.TheoriesLemmas.{some_way_holds_from, ways_are_sorted
 use Rattle.sm_theory.specs.Named.{is_split}
 use Rattle.sm_cert.proofs.CertificateSound.{facts_append, sorted_append}
 use Rattle.sm_plan.specs.Limits.{is_shallow}
-use Rattle.sm_proof.specs.declared.word.Word.{Word}
-use Rattle.sm_proof.specs.declared.word.Word.TheVariants.{BadNumber, Deep, First}
 use Rattle.sm_proof.specs.Lines.{NumberedLine}
-use Rattle.sm_proof.specs.Named.{found_or, named_line, line_head}
+use Rattle.sm_proof.specs.Named.{found_or, named_line, line_head, Word, BadNumber, Deep, First}
 use Rattle.sm_proof.specs.Passing.{Pending, Branch, Progress, branches_before, after_line}
-use Rattle.sm_proof.proofs.ProgressLemmas.{Each, IsTreeFine, IsPendingFine, IsFine, IsShown, GoesOn, each_append, each_parts, each_gives}
-use Rattle.sm_proof.proofs.ProgressLemmas.{found_from, tested_from, same_end, facts_below_append}
+use Rattle.sm_proof.proofs.ProgressLemmas.{Each, IsTreeFine, IsPendingFine, IsFine, IsShown, GoesOn, each_append, each_parts, each_gives, found_from, tested_from, same_end, facts_below_append}
 use Rattle.sm_proof.proofs.NamedKept.{named_line_fine}
 
 -- the ways in which a branch goes on, as branches

@@ -1,13 +1,11 @@
 -- No word of a line has a space.
-use Rattle.std.proofs.Common.{◌≡◌, ℕ, ℤ, ◌<◌, ◌≤◌, ◌^◌, Bool, true, false, if◌then◌else◌, List, [], ◌∷◌, map}
-use Rattle.std.proofs.Common.{refl, ap, ◌∙◌, arith}
+use Rattle.std.proofs.Common.{◌≡◌, ℕ, ℤ, ◌<◌, ◌≤◌, ◌^◌, Bool, true, false, if◌then◌else◌, List, [], ◌∷◌, map, refl, ap, ◌∙◌, arith, pos, negsuc, suc}
 use Rattle.std.specs.Fmt.{decimal, signed_decimal}
 use Rattle.sm_proof.specs.declared.kind.FormKind.TheVariants as kind
 use Rattle.sm_proof.specs.declared.kind.TermKind.TheVariants as kinds
 use Rattle.sm_proof.specs.declared.line.FormLine.TheVariants as form
 use Rattle.sm_proof.specs.declared.line.NodeLine.TheVariants as node
 use Rattle.sm_proof.specs.declared.line.TermLine.TheVariants as term
-use Rattle.sm_proof.specs.declared.word.Head.{Head}
 use Rattle.sm_proof.specs.declared.word.Head.TheVariants as head
 use Rattle.sm_proof.specs.FieldRanges.{IsWithinFields, AreNumbers, numbers_of}
 use Rattle.sm_proof.specs.Fields.{copy, side, set}
@@ -19,19 +17,18 @@ use Rattle.std.proofs.lemmas.Bool.{ne_eqb}
 use Rattle.std.proofs.lemmas.Bool.Decides.{Decides-ltb}
 use Rattle.std.proofs.lemmas.Fmt.{decimal_is_IsNumeral_wide}
 use Rattle.std.proofs.lemmas.Str.Parse.{digit_from_value}
-use Rattle.std.proofs.Common.{pos, negsuc, suc}
 use Rattle.sm_num.specs.Range.{fits}
-use Rattle.sm_proof.specs.Named.{line_head}
+use Rattle.sm_proof.specs.Named.{line_head, Head}
 use Rattle.sm_proof.proofs.NumberLemmas.{literal_fits}
 use Rattle.sm_proof.proofs.SplitLemmas.{is_clear, are_clear}
 
-small_copy : (n : ℕ) → n ≤ copy → n < 2 ^ 64
+pub small_copy : (n : ℕ) → n ≤ copy → n < 2 ^ 64
 small_copy n low = omega arith
 
-small_side : (n : ℕ) → n ≤ side → n < 2 ^ 64
+pub small_side : (n : ℕ) → n ≤ side → n < 2 ^ 64
 small_side n low = omega arith
 
-small_set : (n : ℕ) → n ≤ set → n < 2 ^ 64
+pub small_set : (n : ℕ) → n ≤ set → n < 2 ^ 64
 small_set n low = omega arith
 
 -- no space is in a word of a line

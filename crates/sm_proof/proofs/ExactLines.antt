@@ -1,12 +1,9 @@
 -- A line that was read is a line `exact` where its bytes begin so.
 use Rattle.std.proofs.Common.{◌≡◌, ℕ, Bool, true, false, not, if◌then◌else◌, Result, Ok, Err, List, refl, ap, sym, ◌∙◌}
-use Rattle.sm_proof.specs.declared.line.NodeLine.{NodeLine}
 use Rattle.sm_proof.specs.declared.line.NodeLine.TheVariants as node
-use Rattle.sm_proof.specs.declared.word.Word.{Word}
-use Rattle.sm_proof.specs.declared.word.Word.TheVariants.{BadLine}
 use Rattle.sm_proof.specs.Lines as line
-use Rattle.sm_proof.specs.Lines.{NumberedLine, ProofLine, Header, Term, Form, Node, Cert}
-use Rattle.sm_proof.specs.Named.{tested_or, and_then}
+use Rattle.sm_proof.specs.Lines.{NumberedLine, ProofLine, Header, Term, Form, Node, Cert, NodeLine}
+use Rattle.sm_proof.specs.Named.{tested_or, and_then, Word, BadLine}
 use Rattle.sm_proof.specs.Passing.{Progress, taken}
 use Rattle.sm_proof.specs.Reading.{read}
 use Rattle.sm_proof.specs.Spelling.{line_words}

@@ -1,14 +1,11 @@
 -- The numbers of a line, field by field.
-use Rattle.std.proofs.Common.{◌≡◌, ℕ, suc, ◌<◌, ◌≤◌, ◌^◌, Bool, true, false, ◌==◌, Option, Some, None, Ok, Err, List, [], ◌∷◌, length, map}
-use Rattle.std.proofs.Common.{refl, sym, ap, subst, ◌∙◌, arith}
+use Rattle.std.proofs.Common.{◌≡◌, ℕ, suc, ◌<◌, ◌≤◌, ◌^◌, Bool, true, false, ◌==◌, Option, Some, None, Ok, Err, List, [], ◌∷◌, length, map, refl, sym, ap, subst, ◌∙◌, arith}
 use Rattle.std.proofs.lemmas.Bool.Decides.{Decides-eqb}
 use Rattle.std.specs.Fmt.{decimal}
 use Rattle.std.specs.Prelude.{Result}
-use Rattle.sm_proof.specs.declared.word.Word.{Word}
-use Rattle.sm_proof.specs.declared.word.Word.TheVariants.{BadLine, BadNumber}
 use Rattle.sm_proof.specs.Fields.{Takes, filled, taking}
 use Rattle.sm_proof.specs.Lines.{ProofLine}
-use Rattle.sm_proof.specs.Named.{found_or, tested_or}
+use Rattle.sm_proof.specs.Named.{found_or, tested_or, Word, BadLine, BadNumber}
 use Rattle.sm_proof.specs.Numbers.{number_in}
 use Rattle.sm_proof.proofs.NumberLemmas.{number_back, number_spelled}
 

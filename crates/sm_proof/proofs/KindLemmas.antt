@@ -9,8 +9,7 @@ use Rattle.sm_proof.specs.declared.kind.TermKind.{TermKind}
 use Rattle.sm_proof.specs.declared.kind.TermKind.TheVariants as kinds
 use Rattle.sm_proof.specs.declared.word.Head.{Head}
 use Rattle.sm_proof.specs.declared.word.Head.TheVariants as head
-use Rattle.sm_proof.specs.HeadWords.{version_word, head_word, term_word, form_word, heads, term_kinds, form_kinds, head_of, term_kind_of}
-use Rattle.sm_proof.specs.HeadWords.{form_kind_of}
+use Rattle.sm_proof.specs.HeadWords.{version_word, head_word, term_word, form_word, heads, term_kinds, form_kinds, head_of, term_kind_of, form_kind_of}
 
 -- a kind that is found has the word
 found_is : {K : Type 0} (word_of : K → List ℕ) (kinds : List K) (word : List ℕ) (k : K)

@@ -1,6 +1,5 @@
 -- What the loop over the digits of a word finds.
-use Rattle.std.proofs.Common.{◌≡◌, ℕ, zero, suc, ◌+◌, ◌*◌, ◌-◌, ◌<◌, ◌≤◌, ◌^◌, true, false, nat_lt, ℤ, pos, negsuc, ◌-ℤ◌, to_z, of_z}
-use Rattle.std.proofs.Common.{Option, Some, None, List, ◌∷◌, length, take, drop, get_or, refl, sym, ap, subst, ◌∙◌, arith}
+use Rattle.std.proofs.Common.{◌≡◌, ℕ, zero, suc, ◌+◌, ◌*◌, ◌-◌, ◌<◌, ◌≤◌, ◌^◌, true, false, nat_lt, ℤ, pos, negsuc, ◌-ℤ◌, to_z, of_z, Option, Some, None, List, ◌∷◌, length, take, drop, get_or, refl, sym, ap, subst, ◌∙◌, arith}
 use Rattle.std.proofs.lemmas.Bool.Decides.{Decides-ltb, nat_tests}
 use Rattle.std.proofs.lemmas.Fmt.{decimal_is_IsNumeral_wide, decimal_digit}
 use Rattle.std.proofs.lemmas.Int.{ints, to_z-of_z}

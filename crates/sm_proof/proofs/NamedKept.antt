@@ -1,5 +1,5 @@
 -- Lines of certificates name terms that are there, and nodes keep formulas that are there.
-use Rattle.std.proofs.Common.{◌≡◌, ℕ, ◌<◌, Bool, ◌&&◌, true, false, nat_lt, nat_le, if◌then◌else◌, Option, Some, None, slice_get, List, [], ◌∷◌, length, refl, ap, subst}
+use Rattle.std.proofs.Common.{◌≡◌, ℕ, ◌<◌, Bool, ◌&&◌, true, false, nat_lt, nat_le, if◌then◌else◌, Some, None, slice_get, List, [], ◌∷◌, length, refl, ap, subst}
 use Rattle.std.proofs.lemmas.Bool.{and_from, ltb-true, lt-ltb}
 use Rattle.std.proofs.lemmas.Option.{same_Some, slice_get-get_or}
 use Rattle.sm_syntax.specs.claim.ConflictFree.{copy_of}
@@ -17,23 +17,18 @@ use Rattle.sm_plan.specs.Masks.{set_of}
 use Rattle.sm_plan.specs.Nodes as plan
 use Rattle.sm_plan.specs.Nodes.{IsFreshAt}
 use Rattle.sm_plan.specs.SortedStates.{IsNodeSorted}
-use Rattle.sm_proof.specs.declared.line.NodeLine.{NodeLine}
 use Rattle.sm_proof.specs.declared.line.NodeLine.TheVariants as node
-use Rattle.sm_proof.specs.Lines.{NumberedLine}
+use Rattle.sm_proof.specs.Lines.{NumberedLine, NodeLine}
 use Rattle.sm_proof.specs.Named.{are_there, named_line, named_node}
 use Rattle.sm_proof.proofs.ProgressLemmas.{Each, IsFormFine, each_at}
-
--- both tests pass
-both : (a b : Bool) → (a && b) ≡ true → (a ≡ true) × (b ≡ true)
-both true b e = (refl, e)
-both false b e = absurd cc
+use Rattle.sm_lemmas.proofs.Tests.{both_pass}
 
 -- numbers that are there are below the count
 pub there_below : (count : ℕ) (ns : List ℕ) → are_there count ns ≡ true → EachOf (λ (n : ℕ). n < count) ns
 there_below count [] e = tt
-there_below count (n ∷ []) e = ltb-true n count (both (nat_lt n count) true e).0
+there_below count (n ∷ []) e = ltb-true n count (both_pass (nat_lt n count) true e).0
 there_below count (n ∷ (m ∷ ms)) e =
-    let it = both (nat_lt n count) (are_there count (m ∷ ms)) e in (ltb-true n count it.0, there_below count (m ∷ ms) it.1)
+    let it = both_pass (nat_lt n count) (are_there count (m ∷ ms)) e in (ltb-true n count it.0, there_below count (m ∷ ms) it.1)
 
 -- numbers below the count are there
 all_there : (count : ℕ) (ns : List ℕ) → EachOf (λ (n : ℕ). n < count) ns → are_there count ns ≡ true

@@ -17,18 +17,15 @@ use Rattle.sm_plan.specs.Plans.{AllValid}
 use Rattle.sm_plan.specs.SoundStates.{AreSound, IsStateBelow, AreStatesBelow}
 use Rattle.sm_plan.specs.SortedStates.{IsStateSorted, AreStatesSorted}
 use Rattle.sm_plan.proofs.BelowLemmas.{negate_below, state_later}
-use Rattle.sm_plan.proofs.SortedTerms.{negate_sorted}
 use Rattle.sm_plan.proofs.NodeSound.{node_sound, node_below, node_goals_below}
 use Rattle.sm_plan.proofs.NodeSorted.{node_sorted}
 use Rattle.sm_proof.specs.declared.line.NodeLine.{NodeLine}
-use Rattle.sm_proof.specs.declared.word.Word.{Word}
-use Rattle.sm_proof.specs.declared.word.Word.TheVariants.{BadNumber, Deep, First}
-use Rattle.sm_proof.specs.Named.{found_or, named_node, node_head}
+use Rattle.sm_proof.specs.Named.{found_or, named_node, node_head, Word, BadNumber, Deep, First}
 use Rattle.sm_proof.specs.Passing.{Pending, Due, Progress, goal_branch, opened_before, after_node}
-use Rattle.sm_proof.proofs.ProgressLemmas.{Each, IsPendingFine, IsFine, IsShown, GoesOn, each_append, each_parts}
-use Rattle.sm_proof.proofs.ProgressLemmas.{found_from, tested_from, same_end, as_facts_sorted, as_facts_below, facts_below_append}
-use Rattle.sm_proof.proofs.ProgressLemmas.{terms_later, forms_later, all_later}
+use Rattle.sm_proof.proofs.ProgressLemmas.{Each, IsPendingFine, IsFine, IsShown, GoesOn, each_append, each_parts, found_from, tested_from, same_end, as_facts_below, facts_below_append, terms_later, forms_later, all_later}
 use Rattle.sm_proof.proofs.NamedKept.{IsNodeFine, named_node_fine}
+use Rattle.sm_term.proofs.SortedForms.{negate_sorted}
+use Rattle.sm_theory.proofs.SortedFacts.{as_facts_sorted}
 
 -- formulas that hold are facts
 hold_as_facts : (m : Structure) (fs gs : List Assertion) → AllHold m (fs ++ gs) → AreFacts m (as_facts fs ++ as_facts gs)

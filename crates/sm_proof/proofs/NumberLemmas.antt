@@ -1,26 +1,19 @@
 -- Numbers and the words that spell them.
-use Rattle.std.proofs.Common.{◌≡◌, ℕ, suc, ◌<◌, ◌≤◌, ◌^◌, ◌&&◌, ℤ, pos, negsuc, neg_ℤ, Bool, true, false, cond, if◌then◌else◌}
-use Rattle.std.proofs.Common.{Option, Some, None, List, [], ◌∷◌, length, drop, map, nat_le, refl, sym, ap, subst, ◌∙◌, arith}
-use Rattle.std.proofs.lemmas.Bool.{ne_eqb}
-use Rattle.std.proofs.lemmas.Bool.Decides.{Decides-ltb, nat_tests}
+use Rattle.std.proofs.Common.{◌≡◌, ℕ, suc, ◌<◌, ◌≤◌, ◌^◌, ◌&&◌, ℤ, pos, negsuc, neg_ℤ, Bool, true, false, cond, if◌then◌else◌, Option, Some, None, List, [], ◌∷◌, map, nat_le, refl, sym, ap, subst, ◌∙◌, arith}
+use Rattle.std.proofs.lemmas.Bool.Decides.{Decides-ltb}
 use Rattle.std.proofs.lemmas.Fmt.{decimal_is_IsNumeral_wide}
 use Rattle.std.proofs.lemmas.Int.{ints}
 use Rattle.std.proofs.lemmas.Slice.Eq.{bytes_eq-Decides}
-use Rattle.std.proofs.lemmas.Str.Parse.{digit_from_value}
 use Rattle.std.specs.Fmt.{decimal, signed_decimal}
 use Rattle.std.specs.Str.{bytes_eq}
-use Rattle.std.specs.Str.Parse.{AllDigits, digits_value, starts_with_minus, without_leading_plus, without_leading_sign, signed_digits_value}
+use Rattle.std.specs.Str.Parse.{digits_value, without_leading_sign, signed_digits_value}
 use Rattle.sm_num.specs.Range.{fits}
 use Rattle.sm_theory.specs.Lines.{followed}
 use Rattle.sm_proof.specs.FieldRanges.{IsLiteral, AreNumbers}
 use Rattle.sm_proof.specs.Fields.{any}
 use Rattle.sm_proof.specs.Numbers.{number_in, literal_in, numbers_in}
-
-le_from_test : (a b : ℕ) → nat_le a b ≡ true → a ≤ b
-le_from_test a b h = grind (arith, nat_tests)
-
-test_from_le : (a b : ℕ) → a ≤ b → nat_le a b ≡ true
-test_from_le a b h = grind (arith, nat_tests)
+use Rattle.sm_lemmas.proofs.Numbers.{no_minus, unsigned}
+use Rattle.sm_lemmas.proofs.Tests.{le_from_test, le_true}
 
 -- the choice of two tests
 both_true : {T : Type 0} (a b : Bool) (x y : T) → (if a && b then Some x else None) ≡ Some y → (a ≡ true) × (b ≡ true) × (x ≡ y)
@@ -44,7 +37,7 @@ unfolding number_in
 number_spelled most n low small =
     let value = (decimal_is_IsNumeral_wide n small).1 in
     ap (λ (v : ℕ). if nat_le v most && bytes_eq (decimal v) (decimal n) then Some v else None) value
-    ∙ ap (λ (b : Bool). if b && bytes_eq (decimal n) (decimal n) then Some n else None) (test_from_le n most low)
+    ∙ ap (λ (b : Bool). if b && bytes_eq (decimal n) (decimal n) then Some n else None) (le_true n most low)
     ∙ ap (λ (b : Bool). if b then Some n else None) ((bytes_eq-Decides (decimal n) (decimal n)).1 refl)
 
 -- words that spell numbers are their texts
@@ -76,19 +69,6 @@ numbers_spelled (n ∷ ns) h =
     let one = number_spelled any n (omega (arith, h.0)) (omega (arith, h.0)) in
     let more = numbers_spelled ns h.1 in
     rw (one, more) refl
-
--- digits begin with no sign
-no_minus : (ds : List ℕ) → AllDigits 10 ds → 0 < length ds → starts_with_minus ds ≡ false
-no_minus [] d some = absurd (omega arith)
-no_minus (c ∷ cs) d some = ne_eqb c 45 (λ (e : c ≡ 45). omega (arith, digit_from_value c d.0))
-
-no_plus : (ds : List ℕ) → AllDigits 10 ds → 0 < length ds → without_leading_plus ds ≡ ds
-no_plus [] d some = absurd (omega arith)
-no_plus (c ∷ cs) d some =
-    ap (λ (b : Bool). drop (cond b 1 0) (c ∷ cs)) (ne_eqb c 43 (λ (e : c ≡ 43). omega (arith, digit_from_value c d.0)))
-
-unsigned : (ds : List ℕ) → AllDigits 10 ds → 0 < length ds → without_leading_sign ds ≡ ds
-unsigned ds d some = ap (λ (b : Bool). cond b (drop 1 ds) (without_leading_plus ds)) (no_minus ds d some) ∙ no_plus ds d some
 
 -- the text of a number has its value
 pub value_of_text : (z : ℤ) → fits z ≡ true → signed_digits_value 10 (signed_decimal z) ≡ z

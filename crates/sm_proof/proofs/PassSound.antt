@@ -12,19 +12,15 @@ use Rattle.sm_plan.specs.SortedStates.{IsTaskSorted}
 use Rattle.sm_plan.proofs.BelowLemmas.{start_below}
 use Rattle.sm_plan.proofs.SortedStates.{start_sorted}
 use Rattle.sm_plan.proofs.PlanSound.{start_conflict_free}
-use Rattle.sm_proof.specs.declared.word.Word.{Word}
 use Rattle.sm_proof.specs.declared.word.Word.TheVariants as word
 use Rattle.sm_proof.specs.Lines.{ProofLine, Header, Term, Form, Node, Cert}
 use Rattle.sm_proof.specs.Passing.{Pending, Due, Branch, Progress, start_progress, term_made, form_made, taken_at, taken}
-use Rattle.sm_proof.specs.Verdicts.{Subject, subject_of, passes_version, Standing, Unopened, Underway, opens_if, next_standing}
-use Rattle.sm_proof.specs.Verdicts.{Reached, Refused, Before, reached_after, reached, lines_in, Pass, Rejected, none_waits}
-use Rattle.sm_proof.specs.Verdicts.{verdict_at_end}
-use Rattle.sm_proof.specs.Named.{and_then}
+use Rattle.sm_proof.specs.Verdicts.{Subject, subject_of, passes_version, Standing, Unopened, Underway, opens_if, next_standing, Reached, Refused, Before, reached_after, reached, lines_in, Pass, Rejected, none_waits, verdict_at_end}
+use Rattle.sm_proof.specs.Named.{and_then, Word}
 use Rattle.sm_proof.specs.Reading.{read}
 use Rattle.sm_proof.specs.Versions.{has_exact, may_stand, read_with}
 use Rattle.sm_proof.specs.Laws.{PassIsFree}
-use Rattle.sm_proof.proofs.ProgressLemmas.{Each, IsTreeFine, IsFormFine, IsPendingFine, IsFine, IsShown, GoesOn}
-use Rattle.sm_proof.proofs.ProgressLemmas.{each_append, tested_from, made_from, same_end}
+use Rattle.sm_proof.proofs.ProgressLemmas.{Each, IsTreeFine, IsFormFine, IsPendingFine, IsFine, IsShown, GoesOn, each_append, tested_from, made_from, same_end}
 use Rattle.sm_proof.proofs.TermLinesKept.{term_made_fine, form_made_fine}
 use Rattle.sm_proof.proofs.NodesKept.{node_goes}
 use Rattle.sm_proof.proofs.CertLinesKept.{line_goes}

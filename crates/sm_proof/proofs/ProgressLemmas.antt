@@ -1,14 +1,13 @@
 -- What is kept of a proof on its way: each term, formula and pending thing is sorted, and names new values of earlier nodes alone.
 -- And what is shown of it in the end: each pending state is sound, and each pending branch is contradictory.
-use Rattle.std.proofs.Common.{◌≡◌, ◌≤◌, ℕ, zero, suc, Bool, true, false, Option, Some, None, Result, Ok, Err, slice_get}
-use Rattle.std.proofs.Common.{List, [], ◌∷◌, ◌++◌, refl, subst, arith}
+use Rattle.std.proofs.Common.{◌≡◌, ◌≤◌, ℕ, zero, suc, Bool, true, false, Option, Some, None, Result, Ok, Err, slice_get, List, [], ◌∷◌, ◌++◌, refl, subst, arith}
 use Rattle.std.specs.Prelude.{ℤ}
 use Rattle.std.proofs.lemmas.Option.{same_Some}
 use Rattle.sm_syntax.specs.claim.ConflictFree.{Copy}
 use Rattle.sm_syntax.specs.text.Sorts.{Sorts}
 use Rattle.sm_term.specs.Terms.{Tree}
 use Rattle.sm_term.specs.Assertions.{Assertion}
-use Rattle.sm_term.specs.Sorted.{IsSorted, IsFormSorted, AreFormsSorted, IsStoreSorted}
+use Rattle.sm_term.specs.Sorted.{IsSorted, IsFormSorted, IsStoreSorted}
 use Rattle.sm_term.specs.Fresh.{IsBelow, IsFormBelow, AreFormsBelow}
 use Rattle.sm_term.proofs.FreshLemmas.{tree_later, form_later}
 use Rattle.sm_theory.specs.Facts.{BranchFact, Formal, Sum, IsContradictory, as_facts}
@@ -16,8 +15,7 @@ use Rattle.sm_theory.specs.SortedFacts.{EachAtom, AreFactsSorted, IsFactBelow, A
 use Rattle.sm_plan.specs.SoundStates.{IsSound, IsStateBelow}
 use Rattle.sm_plan.specs.SortedStates.{IsStateSorted}
 use Rattle.sm_plan.proofs.BelowLemmas.{state_later}
-use Rattle.sm_proof.specs.declared.word.Word.{Word}
-use Rattle.sm_proof.specs.Named.{found_or, tested_or, and_then}
+use Rattle.sm_proof.specs.Named.{found_or, tested_or, and_then, Word}
 use Rattle.sm_proof.specs.Passing.{Pending, Due, Branch, Progress}
 
 -- something is so of each element
@@ -119,11 +117,6 @@ facts_later k l more (f ∷ fs) all = (fact_later k l more f all.0, facts_later 
 pub facts_below_append : (k : ℕ) (fs gs : List BranchFact) → AreFactsBelow k fs → AreFactsBelow k gs → AreFactsBelow k (fs ++ gs)
 facts_below_append k [] gs first second = second
 facts_below_append k (f ∷ fs) gs first second = (first.0, facts_below_append k fs gs first.1 second)
-
--- formulas as facts are sorted
-pub as_facts_sorted : (sorts : Sorts) (fs : List Assertion) → AreFormsSorted sorts fs → AreFactsSorted sorts (as_facts fs)
-as_facts_sorted sorts [] all = tt
-as_facts_sorted sorts (f ∷ fs) all = (all.0, as_facts_sorted sorts fs all.1)
 
 -- formulas as facts are below a node where the formulas are
 pub as_facts_below : (k : ℕ) (fs : List Assertion) → AreFormsBelow k fs → AreFactsBelow k (as_facts fs)

@@ -1,6 +1,5 @@
 -- What is read is a line within its fields, and the bytes are its text.
-use Rattle.std.proofs.Common.{◌≡◌, ℕ, ℤ, ◌<◌, ◌≤◌, ◌^◌, Bool, true, false, nat_le, if◌then◌else◌, Option, Some, None, Ok, Err, List, []}
-use Rattle.std.proofs.Common.{◌∷◌, length, refl, sym, ap, subst, ◌∙◌, arith}
+use Rattle.std.proofs.Common.{◌≡◌, ℕ, ℤ, ◌<◌, ◌≤◌, ◌^◌, Bool, true, false, nat_le, if◌then◌else◌, Option, Some, None, Ok, Err, List, [], ◌∷◌, length, refl, sym, ap, subst, ◌∙◌, arith}
 use Rattle.std.specs.Prelude.{codes}
 use Rattle.std.specs.Str.{bytes_eq}
 use Rattle.std.specs.Fmt.{decimal}
@@ -13,15 +12,13 @@ use Rattle.sm_proof.specs.declared.kind.TermKind.TheVariants as kinds
 use Rattle.sm_proof.specs.declared.line.FormLine.TheVariants as form
 use Rattle.sm_proof.specs.declared.line.NodeLine.TheVariants as node
 use Rattle.sm_proof.specs.declared.line.TermLine.TheVariants as term
-use Rattle.sm_proof.specs.declared.word.Head.{Head}
 use Rattle.sm_proof.specs.declared.word.Head.TheVariants as head
-use Rattle.sm_proof.specs.declared.word.Word.TheVariants.{BadLine, BadNumber}
 use Rattle.sm_proof.specs.FieldRanges.{IsWithinFields}
 use Rattle.sm_proof.specs.Fields.{any, copy, side, set}
 use Rattle.sm_proof.specs.HeadWords.{version_word, head_word, term_word, form_word, head_of, term_kind_of, form_kind_of}
 use Rattle.sm_proof.specs.Lines as line
 use Rattle.sm_proof.specs.Lines.{ProofLine, NumberedLine, Header, Term, Form, Node, Cert}
-use Rattle.sm_proof.specs.Named.{found_or, tested_or}
+use Rattle.sm_proof.specs.Named.{found_or, tested_or, BadLine, BadNumber, Head}
 use Rattle.sm_proof.specs.Numbers.{words_of, number_in, numbers_in, literal_in}
 use Rattle.sm_proof.specs.Reading.{read, read_words, read_rest, read_second, read_term, read_form, read_literal, read_cong, read_version}
 use Rattle.sm_proof.specs.Spelling.{spaced, spelled, line_words, HasKnownVersion}

@@ -1,7 +1,6 @@
 -- What a line is read as, as the code goes through its words.
-use Rattle.std.proofs.Common.{◌≡◌, ◌≢◌, ◌⊎◌, ℕ, suc, ◌+◌, ◌<◌, ◌≤◌, Bool, true, false, not, ◌==◌, cond, if◌then◌else◌, nat_le, Option, Some}
-use Rattle.std.proofs.Common.{None, option_map, Ok, Err}
-use Rattle.std.proofs.Common.{List, [], ◌∷◌, ◌++◌, length, take, refl, sym, ap, subst, ◌∙◌, inl, inr, arith, append_assoc, length-take-le}
+use Rattle.std.proofs.Common.{◌≡◌, ◌≢◌, ◌⊎◌, ℕ, suc, ◌+◌, ◌<◌, ◌≤◌, Bool, true, false, not, ◌==◌, cond, if◌then◌else◌, nat_le, Option, Some, None, option_map, Ok, Err, List, [], ◌∷◌, ◌++◌, length, take, refl, sym, ap, subst, ◌∙◌, inl, inr}
+use Rattle.std.proofs.Common.{arith, append_assoc, length-take-le}
 use Rattle.std.proofs.lemmas.Bool.Decides.{nat_tests}
 use mathlib.Core.List.{append-nil}
 use Rattle.std.specs.List.{prefix_len}
@@ -12,17 +11,14 @@ use Rattle.sm_proof.specs.declared.error.Fault.{Fault}
 use Rattle.sm_proof.specs.declared.error.Fault.TheVariants as fault
 use Rattle.sm_proof.specs.declared.error.LineError.{LineError}
 use Rattle.sm_proof.specs.declared.error.LineError.TheVariants as error
-use Rattle.sm_proof.specs.declared.word.Head.{Head}
 use Rattle.sm_proof.specs.declared.word.Head.TheVariants as head
-use Rattle.sm_proof.specs.declared.word.Word.{Word}
-use Rattle.sm_proof.specs.declared.word.Word.TheVariants.{BadLine, BadNumber}
 use Rattle.sm_proof.specs.Behind.{behind, fault_error, fault_word, IsAnswer, IsNextWord, IsNoNumber}
 use Rattle.sm_proof.specs.FieldRanges.{IsWithinFields}
 use Rattle.sm_proof.specs.Fields.{any}
 use Rattle.sm_proof.specs.HeadWords.{head_of, version_word}
 use Rattle.sm_proof.specs.Lines as line
 use Rattle.sm_proof.specs.Lines.{ProofLine, Cert}
-use Rattle.sm_proof.specs.Named.{found_or, tested_or}
+use Rattle.sm_proof.specs.Named.{found_or, tested_or, Word, BadLine, BadNumber, Head}
 use Rattle.sm_proof.specs.Numbers.{words_of, number_in, numbers_in}
 use Rattle.sm_proof.specs.Reading.{first_line, read, read_cong, read_rest, read_version, read_words}
 use Rattle.sm_proof.specs.Versions.{are_exact, begins_exact}

@@ -1,52 +1,35 @@
 -- The text of a line is read as the line.
-use Rattle.std.proofs.Common.{◌≡◌, ℕ, ℤ, ◌<◌, ◌≤◌, ◌^◌, Bool, true, nat_le, if◌then◌else◌, Option, Ok, List, [], ◌∷◌, length, map}
-use Rattle.std.proofs.Common.{refl, ap, ◌∙◌, arith}
+use Rattle.std.proofs.Common.{◌≡◌, ℕ, ℤ, ◌<◌, ◌≤◌, ◌^◌, Bool, true, if◌then◌else◌, Option, Ok, List, [], ◌∷◌, length, map, refl, ap, ◌∙◌, arith, zero, suc}
 use Rattle.std.specs.Prelude.{codes}
 use Rattle.std.specs.Fmt.{decimal, signed_decimal}
 use Rattle.sm_proof.specs.declared.kind.FormKind.{FormKind}
 use Rattle.sm_proof.specs.declared.kind.FormKind.TheVariants as kind
 use Rattle.sm_proof.specs.declared.kind.TermKind.{TermKind}
 use Rattle.sm_proof.specs.declared.kind.TermKind.TheVariants as kinds
-use Rattle.sm_proof.specs.declared.line.FormLine.{FormLine}
 use Rattle.sm_proof.specs.declared.line.FormLine.TheVariants as form
-use Rattle.sm_proof.specs.declared.line.NodeLine.{NodeLine}
 use Rattle.sm_proof.specs.declared.line.NodeLine.TheVariants as node
-use Rattle.sm_proof.specs.declared.line.TermLine.{TermLine}
 use Rattle.sm_proof.specs.declared.line.TermLine.TheVariants as term
-use Rattle.sm_proof.specs.declared.word.Head.{Head}
 use Rattle.sm_proof.specs.declared.word.Head.TheVariants as head
-use Rattle.sm_proof.specs.declared.word.Word.TheVariants.{BadLine, BadNumber}
 use Rattle.sm_proof.specs.FieldRanges.{IsWithinFields, IsLiteral, AreNumbers}
 use Rattle.sm_proof.specs.Fields.{any, copy, side, set}
 use Rattle.sm_proof.specs.HeadWords.{version_word, head_word, term_word, form_word, head_of}
 use Rattle.sm_proof.specs.Lines as line
-use Rattle.sm_proof.specs.Lines.{ProofLine, NumberedLine, Header, Term, Form, Node, Cert}
-use Rattle.sm_proof.specs.Named.{found_or, tested_or}
+use Rattle.sm_proof.specs.Lines.{ProofLine, NumberedLine, Header, Term, Form, Node, Cert, TermLine, NodeLine, FormLine}
+use Rattle.sm_proof.specs.Named.{found_or, tested_or, node_head, line_head, BadLine, BadNumber, Head}
 use Rattle.sm_proof.specs.Numbers.{words_of, number_in, numbers_in}
 use Rattle.sm_proof.specs.Reading.{read, read_words, read_rest, read_second, read_term, read_form, read_literal, read_cong, read_version}
 use Rattle.sm_proof.specs.Spelling.{spaced, spelled, line_words, HasKnownVersion}
 use Rattle.sm_proof.specs.SpellingLaws.{SpelledReadsBack}
-use Rattle.std.proofs.lemmas.Bool.Decides.{nat_tests}
 use Rattle.std.proofs.lemmas.Fmt.{decimal_digit}
-use Rattle.std.proofs.Common.{zero, suc}
-use Rattle.sm_proof.specs.Named.{node_head, line_head}
-use Rattle.sm_proof.proofs.ClearLemmas.{line_clear}
+use Rattle.sm_proof.proofs.ClearLemmas.{line_clear, small_copy, small_side, small_set}
 use Rattle.sm_proof.proofs.FieldLemmas.{taking_spelled}
 use Rattle.sm_proof.proofs.KindLemmas.{head_found, term_kind_found, form_kind_found, head_no_version}
 use Rattle.sm_proof.proofs.NumberLemmas.{number_spelled, numbers_spelled, literal_spelled, literal_fits}
 use Rattle.sm_proof.proofs.SplitLemmas.{are_clear, words_spaced}
+use Rattle.sm_lemmas.proofs.Tests.{le_true}
 
 upto : (n : ℕ) → n < 2 ^ 64 → n ≤ any
 upto n low = omega arith
-
-small_copy : (n : ℕ) → n ≤ copy → n < 2 ^ 64
-small_copy n low = omega arith
-
-small_side : (n : ℕ) → n ≤ side → n < 2 ^ 64
-small_side n low = omega arith
-
-small_set : (n : ℕ) → n ≤ set → n < 2 ^ 64
-small_set n low = omega arith
 
 -- words of a line are read behind its first words
 rest_read : (h : Head) (words : List (List ℕ)) → read_words (head_word h ∷ words) ≡ read_rest h words
@@ -383,14 +366,11 @@ words_same : (words : List (List ℕ)) (word : List ℕ) (more : List (List ℕ)
 words_same [] word more e clear = cc
 words_same (w ∷ ws) word more e clear = words_spaced w ws clear
 
-le_test : (a b : ℕ) → a ≤ b → nat_le a b ≡ true
-le_test a b h = grind (arith, nat_tests)
-
 pub spelled_back : SpelledReadsBack
 unfolding read spelled
 spelled_back l h k short =
     let s = some_first l in
-    ap (λ (b : Bool). tested_or b BadLine (read_words (words_of (spaced (line_words l))))) (le_test (length (spaced
+    ap (λ (b : Bool). tested_or b BadLine (read_words (words_of (spaced (line_words l))))) (le_true (length (spaced
     (line_words l))) 4096 short)
     ∙ ap read_words (words_same (line_words l) s.0 s.1.0 s.1.1 (line_clear l h))
     ∙ words_back l h k

@@ -8,13 +8,10 @@ use Rattle.std.proofs.lemmas.Str.Parse.{digit_from_value}
 use Rattle.sm_num.specs.Eliminating.{gcd}
 use Rattle.sm_omega.specs.Exact.{exact}
 use Rattle.sm_plan.specs.Limits.{is_shallow}
-use Rattle.sm_proof.specs.declared.line.NodeLine.TheVariants.{End}
-use Rattle.sm_proof.specs.declared.word.Word.{Word}
-use Rattle.sm_proof.specs.declared.word.Word.TheVariants.{BadNumber}
 use Rattle.sm_proof.specs.Fields.{any, taking}
 use Rattle.sm_proof.specs.HeadWords.{head_of}
-use Rattle.sm_proof.specs.Lines.{ProofLine, Exact, Close, Header, Node, Cert}
-use Rattle.sm_proof.specs.Named.{found_or}
+use Rattle.sm_proof.specs.Lines.{ProofLine, Exact, Close, Header, Node, Cert, End}
+use Rattle.sm_proof.specs.Named.{found_or, Word, BadNumber}
 use Rattle.sm_proof.specs.Numbers.{words_of, number_in}
 use Rattle.sm_proof.specs.Reading.{read, read_words, read_version}
 use Rattle.sm_proof.specs.Versions.{begins_exact}

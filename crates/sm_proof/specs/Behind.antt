@@ -1,6 +1,5 @@
 -- What is behind a word of a line, and what calls find there. No public clause cites it.
-use Rattle.std.specs.Prelude.{◌≡◌, ℕ, Bool, true, false, not, Option, None, Result, Ok, Err, List}
-use Rattle.std.specs.Prelude.{[], ◌∷◌}
+use Rattle.std.specs.Prelude.{◌≡◌, ℕ, Bool, true, false, not, Option, None, Result, Ok, Err, List, [], ◌∷◌}
 use Rattle.sm_proof.specs.declared.error.Fault.{Fault}
 use Rattle.sm_proof.specs.declared.error.Fault.TheVariants as fault
 use Rattle.sm_proof.specs.declared.error.LineError.{LineError}

@@ -4,30 +4,20 @@
 -- `end` can stand at once. Each of its three goals, when it is denied, is a conjunction in which x
 -- isn't x: `both` takes it apart, and `close` ends the branch. Or `order` says which of both is less,
 -- and `exact` that none is.
-use Rattle.std.specs.Prelude.{◌≡◌, ◌<◌, ℕ, suc, false, Option, Some, None, Ok}
-use Rattle.std.specs.Prelude.{List, [], ◌∷◌, ◌++◌, take, codes}
+use Rattle.std.specs.Prelude.{◌≡◌, ◌<◌, ℕ, suc, false, Option, Some, None, Ok, List, [], ◌∷◌, ◌++◌, take, codes}
 use Rattle.sm_syntax.specs.declared.tree.Sort.TheVariants.{Num}
 use Rattle.sm_syntax.specs.claim.Syntax.{Condition, Yes}
 use Rattle.sm_syntax.specs.claim.Syntax as syntax
 use Rattle.sm_syntax.specs.claim.ConflictFree.{Copy}
 use Rattle.sm_syntax.specs.text.Parts.{Parts}
 use Rattle.sm_theory.specs.Named.{reads_all}
-use Rattle.sm_proof.specs.declared.line.FormLine.{FormLine}
 use Rattle.sm_proof.specs.declared.line.FormLine.TheVariants as form
-use Rattle.sm_proof.specs.declared.line.NodeLine.{NodeLine}
-use Rattle.sm_proof.specs.declared.line.NodeLine.TheVariants.{Step, Loop, End}
-use Rattle.sm_proof.specs.declared.line.TermLine.{TermLine}
-use Rattle.sm_proof.specs.declared.line.TermLine.TheVariants.{Cell, Cur, Of}
 use Rattle.sm_proof.specs.declared.word.Head.TheVariants as head
 use Rattle.sm_proof.specs.declared.word.Word.{Word}
-use Rattle.sm_proof.specs.declared.word.Word.TheVariants.{Truncated, BadVersion, BadLine}
-use Rattle.sm_proof.specs.declared.word.Word.TheVariants.{BadNumber, Extra, Order, First}
+use Rattle.sm_proof.specs.declared.word.Word.TheVariants.{Truncated, BadVersion, BadLine, BadNumber, Extra, Order, First}
 use Rattle.sm_proof.specs.Lines as line
-use Rattle.sm_proof.specs.Lines.{NumberedLine, Both, Refl, Lin, Exact, Close}
-use Rattle.sm_proof.specs.Lines.{ProofLine, Header, Term, Form, Node, Cert}
-use Rattle.sm_proof.specs.Verdicts.{Subject, subject_of, Standing, Unopened, next_standing}
-use Rattle.sm_proof.specs.Verdicts.{Reached, Before, reached_after, lines_in}
-use Rattle.sm_proof.specs.Verdicts.{Verdict, Pass, Rejected, verdict_at_end, verdict}
+use Rattle.sm_proof.specs.Lines.{NumberedLine, Both, Refl, Lin, Exact, Close, ProofLine, Header, Term, Form, Node, Cert, TermLine, Cell, Cur, Of, NodeLine, Step, Loop, End, FormLine}
+use Rattle.sm_proof.specs.Verdicts.{Subject, subject_of, Standing, Unopened, next_standing, Reached, Before, reached_after, lines_in, Verdict, Pass, Rejected, verdict_at_end, verdict}
 use Rattle.sm_proof.specs.Reading.{read}
 
 -- how far lines that were read come, the first with number n

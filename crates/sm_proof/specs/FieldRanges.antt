@@ -1,15 +1,10 @@
 -- Cited by public clauses: the numbers that the fields of a line may hold.
 use Rattle.std.specs.Prelude.{ℕ, ℤ, negsuc, pos, ◌≤◌, ◌<◌, ◌-◌, ◌^◌, ◌≤ℤ◌, List, [], ◌∷◌}
-use Rattle.sm_proof.specs.declared.line.FormLine.{FormLine}
 use Rattle.sm_proof.specs.declared.line.FormLine.TheVariants as form
-use Rattle.sm_proof.specs.declared.line.NodeLine.{NodeLine}
 use Rattle.sm_proof.specs.declared.line.NodeLine.TheVariants as node
-use Rattle.sm_proof.specs.declared.line.TermLine.{TermLine}
 use Rattle.sm_proof.specs.declared.line.TermLine.TheVariants as term
-use Rattle.sm_proof.specs.Lines.{NumberedLine, Both, Either, Cases, Order, Refl, Sym, Trans, Subst}
-use Rattle.sm_proof.specs.Lines.{Cong, Same, Apart, Hit, Miss, Lin, Elim, Tight, Exact}
-use Rattle.sm_proof.specs.Lines.{Close, Clash}
-use Rattle.sm_proof.specs.Lines.{ProofLine, Header, Term, Form, Node, Cert}
+use Rattle.sm_proof.specs.Lines.{NumberedLine, Both, Either, Cases, Order, Refl, Sym, Trans, Subst, Cong, Same, Apart, Hit, Miss, Lin, Elim, Tight, Exact, Close, Clash, ProofLine, Header, Term, Form, Node, Cert, TermLine, NodeLine}
+use Rattle.sm_proof.specs.Lines.{FormLine}
 
 -- a number that isn't told otherwise is below 2 to the 64
 abbrev pub IsNumber : ℕ → Type 0

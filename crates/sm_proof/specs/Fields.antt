@@ -1,9 +1,7 @@
 -- Cited by public clauses: the numbers of a line, field by field.
 use Rattle.std.specs.Prelude.{ℕ, ◌==◌, ◌-◌, ◌^◌, length, Result, Ok, Err, List, [], ◌∷◌}
-use Rattle.sm_proof.specs.declared.word.Word.{Word}
-use Rattle.sm_proof.specs.declared.word.Word.TheVariants.{BadLine, BadNumber}
 use Rattle.sm_proof.specs.Lines.{ProofLine}
-use Rattle.sm_proof.specs.Named.{found_or, tested_or}
+use Rattle.sm_proof.specs.Named.{found_or, tested_or, Word, BadLine, BadNumber}
 use Rattle.sm_proof.specs.Numbers.{number_in}
 
 -- the greatest numbers of fields: any number, a copy, a side, a set of copies

@@ -9,8 +9,7 @@ use Rattle.sm_proof.specs.declared.kind.TermKind.TheVariants as term
 use Rattle.sm_proof.specs.declared.word.Head.{Head}
 use Rattle.sm_proof.specs.declared.word.Head.TheVariants as head
 use Rattle.sm_proof.specs.declared.word.Word.{Word}
-use Rattle.sm_proof.specs.declared.word.Word.TheVariants.{Truncated, BadVersion, BadLine, BadNumber}
-use Rattle.sm_proof.specs.declared.word.Word.TheVariants.{Extra, Order, Deep, First}
+use Rattle.sm_proof.specs.declared.word.Word.TheVariants.{Truncated, BadVersion, BadLine, BadNumber, Extra, Order, Deep, First}
 
 -- the first word of a version line
 abbrev pub version_word : List ℕ

@@ -1,14 +1,15 @@
 -- Cited by public clauses: the lines of a proof file as plain data.
 use Rattle.std.specs.Prelude.{ℕ}
 use Rattle.sm_theory.specs.Lines.{LineOver}
-pub use Rattle.sm_theory.specs.Lines.{Both, Either, Cases, Order, Refl, Sym, Trans, Subst, Cong}
-pub use Rattle.sm_theory.specs.Lines.{Same, Apart, Hit, Miss, Lin, Elim, Tight, Exact, Close, Clash}
+pub use Rattle.sm_theory.specs.Lines.{Both, Either, Cases, Order, Refl, Sym, Trans, Subst, Cong, Same, Apart, Hit, Miss, Lin, Elim, Tight, Exact, Close, Clash}
 pub use Rattle.sm_theory.specs.Views.{numbered_line}
-use Rattle.sm_proof.specs.declared.line.Line.{Line}
+pub use Rattle.sm_proof.specs.declared.line.Line.{Line}
 use Rattle.sm_proof.specs.declared.line.Line.TheVariants as line
-use Rattle.sm_proof.specs.declared.line.TermLine.{TermLine}
-use Rattle.sm_proof.specs.declared.line.FormLine.{FormLine}
-use Rattle.sm_proof.specs.declared.line.NodeLine.{NodeLine}
+pub use Rattle.sm_proof.specs.declared.line.TermLine.{TermLine}
+pub use Rattle.sm_proof.specs.declared.line.FormLine.{FormLine}
+pub use Rattle.sm_proof.specs.declared.line.NodeLine.{NodeLine}
+pub use Rattle.sm_proof.specs.declared.line.TermLine.TheVariants.{Cell, Cur, Lit, Of}
+pub use Rattle.sm_proof.specs.declared.line.NodeLine.TheVariants.{End, Loop, Step}
 
 -- a line of a certificate as it is written: terms are numbers of lines
 abbrev pub NumberedLine : Type 0

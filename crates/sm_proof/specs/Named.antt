@@ -1,6 +1,5 @@
 -- Cited by public clauses: what a line names by numbers, and the words by which a line is refused.
-use Rattle.std.specs.Prelude.{ℕ, nat_lt, nat_le, Bool, true, ◌&&◌, if◌then◌else◌}
-use Rattle.std.specs.Prelude.{Option, Some, None, Result, Ok, Err, List, [], ◌∷◌, length, slice_get}
+use Rattle.std.specs.Prelude.{ℕ, nat_lt, nat_le, Bool, true, ◌&&◌, if◌then◌else◌, Option, Some, None, Result, Ok, Err, List, [], ◌∷◌, length, slice_get}
 use Rattle.sm_syntax.specs.claim.ConflictFree.{copy_of}
 use Rattle.sm_syntax.specs.text.Parts.{by_copy}
 use Rattle.sm_term.specs.Terms.{Tree}
@@ -10,14 +9,13 @@ use Rattle.sm_theory.specs.Lines.{CertificateLine, followed}
 use Rattle.sm_theory.specs.Named.{facts_named, terms_named, with_terms}
 use Rattle.sm_plan.specs.Masks.{set_of}
 use Rattle.sm_plan.specs.Nodes as plan
-use Rattle.sm_proof.specs.declared.line.NodeLine.{NodeLine}
 use Rattle.sm_proof.specs.declared.line.NodeLine.TheVariants as node
-use Rattle.sm_proof.specs.declared.word.Head.{Head}
+pub use Rattle.sm_proof.specs.declared.word.Head.{Head}
 use Rattle.sm_proof.specs.declared.word.Head.TheVariants as head
-use Rattle.sm_proof.specs.declared.word.Word.{Word}
-use Rattle.sm_proof.specs.Lines.{NumberedLine, Both, Either, Cases, Order, Refl, Sym, Trans, Subst}
-use Rattle.sm_proof.specs.Lines.{Cong, Same, Apart, Hit, Miss, Lin, Elim, Tight, Exact}
-use Rattle.sm_proof.specs.Lines.{Close, Clash}
+pub use Rattle.sm_proof.specs.declared.word.Word.{Word}
+use Rattle.sm_proof.specs.Lines.{NumberedLine, Both, Either, Cases, Order, Refl, Sym, Trans, Subst, Cong, Same, Apart, Hit, Miss, Lin, Elim, Tight, Exact, Close, Clash, NodeLine}
+pub use Rattle.sm_proof.specs.declared.word.Word.TheVariants.{BadLine, BadNumber, BadVersion, Deep, Extra, First, Truncated}
+pub use Rattle.sm_proof.specs.declared.word.Head.TheVariants.{P, T}
 
 -- goes on with what is there, and otherwise says a word
 abbrev pub found_or : {S T : Type 0} → Option S → Word → (S → Result T Word) → Result T Word

@@ -1,12 +1,10 @@
 -- Cited by public clauses: how a proof goes on after a line. What is pending stands in a list, of
 -- which the first is due. What a line opens takes that one's place.
-use Rattle.std.specs.Prelude.{ℕ, suc, ◌==◌, Bool, true, false, ◌&&◌, if◌then◌else◌, is_some}
-use Rattle.std.specs.Prelude.{slice_get, length, Option, Some, None, Result, Ok, Err}
-use Rattle.std.specs.Prelude.{List, [], ◌∷◌, ◌++◌, map}
-use Rattle.sm_syntax.specs.declared.tree.Sort.{Sort}
-use Rattle.sm_syntax.specs.declared.tree.Sort.TheVariants.{Num, Arr}
+use Rattle.std.specs.Prelude.{ℕ, suc, ◌==◌, Bool, true, false, ◌&&◌, if◌then◌else◌, is_some, slice_get, length, Option, Some, None, Result, Ok, Err, List, [], ◌∷◌, ◌++◌, map}
 use Rattle.sm_syntax.specs.claim.ConflictFree.{Copy, copy_of}
 use Rattle.sm_syntax.specs.text.Sorts.{Sorts}
+use Rattle.sm_syntax.specs.declared.tree.Sort.{Sort}
+use Rattle.sm_syntax.specs.declared.tree.Sort.TheVariants.{Num, Arr}
 use Rattle.sm_term.specs.Terms.{Tree, Lit, Start, Slot, Cell, Read, Write, Neg, Add, Sub, Mul}
 use Rattle.sm_term.specs.Assertions.{Assertion, Yes, No, Eq, Ne, Le, Lt, And, Or, negate}
 use Rattle.sm_term.specs.Heads.{arguments_of}
@@ -22,19 +20,13 @@ use Rattle.sm_plan.specs.NodeLists.{above_opened}
 use Rattle.sm_plan.specs.Nodes as plan
 use Rattle.sm_plan.specs.Nodes.{Opened, opened_by}
 use Rattle.sm_plan.specs.States.{State}
-use Rattle.sm_proof.specs.declared.line.FormLine.{FormLine}
 use Rattle.sm_proof.specs.declared.line.FormLine.TheVariants as form
-use Rattle.sm_proof.specs.declared.line.NodeLine.{NodeLine}
-use Rattle.sm_proof.specs.declared.line.TermLine.{TermLine}
 use Rattle.sm_proof.specs.declared.line.TermLine.TheVariants as term
 use Rattle.sm_proof.specs.declared.word.Head.TheVariants as head
-use Rattle.sm_proof.specs.declared.word.Word.{Word}
-use Rattle.sm_proof.specs.declared.word.Word.TheVariants.{BadLine, BadNumber, Extra, Deep, First}
 use Rattle.sm_proof.specs.declared.word.Word.TheVariants as word
 use Rattle.sm_proof.specs.Lines as line
-use Rattle.sm_proof.specs.Lines.{NumberedLine, ProofLine, Header, Term, Form, Node, Cert}
-use Rattle.sm_proof.specs.Named.{found_or, tested_or, and_then, named_line, named_node}
-use Rattle.sm_proof.specs.Named.{node_head, line_head}
+use Rattle.sm_proof.specs.Lines.{NumberedLine, ProofLine, Header, Term, Form, Node, Cert, TermLine, NodeLine, FormLine}
+use Rattle.sm_proof.specs.Named.{found_or, tested_or, and_then, named_line, named_node, node_head, line_head, Word, BadLine, BadNumber, Extra, Deep, First}
 
 -- what is pending: a state that waits for its node, under this many branching nodes; or a branch
 -- that waits to be closed, with the stores of the state whose goal it denies, its facts, and under

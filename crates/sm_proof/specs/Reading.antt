@@ -1,7 +1,5 @@
 -- Cited by public clauses: the line that bytes without a line feed spell.
-use Rattle.std.specs.Prelude.{ℕ, ℤ, nat_le, ◌==◌, if◌then◌else◌, length}
-use Rattle.std.specs.Prelude.{Option, Some, None, option_map, Result, Ok, Err}
-use Rattle.std.specs.Prelude.{List, [], ◌∷◌, codes}
+use Rattle.std.specs.Prelude.{ℕ, ℤ, nat_le, ◌==◌, if◌then◌else◌, length, Option, Some, None, option_map, Result, Ok, Err, List, [], ◌∷◌, codes}
 use Rattle.std.specs.Str.{bytes_eq}
 use Rattle.sm_proof.specs.declared.kind.FormKind.{FormKind}
 use Rattle.sm_proof.specs.declared.kind.FormKind.TheVariants as kind
@@ -10,15 +8,12 @@ use Rattle.sm_proof.specs.declared.kind.TermKind.TheVariants as kinds
 use Rattle.sm_proof.specs.declared.line.FormLine.TheVariants as form
 use Rattle.sm_proof.specs.declared.line.NodeLine.TheVariants as node
 use Rattle.sm_proof.specs.declared.line.TermLine.TheVariants as term
-use Rattle.sm_proof.specs.declared.word.Head.{Head}
 use Rattle.sm_proof.specs.declared.word.Head.TheVariants as head
-use Rattle.sm_proof.specs.declared.word.Word.{Word}
-use Rattle.sm_proof.specs.declared.word.Word.TheVariants.{BadLine, BadNumber}
 use Rattle.sm_proof.specs.Fields.{any, copy, side, set, taking}
 use Rattle.sm_proof.specs.HeadWords.{version_word, head_of, term_kind_of, form_kind_of}
 use Rattle.sm_proof.specs.Lines as line
 use Rattle.sm_proof.specs.Lines.{ProofLine, Header, Term, Form, Node, Cert}
-use Rattle.sm_proof.specs.Named.{found_or, tested_or}
+use Rattle.sm_proof.specs.Named.{found_or, tested_or, Word, BadLine, BadNumber, Head}
 use Rattle.sm_proof.specs.Numbers.{words_of, number_in, literal_in, numbers_in}
 
 -- the line of a literal

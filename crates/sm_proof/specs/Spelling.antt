@@ -3,17 +3,13 @@ use Rattle.std.specs.Prelude.{ℕ, List, [], ◌∷◌, ◌++◌, map, ◌≤◌
 use Rattle.std.specs.Fmt.{decimal, signed_decimal}
 use Rattle.sm_proof.specs.declared.kind.FormKind.TheVariants as kind
 use Rattle.sm_proof.specs.declared.kind.TermKind.TheVariants as kinds
-use Rattle.sm_proof.specs.declared.line.FormLine.{FormLine}
 use Rattle.sm_proof.specs.declared.line.FormLine.TheVariants as form
-use Rattle.sm_proof.specs.declared.line.NodeLine.{NodeLine}
 use Rattle.sm_proof.specs.declared.line.NodeLine.TheVariants as node
-use Rattle.sm_proof.specs.declared.line.TermLine.{TermLine}
 use Rattle.sm_proof.specs.declared.line.TermLine.TheVariants as term
-use Rattle.sm_proof.specs.declared.word.Head.TheVariants.{T, P}
 use Rattle.sm_proof.specs.FieldRanges.{numbers_of}
 use Rattle.sm_proof.specs.HeadWords.{version_word, head_word, term_word, form_word}
-use Rattle.sm_proof.specs.Lines.{ProofLine, Header, Term, Form, Node, Cert}
-use Rattle.sm_proof.specs.Named.{node_head, line_head}
+use Rattle.sm_proof.specs.Lines.{ProofLine, Header, Term, Form, Node, Cert, TermLine, NodeLine, FormLine}
+use Rattle.sm_proof.specs.Named.{node_head, line_head, T, P}
 
 -- words parted by one space
 unfoldable pub spaced : List (List ℕ) → List ℕ

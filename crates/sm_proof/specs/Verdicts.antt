@@ -1,13 +1,10 @@
 -- Cited by public clauses: when a proof file passes for a task, and its first bad line.
-use Rattle.std.specs.Prelude.{◌≡◌, ℕ, suc, ◌==◌, Bool, true, false, not, ◌&&◌, ◌||◌}
-use Rattle.std.specs.Prelude.{if◌then◌else◌, is_some, Result, Ok, Err, List, [], ◌∷◌}
+use Rattle.std.specs.Prelude.{◌≡◌, ℕ, suc, ◌==◌, Bool, true, false, not, ◌&&◌, ◌||◌, if◌then◌else◌, is_some, Result, Ok, Err, List, [], ◌∷◌}
 use Rattle.sm_syntax.specs.text.Parts.{Parts, sort_of, task_of}
 use Rattle.sm_syntax.specs.text.Sorts.{Sorts}
 use Rattle.sm_plan.specs.States.{State, start_state}
-use Rattle.sm_proof.specs.declared.word.Word.{Word}
-use Rattle.sm_proof.specs.declared.word.Word.TheVariants.{Truncated, BadVersion, BadLine}
 use Rattle.sm_proof.specs.Lines.{ProofLine, Header, Term, Form, Node, Cert}
-use Rattle.sm_proof.specs.Named.{tested_or, and_then}
+use Rattle.sm_proof.specs.Named.{tested_or, and_then, Word, Truncated, BadVersion, BadLine}
 use Rattle.sm_proof.specs.Passing.{Pending, Progress, start_progress, taken}
 use Rattle.sm_proof.specs.Versions.{has_exact, may_stand, read_with}
 

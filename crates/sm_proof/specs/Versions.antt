@@ -1,7 +1,6 @@
 -- Cited by public clauses: what the version of a proof file, which its first line tells, lets stand.
 -- Version 3 alone has lines `exact`; in others they are no lines, however their number is spelled.
-use Rattle.std.specs.Prelude.{ℕ, ◌==◌, Bool, true, false, not, if◌then◌else◌}
-use Rattle.std.specs.Prelude.{Result, Err, List, [], ◌∷◌}
+use Rattle.std.specs.Prelude.{ℕ, ◌==◌, Bool, true, false, not, if◌then◌else◌, Result, Err, List, [], ◌∷◌}
 use Rattle.std.specs.Str.{bytes_eq}
 use Rattle.sm_theory.specs.Named.{reads_all}
 use Rattle.sm_proof.specs.declared.word.Head.TheVariants as head

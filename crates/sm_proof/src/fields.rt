@@ -1,6 +1,5 @@
 // The numbers behind a word.
-ghost use Rattle.std.specs.Prelude.{◌≡◌, ◌≢◌, ◌<◌, ◌≤◌, ◌∷◌, [], ℕ, ℤ, length, Some, None, Ok};
-ghost use Rattle.std.specs.Prelude.{IfOk, MatchResult};
+ghost use Rattle.std.specs.Prelude.{◌≡◌, ◌≢◌, ◌<◌, ◌≤◌, ◌∷◌, [], ℕ, ℤ, length, Some, None, Ok, IfOk, MatchResult};
 ghost use Rattle.sm_proof.specs.Behind.{behind, line_in, IsNextWord, IsNoNumber};
 ghost use Rattle.sm_proof.specs.Fields.{any, side, taking};
 ghost use Rattle.sm_proof.specs.Lines.{ProofLine, Header, Term};

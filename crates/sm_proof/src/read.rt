@@ -1,6 +1,5 @@
 // Reading the lines of a proof file.
-ghost use Rattle.std.specs.Prelude.{◌≡◌, ◌≢◌, ◌<◌, ◌≤◌, ◌⊎◌, ◌↔◌, ◌==◌, suc, not, length};
-ghost use Rattle.std.specs.Prelude.{Some, None, Ok, Err, IfOk, IfErr, IsErrOf, option_map};
+ghost use Rattle.std.specs.Prelude.{◌≡◌, ◌≢◌, ◌<◌, ◌≤◌, ◌⊎◌, ◌↔◌, ◌==◌, suc, not, length, Some, None, Ok, Err, IfOk, IfErr, IsErrOf, option_map};
 ghost use Rattle.std.specs.List.{prefix_len};
 ghost use Rattle.sm_proof.specs.Behind.{behind, line_in, IsAnswer};
 ghost use Rattle.sm_proof.specs.FieldRanges.{IsWithinFields};

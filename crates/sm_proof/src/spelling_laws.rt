@@ -1,6 +1,5 @@
 // How lines are spelled and read, as contracts.
-ghost use Rattle.sm_proof.specs.SpellingLaws.{ExactBegins, ReadIsSpelled, ReadRefuses};
-ghost use Rattle.sm_proof.specs.SpellingLaws.{SpelledReadsBack};
+ghost use Rattle.sm_proof.specs.SpellingLaws.{ExactBegins, ReadIsSpelled, ReadRefuses, SpelledReadsBack};
 
 /// The text of a line within its fields is read as that line.
 #[tactic(auto, using(crate::proofs::SpellingReadsBack::spelled_back))]

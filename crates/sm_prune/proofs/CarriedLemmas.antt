@@ -1,11 +1,12 @@
 -- Elements that stand in another list, under the new numbers that theirs get.
-use Rattle.std.proofs.Common.{◌≡◌, ◌⊎◌, ℕ, zero, suc, ◌<◌, ◌||◌, Bool, true, false, nat_eq, Option, Some, None, slice_get, get_or}
-use Rattle.std.proofs.Common.{List, [], ◌∷◌, ◌++◌, length, inl, inr, refl, ap, sym, ◌∙◌, arith}
+use Rattle.std.proofs.Common.{◌≡◌, ◌⊎◌, ℕ, zero, suc, ◌<◌, Bool, true, false, nat_eq, Some, slice_get, get_or, List, [], ◌∷◌, ◌++◌, length, inl, inr, refl, ap, sym, ◌∙◌, arith}
 use Rattle.std.specs.List.{list_any, AllByRecursion}
 use Rattle.std.proofs.lemmas.Bool.Decides.{Decides-eqb}
 use Rattle.std.proofs.lemmas.List.{get_or_append_left}
 use Rattle.std.proofs.lemmas.Option.{same_Some}
 use Rattle.sm_prune.specs.LeftLines.{new_number}
+use Rattle.std.proofs.lemmas.Bool.{or_right, or_left}
+use Rattle.sm_lemmas.proofs.Lists.{get_in_first, get_last}
 
 -- element n stands in the other list
 abbrev pub StandsAt : {T : Type 0} → (ℕ → ℕ) → List T → List T → ℕ → Type 0
@@ -19,35 +20,15 @@ EachStands move xs ys ns = AllByRecursion (StandsAt move xs ys) ns
 abbrev pub AreCarried : {T : Type 0} → (ℕ → Bool) → List ℕ → List T → List T → Type 0
 AreCarried wanted moved xs ys = (n : ℕ) → wanted n ≡ true → StandsAt (new_number moved) xs ys n
 
--- a choice by its parts
-pub by_first : (b c : Bool) → b ≡ true → (b || c) ≡ true
-by_first true c e = refl
-by_first false c e = absurd cc
-
-pub by_second : (b c : Bool) → c ≡ true → (b || c) ≡ true
-by_second true c e = refl
-by_second false c e = e
-
 -- each that is named stands there
 pub each_stands : {T : Type 0} (move : ℕ → ℕ) (xs ys : List T) (ns : List ℕ) →
     ((n : ℕ) → list_any (nat_eq n) ns ≡ true → StandsAt move xs ys n) → EachStands move xs ys ns
 each_stands move xs ys [] all = tt
 each_stands move xs ys (m ∷ ns) all = (
-  all m (by_first (nat_eq m m) (list_any (nat_eq m) ns) ((Decides-eqb m m).1 refl)),
+  all m (or_left (nat_eq m m) (list_any (nat_eq m) ns) ((Decides-eqb m m).1 refl)),
   each_stands move xs ys ns
-      (λ (n : ℕ) (h : list_any (nat_eq n) ns ≡ true). all n (by_second (nat_eq n m) (list_any (nat_eq n) ns) h)),
+      (λ (n : ℕ) (h : list_any (nat_eq n) ns ≡ true). all n (or_right (nat_eq n m) (list_any (nat_eq n) ns) h)),
 )
-
--- what is in a list is there with more behind it
-pub slice_more : {T : Type 0} (xs ys : List T) (n : ℕ) (x : T) → slice_get xs n ≡ Some x → slice_get (xs ++ ys) n ≡ Some x
-slice_more [] ys n x e = absurd cc
-slice_more (z ∷ xs) ys zero x e = e
-slice_more (z ∷ xs) ys (suc n) x e = slice_more xs ys n x e
-
--- the one that is put behind a list
-pub slice_last : {T : Type 0} (xs : List T) (x : T) → slice_get (xs ++ x ∷ []) (length xs) ≡ Some x
-slice_last [] x = refl
-slice_last (z ∷ xs) x = slice_last xs x
 
 -- either of both
 pub slice_either : {T : Type 0} (xs : List T) (x y : T) (n : ℕ) → slice_get (xs ++ x ∷ []) n ≡ Some y →
@@ -78,11 +59,11 @@ carried_on {T} wanted later moved xs ys x k same there less carried n h y e = of
     of (inl g) =
         ap (slice_get (ys ++ x ∷ []))
         (get_or_append_left moved (k ∷ []) 0 n (let within = g.1 in let less : n < length moved = omega arith in less))
-        ∙ slice_more ys (x ∷ []) (new_number moved n) y (carried n (less n h) y g.0)
+        ∙ get_in_first ys (x ∷ []) (new_number moved n) y (carried n (less n h) y g.0)
     of (inr g) =
         ap (λ (m : ℕ). slice_get (ys ++ x ∷ []) (new_number (moved ++ k ∷ []) m)) (g.0 ∙ sym same)
         ∙ (ap (slice_get (ys ++ x ∷ [])) (number_last moved k ∙ sym there)
-        ∙ (slice_last ys x ∙ ap Some g.1))
+        ∙ (get_last ys x ∙ ap Some g.1))
 
 -- one element more, which nothing wants, in the first list alone
 pub carried_past : {T : Type 0} (wanted : ℕ → Bool) (moved : List ℕ) (xs ys : List T) (x : T) (k : ℕ) → length moved ≡ length xs →

@@ -4,20 +4,20 @@ use Rattle.std.proofs.lemmas.List.{length-append}
 use Rattle.sm_syntax.specs.text.Sorts.{Sorts}
 use Rattle.sm_term.specs.Assertions.{Assertion}
 use Rattle.sm_term.specs.Terms.{Tree}
-use Rattle.sm_proof.specs.declared.line.FormLine.{FormLine}
-use Rattle.sm_proof.specs.declared.line.NodeLine.{NodeLine}
-use Rattle.sm_proof.specs.declared.line.TermLine.{TermLine}
-use Rattle.sm_proof.specs.declared.word.Word.{Word}
 use Rattle.sm_proof.specs.Lines.{NumberedLine, ProofLine, Header, Term, Form, Node, Cert}
+use Rattle.sm_proof.specs.declared.line.TermLine.{TermLine}
+use Rattle.sm_proof.specs.declared.line.NodeLine.{NodeLine}
+use Rattle.sm_proof.specs.declared.line.FormLine.{FormLine}
 use Rattle.sm_proof.specs.Named.{and_then}
+use Rattle.sm_proof.specs.declared.word.Word.{Word}
 use Rattle.sm_proof.specs.Passing.{Progress, taken}
 use Rattle.sm_proof.proofs.ProgressLemmas.{made_from, same_end}
 use Rattle.sm_prune.specs.LineNumbers.{terms_of, forms_of, names_term, names_form}
-use Rattle.sm_prune.specs.LeftLines.{left_passes, terms_after, forms_after, AreTold, is_left}
-use Rattle.sm_prune.specs.LeftLines.{Numbering, numbers_after, new_number, line_by, line_before, left_lines}
+use Rattle.sm_prune.specs.LeftLines.{left_passes, terms_after, forms_after, AreTold, is_left, Numbering, numbers_after, new_number, line_by, line_before, left_lines}
 use Rattle.sm_prune.specs.Texts.{advanced}
-use Rattle.sm_prune.proofs.CarriedLemmas.{AreCarried, EachStands, by_first, by_second, each_stands, carried_on, carried_past}
+use Rattle.sm_prune.proofs.CarriedLemmas.{AreCarried, EachStands, each_stands, carried_on, carried_past}
 use Rattle.sm_prune.proofs.LineTaken.{over, header_refused, term_taken, term_past, form_taken, form_past, node_taken, cert_taken}
+use Rattle.std.proofs.lemmas.Bool.{or_left, or_right}
 
 -- a proof and the one of the lines that are left, before these lines: so many terms and formulas stand before them, and those that
 -- are named by a line that is left are there under their new numbers
@@ -50,14 +50,14 @@ terms_named : (terms forms : ℕ) (m : Numbering) (p : Progress) (ys : List Tree
     EachStands (new_number m.terms) p.terms ys (terms_of line)
 terms_named terms forms m p ys gs line bs lines s =
     each_stands (new_number m.terms) p.terms ys (terms_of line)
-    (λ n e. s.terms_stand n (by_first (names_term n line) (left_passes (names_term n) bs lines) e))
+    (λ n e. s.terms_stand n (or_left (names_term n line) (left_passes (names_term n) bs lines) e))
 
 forms_named : (terms forms : ℕ) (m : Numbering) (p : Progress) (ys : List Tree) (gs : List Assertion) (line : ProofLine) (bs : List Bool)
     (lines : List ProofLine) → Serves terms forms m p ys gs (true ∷ bs) (line ∷ lines) →
     EachStands (new_number m.forms) p.forms gs (forms_of line)
 forms_named terms forms m p ys gs line bs lines s =
     each_stands (new_number m.forms) p.forms gs (forms_of line)
-    (λ n e. s.forms_stand n (by_first (names_form n line) (left_passes (names_form n) bs lines) e))
+    (λ n e. s.forms_stand n (or_left (names_form n line) (left_passes (names_form n) bs lines) e))
 
 -- a line that goes on by itself, which is left
 alike : (sorts : Sorts) (terms forms : ℕ) (m : Numbering) (p : Progress) (ys : List Tree) (gs : List Assertion) (line : ProofLine)
@@ -71,10 +71,10 @@ alike sorts terms forms m p ys gs line bs lines at s same_terms same_forms = rec
   terms_left = s.terms_left;
   forms_left = s.forms_left;
   terms_stand = subst (λ (xs : List Tree). AreCarried (λ (n : ℕ). left_passes (names_term n) bs lines) m.terms xs ys) (sym same_terms)
-      (λ n e. s.terms_stand n (by_second (names_term n line) (left_passes (names_term n) bs lines) e));
+      (λ n e. s.terms_stand n (or_right (names_term n line) (left_passes (names_term n) bs lines) e));
   forms_stand = subst (λ (xs : List Assertion). AreCarried (λ (n : ℕ). left_passes (names_form n) bs lines) m.forms xs gs)
       (sym same_forms)
-      (λ n e. s.forms_stand n (by_second (names_form n line) (left_passes (names_form n) bs lines) e));
+      (λ n e. s.forms_stand n (or_right (names_form n line) (left_passes (names_form n) bs lines) e));
 }
 
 -- a line that makes a term, and is left
@@ -99,7 +99,7 @@ term_kept sorts terms forms m p q ys gs l bs lines s e =
         terms_stand = carried_on (λ (n : ℕ). left_passes (names_term n) (true ∷ bs) (Term l ∷ lines))
             (λ (n : ℕ). left_passes (names_term n) bs lines) m.terms p.terms ys t.made m.terms_left (s.terms_moved ∙ sym s.terms_there)
             s.terms_left
-            (λ n e. by_second (names_term n (Term l)) (left_passes (names_term n) bs lines) e) s.terms_stand;
+            (λ n e. or_right (names_term n (Term l)) (left_passes (names_term n) bs lines) e) s.terms_stand;
         forms_stand = λ n e. s.forms_stand n e;
       };
       goes = λ (rest : List ProofLine) (r : Progress) (h : advanced sorts (over p (ys ++ t.made ∷ []) gs) rest ≡ Ok r).
@@ -153,11 +153,11 @@ form_kept sorts terms forms m p q ys gs l bs lines s e =
         forms_moved = let a = length-append m.forms (m.forms_left ∷ []) in let b = s.forms_moved in omega arith;
         terms_left = s.terms_left;
         forms_left = let a = length-append gs (t.made ∷ []) in let b = s.forms_left in omega arith;
-        terms_stand = λ n e. s.terms_stand n (by_second (names_term n (Form l)) (left_passes (names_term n) bs lines) e);
+        terms_stand = λ n e. s.terms_stand n (or_right (names_term n (Form l)) (left_passes (names_term n) bs lines) e);
         forms_stand = carried_on (λ (n : ℕ). left_passes (names_form n) (true ∷ bs) (Form l ∷ lines))
             (λ (n : ℕ). left_passes (names_form n) bs lines) m.forms p.forms gs t.made m.forms_left (s.forms_moved ∙ sym s.forms_there)
             s.forms_left
-            (λ n e. by_second (names_form n (Form l)) (left_passes (names_form n) bs lines) e) s.forms_stand;
+            (λ n e. or_right (names_form n (Form l)) (left_passes (names_form n) bs lines) e) s.forms_stand;
       };
       goes = λ (rest : List ProofLine) (r : Progress) (h : advanced sorts (over p ys (gs ++ t.made ∷ [])) rest ≡ Ok r).
           ap (λ (o : Result Progress Word). and_then o (λ (x : Progress). advanced sorts x rest)) t.goes ∙ h;

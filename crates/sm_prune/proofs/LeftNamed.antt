@@ -1,26 +1,24 @@
 -- Each line that is left and makes a term or a formula is named by a later one, and lines `exact` are left.
-use Rattle.std.proofs.Common.{◌≡◌, ◌⊎◌, ℕ, suc, ◌<◌, Bool, true, false, ◌&&◌, ◌||◌, nat_eq, IsTrue, List, [], ◌∷◌, ◌++◌, map, length}
-use Rattle.std.proofs.Common.{inl, inr, refl, ap, sym, subst, ◌∙◌, arith}
+use Rattle.std.proofs.Common.{◌≡◌, ◌⊎◌, ℕ, suc, ◌<◌, Bool, true, false, ◌&&◌, ◌||◌, nat_eq, IsTrue, List, [], ◌∷◌, ◌++◌, map, length, inl, inr, refl, ap, sym, subst, ◌∙◌, arith}
 use Rattle.std.specs.List.{list_any}
 use Rattle.std.proofs.lemmas.Bool.Decides.{Decides-eqb}
 use Rattle.std.proofs.lemmas.List.{length-append, get_or_append_left}
 use Rattle.sm_theory.specs.Named.{reads_all}
 use Rattle.sm_theory.proofs.LinesOver.{terms_with, reads_with}
-use Rattle.sm_proof.specs.declared.line.FormLine.{FormLine}
 use Rattle.sm_proof.specs.declared.line.FormLine.TheVariants as form
-use Rattle.sm_proof.specs.declared.line.NodeLine.{NodeLine}
 use Rattle.sm_proof.specs.declared.line.NodeLine.TheVariants as node
-use Rattle.sm_proof.specs.declared.line.TermLine.{TermLine}
 use Rattle.sm_proof.specs.declared.line.TermLine.TheVariants as term
 use Rattle.sm_proof.specs.Lines as line
 use Rattle.sm_proof.specs.Lines.{NumberedLine, ProofLine, Header, Term, Form, Node, Cert}
+use Rattle.sm_proof.specs.declared.line.TermLine.{TermLine}
+use Rattle.sm_proof.specs.declared.line.NodeLine.{NodeLine}
+use Rattle.sm_proof.specs.declared.line.FormLine.{FormLine}
 use Rattle.sm_proof.specs.Versions.{is_exact}
-use Rattle.sm_prune.specs.LineNumbers.{terms_of_term, terms_of_form, terms_of, forms_of_form, forms_of_node, forms_of}
-use Rattle.sm_prune.specs.LineNumbers.{names_term, names_form, renumbered_term, renumbered_form, renumbered_node, renumbered}
-use Rattle.sm_prune.specs.LeftLines.{left_passes, terms_after, forms_after, AreTold}
-use Rattle.sm_prune.specs.LeftLines.{Numbering, numbers_after, new_number, line_by, line_before, left_lines}
+use Rattle.sm_prune.specs.LineNumbers.{terms_of_term, terms_of_form, terms_of, forms_of_form, forms_of_node, forms_of, names_term, names_form, renumbered_term, renumbered_form, renumbered_node, renumbered}
+use Rattle.sm_prune.specs.LeftLines.{left_passes, terms_after, forms_after, AreTold, Numbering, numbers_after, new_number, line_by, line_before, left_lines}
 use Rattle.sm_prune.specs.UsedLines.{AreNamed}
-use Rattle.sm_prune.proofs.CarriedLemmas.{by_first, by_second, number_last}
+use Rattle.sm_prune.proofs.CarriedLemmas.{number_last}
+use Rattle.std.proofs.lemmas.Bool.{or_left, or_right}
 
 -- a number among others is there where all are moved
 any_moved : (move : ℕ → ℕ) (n : ℕ) (ns : List ℕ) → list_any (nat_eq n) ns ≡ true → list_any (nat_eq (move n)) (map move ns) ≡ true
@@ -31,9 +29,9 @@ any_moved move n (m ∷ ns) e = of (nat_eq n m) refl e (any_moved move n ns)
         (list_any (nat_eq n) ns ≡ true → list_any (nat_eq (move n)) (map move ns) ≡ true) →
         (nat_eq (move n) (move m) || list_any (nat_eq (move n)) (map move ns)) ≡ true
     of true same h later =
-        by_first (nat_eq (move n) (move m)) (list_any (nat_eq (move n)) (map move ns))
+        or_left (nat_eq (move n) (move m)) (list_any (nat_eq (move n)) (map move ns))
         ((Decides-eqb (move n) (move m)).1 (ap move ((Decides-eqb n m).0 same)))
-    of false same h later = by_second (nat_eq (move n) (move m)) (list_any (nat_eq (move n)) (map move ns)) (later h)
+    of false same h later = or_right (nat_eq (move n) (move m)) (list_any (nat_eq (move n)) (map move ns)) (later h)
 
 -- what a line names by other numbers
 term_names : (move : ℕ → ℕ) (l : TermLine) → terms_of_term (renumbered_term move l) ≡ map move (terms_of_term l)
@@ -124,7 +122,7 @@ forms_stay b (Cert c) m n less = (refl, less)
 -- what passes among lines passes with one before them
 any_before : (test : ProofLine → Bool) (b : Bool) (l : ProofLine) (lines : List ProofLine) → list_any test lines ≡ true →
     list_any test (line_before b l lines) ≡ true
-any_before test true l lines e = by_second (test l) (list_any test lines) e
+any_before test true l lines e = or_right (test l) (list_any test lines) e
 any_before test false l lines e = e
 
 -- the first of them or a later one passes
@@ -152,7 +150,7 @@ term_named m (b ∷ bs) (l ∷ lines) n less e =
         (left_passes (names_term n) bs lines ≡ true → list_any (names_term (new_number m.terms n)) (rest c) ≡ true) →
         list_any (names_term (new_number m.terms n)) (line_before c (line_by m l) (rest c)) ≡ true
     of true (inl h) later =
-        by_first (names_term (new_number m.terms n) (line_by m l)) (list_any (names_term (new_number m.terms n)) (rest true))
+        or_left (names_term (new_number m.terms n) (line_by m l)) (list_any (names_term (new_number m.terms n)) (rest true))
         (term_renamed m n l h.1)
     of false (inl h) later = absurd cc
     of c (inr h) later = any_before (names_term (new_number m.terms n)) c (line_by m l) (rest c) (later h)
@@ -175,7 +173,7 @@ form_named m (b ∷ bs) (l ∷ lines) n less e =
         (left_passes (names_form n) bs lines ≡ true → list_any (names_form (new_number m.forms n)) (rest c) ≡ true) →
         list_any (names_form (new_number m.forms n)) (line_before c (line_by m l) (rest c)) ≡ true
     of true (inl h) later =
-        by_first (names_form (new_number m.forms n) (line_by m l)) (list_any (names_form (new_number m.forms n)) (rest true))
+        or_left (names_form (new_number m.forms n) (line_by m l)) (list_any (names_form (new_number m.forms n)) (rest true))
         (form_renamed m n l h.1)
     of false (inl h) later = absurd cc
     of c (inr h) later = any_before (names_form (new_number m.forms n)) c (line_by m l) (rest c) (later h)

@@ -10,20 +10,19 @@ use Rattle.sm_theory.specs.Named.{terms_named, with_terms, EachOf, EachNamed}
 use Rattle.sm_theory.proofs.FactsLemmas.{followed_from}
 use Rattle.sm_theory.proofs.LinesOver.{facts_with, with_twice, with_same, each_with}
 use Rattle.sm_plan.specs.Nodes as plan
-use Rattle.sm_proof.specs.declared.line.FormLine.{FormLine}
 use Rattle.sm_proof.specs.declared.line.FormLine.TheVariants as form
-use Rattle.sm_proof.specs.declared.line.NodeLine.{NodeLine}
 use Rattle.sm_proof.specs.declared.line.NodeLine.TheVariants as node
-use Rattle.sm_proof.specs.declared.line.TermLine.{TermLine}
 use Rattle.sm_proof.specs.declared.line.TermLine.TheVariants as term
-use Rattle.sm_proof.specs.declared.word.Word.{Word}
 use Rattle.sm_proof.specs.Lines.{NumberedLine}
+use Rattle.sm_proof.specs.declared.line.TermLine.{TermLine}
+use Rattle.sm_proof.specs.declared.line.NodeLine.{NodeLine}
+use Rattle.sm_proof.specs.declared.line.FormLine.{FormLine}
 use Rattle.sm_proof.specs.Named.{found_or, are_there, named_line, named_node}
+use Rattle.sm_proof.specs.declared.word.Word.{Word}
 use Rattle.sm_proof.specs.Passing.{Pending, term_made, form_made}
 use Rattle.sm_proof.proofs.NamedKept.{named_there, named_from, there_below}
 use Rattle.sm_proof.proofs.ProgressLemmas.{found_from}
-use Rattle.sm_prune.specs.LineNumbers.{terms_of_term, terms_of_form, forms_of_form, forms_of_node}
-use Rattle.sm_prune.specs.LineNumbers.{renumbered_term, renumbered_form, renumbered_node}
+use Rattle.sm_prune.specs.LineNumbers.{terms_of_term, terms_of_form, forms_of_form, forms_of_node, renumbered_term, renumbered_form, renumbered_node}
 use Rattle.sm_prune.proofs.CarriedLemmas.{StandsAt, EachStands}
 
 -- what goes on with an element to a good end does so with it in the other list

@@ -1,7 +1,6 @@
 -- Private: the lines of a file that are left, where lines that make terms and formulas go that no line
 -- names that is left.
-use Rattle.std.specs.Prelude.{◌≡◌, ℕ, suc, Bool, true, false, ◌&&◌, ◌||◌, if◌then◌else◌}
-use Rattle.std.specs.Prelude.{List, [], ◌∷◌, ◌++◌, length, get_or}
+use Rattle.std.specs.Prelude.{◌≡◌, ℕ, suc, Bool, true, false, ◌&&◌, ◌||◌, if◌then◌else◌, List, [], ◌∷◌, ◌++◌, length, get_or}
 use Rattle.sm_proof.specs.Lines.{ProofLine, Header, Term, Form, Node, Cert}
 use Rattle.sm_prune.specs.LineNumbers.{names_term, names_form, renumbered}
 

@@ -1,8 +1,7 @@
 -- Private: marks of the terms and formulas that lines name that are left.
-use Rattle.std.specs.Prelude.{◌≡◌, ℕ, ◌<◌, Bool, false, ◌||◌, List, [], ◌∷◌, ◌++◌, length, map}
-use Rattle.std.specs.Prelude.{reverse, get_or}
-use Rattle.sm_proof.specs.declared.line.Line.{Line}
+use Rattle.std.specs.Prelude.{◌≡◌, ℕ, ◌<◌, Bool, false, ◌||◌, List, [], ◌∷◌, ◌++◌, length, map, reverse, get_or}
 use Rattle.sm_proof.specs.Lines.{ProofLine, line_of}
+use Rattle.sm_proof.specs.declared.line.Line.{Line}
 use Rattle.sm_prune.specs.declared.told.Told.{Told}
 use Rattle.sm_prune.specs.LineNumbers.{names_term, names_form}
 use Rattle.sm_prune.specs.LeftLines.{left_passes, terms_after, forms_after, AreTold}

@@ -1,12 +1,11 @@
 -- Cited by public clauses: texts of lines, and how far a text leads that stands behind a version line.
-use Rattle.std.specs.Prelude.{◌≡◌, ℕ, ◌≤◌, Bool}
-use Rattle.std.specs.Prelude.{Result, Ok, List, [], ◌∷◌, ◌++◌, length}
+use Rattle.std.specs.Prelude.{◌≡◌, ℕ, ◌≤◌, Bool, Result, Ok, List, [], ◌∷◌, ◌++◌, length}
 use Rattle.std.specs.List.{list_any}
 use Rattle.sm_syntax.specs.text.Sorts.{Sorts}
-use Rattle.sm_proof.specs.declared.word.Word.{Word}
 use Rattle.sm_proof.specs.FieldRanges.{IsWithinFields}
 use Rattle.sm_proof.specs.Lines.{ProofLine}
 use Rattle.sm_proof.specs.Named.{and_then}
+use Rattle.sm_proof.specs.declared.word.Word.{Word}
 use Rattle.sm_proof.specs.Passing.{Progress, start_progress, taken}
 use Rattle.sm_proof.specs.Spelling.{spelled, HasKnownVersion}
 use Rattle.sm_proof.specs.Verdicts.{Subject}

@@ -1,13 +1,12 @@
 -- Cited by public clauses: which lines of a proof file are used.
-use Rattle.std.specs.Prelude.{◌≡◌, ℕ, zero, suc, nat_eq, Bool, true, false, ◌||◌, IsTrue}
-use Rattle.std.specs.Prelude.{if◌then◌else◌, Ok, List, [], ◌∷◌, length}
+use Rattle.std.specs.Prelude.{◌≡◌, ℕ, zero, suc, nat_eq, Bool, true, false, ◌||◌, IsTrue, if◌then◌else◌, Ok, List, [], ◌∷◌, length}
 use Rattle.std.specs.List.{list_any}
 use Rattle.sm_syntax.specs.text.Sorts.{Sorts}
 use Rattle.sm_theory.specs.Named.{facts_named, reads_all, is_closing, facts_added, is_split}
-use Rattle.sm_proof.specs.declared.line.TermLine.{TermLine}
 use Rattle.sm_proof.specs.declared.line.TermLine.TheVariants as term
 use Rattle.sm_proof.specs.Cases.{AreRead}
 use Rattle.sm_proof.specs.Lines.{NumberedLine, ProofLine, Header, Term, Form, Node, Cert}
+use Rattle.sm_proof.specs.declared.line.TermLine.{TermLine}
 use Rattle.sm_proof.specs.Passing.{Pending, Due, Branch, Progress, start_progress, taken}
 use Rattle.sm_proof.specs.Verdicts.{Subject, lines_in}
 use Rattle.sm_prune.specs.LineNumbers.{names_term, names_form}

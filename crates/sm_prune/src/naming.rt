@@ -3,8 +3,7 @@ ghost use Rattle.std.specs.Prelude.{nat_eq};
 ghost use Rattle.std.specs.List.{list_any};
 ghost use Rattle.sm_theory.specs.Named.{terms_named};
 ghost use Rattle.sm_proof.specs.Lines.{line_of, numbered_line};
-ghost use Rattle.sm_prune.specs.LineNumbers.{forms_of_form, forms_of_node};
-ghost use Rattle.sm_prune.specs.LineNumbers.{names_form, names_term, terms_of_form, terms_of_term};
+ghost use Rattle.sm_prune.specs.LineNumbers.{forms_of_form, forms_of_node, names_form, names_term, terms_of_form, terms_of_term};
 ghost use Rattle.sm_prune.specs.Marks.{MarksMore};
 
 use crate::marks::mark_each;

@@ -3,8 +3,7 @@ ghost use Rattle.std.specs.Prelude.{◌≡◌, IfOk};
 ghost use Rattle.sm_theory.specs.Named.{with_terms};
 ghost use Rattle.sm_proof.specs.Lines.{Cong, line_of, numbered_line};
 ghost use Rattle.sm_prune.specs.LeftLines.{new_number};
-ghost use Rattle.sm_prune.specs.LineNumbers.{renumbered, renumbered_form};
-ghost use Rattle.sm_prune.specs.LineNumbers.{renumbered_node, renumbered_term};
+ghost use Rattle.sm_prune.specs.LineNumbers.{renumbered, renumbered_form, renumbered_node, renumbered_term};
 
 use crate::numbers::new_number;
 use sm_proof::{FormLine, Line, NodeLine, TermLine};

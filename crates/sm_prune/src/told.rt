@@ -2,8 +2,7 @@
 ghost use Rattle.std.specs.Prelude.{◌≡◌, ℕ, ◌++◌, ◌∷◌, [], Bool, List, false, IfOk, OnOk, map, reverse};
 ghost use Rattle.sm_proof.specs.Lines.{ProofLine, line_of};
 ghost use Rattle.sm_prune.specs.LeftLines.{AreTold, forms_after, is_left, terms_after};
-ghost use Rattle.sm_prune.specs.Marks.{AreMarked, AreMarks, answers_of, forms_past, lines_told};
-ghost use Rattle.sm_prune.specs.Marks.{terms_past};
+ghost use Rattle.sm_prune.specs.Marks.{AreMarked, AreMarks, answers_of, forms_past, lines_told, terms_past};
 
 use crate::marks::{add_mark, take_mark};
 use crate::naming::mark_line;

@@ -6,9 +6,9 @@ use Rattle.sm_num.specs.Range.{exact, fits}
 use Rattle.sm_syntax.specs.claim.Meaning.{value_of, truth_of}
 use Rattle.sm_syntax.specs.claim.Stores.{Store, number}
 use Rattle.sm_syntax.specs.claim.Syntax.{Expression, Lit, Var, Read, Neg, Plus, Minus, Times, Condition, Yes, No, Compare, Not, And, Or}
-use Rattle.sm_eval.specs.declared.error.EvalError.{EvalError}
 use Rattle.sm_eval.specs.declared.error.EvalError.TheVariants as eval
 use Rattle.sm_eval.specs.Events.{leaves, before, expression_event, condition_event, answer}
+use Rattle.sm_eval.specs.declared.error.EvalError.{EvalError}
 use Rattle.sm_replay.specs.Judging.{Tells}
 use Rattle.sm_replay.specs.Violations.{IsMet}
 

@@ -1,6 +1,5 @@
 -- The least index at which Keeps fails, found among the cells of four arrays.
-use Rattle.std.proofs.Common.{◌≡◌, ◌⊎◌, ◌+◌, ◌<◌, ℕ, suc, ℤ, pos, Bool, true, false, if◌then◌else◌, Option, List, [], ◌∷◌}
-use Rattle.std.proofs.Common.{length, refl, sym, ap, subst, ◌∙◌, inl, inr, ⊎_elim, arith}
+use Rattle.std.proofs.Common.{◌≡◌, ◌⊎◌, ◌+◌, ◌<◌, ℕ, suc, ℤ, pos, Bool, true, false, if◌then◌else◌, Option, List, [], ◌∷◌, length, refl, sym, ap, subst, ◌∙◌, inl, inr, ⊎_elim, arith}
 use Rattle.std.specs.Ordering.{int_eq}
 use Rattle.std.proofs.lemmas.Bool.{cases_eq}
 use Rattle.std.proofs.lemmas.Bool.Decides.{Decides-int_eq}
@@ -10,6 +9,7 @@ use Rattle.sm_syntax.specs.claim.Stores.{Value, Array, array, Store}
 use Rattle.sm_eval.specs.Cells.{listed, index_at}
 use Rattle.sm_replay.specs.FirstBreak.{IsUpTo}
 use Rattle.sm_replay.specs.Violations.{KeepsAt}
+use Rattle.sm_lemmas.proofs.Options.{one_of_four}
 
 -- an index has 0, or a cell
 listed_or : (l : List (ℤ × ℤ)) (i : ℤ) → (listed l i ≡ pos 0) ⊎ ((p : ℕ) × (p < length l) × (index_at l p ≡ i))
@@ -53,11 +53,6 @@ all_zero o a b m po pa pb pm = record {
   no_other = λ (e : o ≡ a) (f : a ≡ b). pm ∙ sym po;
 }
 
-combine : {P Q R S G : Type 0} → P ⊎ G → Q ⊎ G → R ⊎ G → S ⊎ G → (P → Q → R → S → G) → G
-combine {P} {Q} {R} {S} {G} p q r s f =
-    ⊎_elim (λ (x : P). ⊎_elim (λ (y : Q). ⊎_elim (λ (z : R). ⊎_elim (λ (w : S). f x y z w) (λ (g : G). g) s) (λ (g : G). g) r)
-    (λ (g : G). g) q) (λ (g : G). g) p
-
 -- an index at which a copy's end has 0, or one that is known after its cells
 abbrev pub KnownBy : (Copy → Store) → Copy → ℕ → Option ℤ → Type 0
 KnownBy end c a r = (i : ℤ) → (content (end c) (Element a i) ≡ pos 0) ⊎ Known end a r i
@@ -84,7 +79,7 @@ least_of_four end a ro ra rb rm ko ka kb km first second third i =
     let from_a : Later ra rm = λ (j : ℤ) (u : IsUpTo ra j). third j (second j u) in
     let from_o : Later ro rm = λ (j : ℤ) (u : IsUpTo ro j). from_a j (first j u) in
     let at = λ (c : Copy). content (end c) (Element a i) in
-    combine (known_later end O a ro rm ko from_o i) (known_later end A a ra rm ka from_a i) (known_later end B a rb rm kb third i) (km i)
+    one_of_four (known_later end O a ro rm ko from_o i) (known_later end A a ra rm ka from_a i) (known_later end B a rb rm kb third i) (km i)
     (λ (zo : at O ≡ pos 0) (za : at A ≡ pos 0) (zb : at B ≡ pos 0) (zm : at M ≡ pos 0).
     inl (all_zero (at O) (at A) (at B) (at M) zo za zb zm))
 

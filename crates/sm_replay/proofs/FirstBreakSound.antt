@@ -1,5 +1,5 @@
 -- What is found at one output.
-use Rattle.std.proofs.Common.{◌≡◌, ◌⊎◌, ℕ, ℤ, pos, Some, None, refl, sym, ap, subst, ◌∙◌, ⊎_elim, arith}
+use Rattle.std.proofs.Common.{◌≡◌, ◌⊎◌, ℕ, ℤ, pos, Some, None, refl, sym, ap, subst, ◌∙◌, ⊎_elim, arith, List}
 use Rattle.std.specs.Prelude.{◌<ℤ◌, ◌≤ℤ◌}
 use Rattle.std.proofs.lemmas.Int.{ints}
 use Rattle.sm_syntax.specs.declared.tree.Sort.{Sort}
@@ -7,12 +7,12 @@ use Rattle.sm_syntax.specs.declared.tree.Sort.TheVariants.{Num, Arr}
 use Rattle.sm_syntax.specs.claim.ConflictFree.{Copy, O, A, B, M}
 use Rattle.sm_syntax.specs.claim.Keeps.{Cell, Scalar, Element, content, variable}
 use Rattle.sm_syntax.specs.claim.Stores.{number, zero_value, Store}
-use Rattle.sm_eval.specs.declared.stored_value.StoredValue.{StoredValue}
 use Rattle.sm_eval.specs.declared.stored_value.StoredValue.TheVariants as stored
 use Rattle.sm_eval.specs.declared.store.Store as code
 use Rattle.sm_eval.specs.StoredValues.{held, sort, stored_value_of, meaning, sorts_of}
-use Rattle.sm_syntax.specs.declared.copies.PerCopy.{PerCopy}
+use Rattle.sm_eval.specs.declared.stored_value.StoredValue.{StoredValue}
 use Rattle.sm_syntax.specs.trees.Copies.{of_copy}
+use Rattle.sm_syntax.specs.declared.copies.PerCopy.{PerCopy}
 use Rattle.sm_replay.specs.declared.verdict.Verdict.{Verdict}
 use Rattle.sm_replay.specs.declared.verdict.Verdict.TheVariants as verdict
 use Rattle.sm_replay.specs.Runs.{end_in, HaveSort}
@@ -22,15 +22,14 @@ use Rattle.sm_replay.specs.Violations.{KeepsAt}
 use Rattle.sm_replay.proofs.FirstBreakLeast.{all_zero}
 use Rattle.sm_replay.proofs.FirstBreakOutputs.{KeptBelow, first_at}
 use Rattle.std.specs.List.{slice_get}
-use Rattle.std.proofs.Common.{List}
 
 -- a name that isn't declared has 0
-held_absent : (s : StoredValue) → sort s ≡ None → held s ≡ zero_value
+pub held_absent : (s : StoredValue) → sort s ≡ None → held s ≡ zero_value
 held_absent stored.Absent is = refl
 held_absent (stored.Number z) is = cc
 held_absent (stored.Array cells) is = cc
 
-absent : (s : code.Store) (x : ℕ) → sorts_of s x ≡ None → meaning s x ≡ zero_value
+pub absent : (s : code.Store) (x : ℕ) → sorts_of s x ≡ None → meaning s x ≡ zero_value
 unfolding meaning sorts_of
 absent s x is = held_absent (stored_value_of s.stored.items x) is
 

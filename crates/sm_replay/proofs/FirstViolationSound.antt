@@ -5,8 +5,7 @@ use Rattle.std.specs.Option.{IfNone, IfSome}
 use Rattle.sm_par.specs.Results.{StandInOrder}
 use Rattle.sm_syntax.specs.claim.ConflictFree.{Task}
 use Rattle.sm_syntax.specs.text.Sorts.{Sorts}
-use Rattle.sm_replay.specs.declared.verdict.Verdict.{Verdict}
-use Rattle.sm_replay.specs.Trials.{trial, trials, IsFirstViolation}
+use Rattle.sm_replay.specs.Trials.{trial, trials, IsFirstViolation, Verdict}
 use Rattle.sm_replay.specs.TrialJobs.{Shows, IsFirstThere}
 use Rattle.sm_replay.specs.Violations.{Violates}
 

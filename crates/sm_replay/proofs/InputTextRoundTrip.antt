@@ -1,6 +1,5 @@
 -- A written input is read back: the members that stand for a store are an input that gives it.
-use Rattle.std.proofs.Common.{◌≡◌, ◌≤◌, ℕ, ℤ, pos, Bool, true, false, ◌||◌, if◌then◌else◌, Option, Some, None, option_map, option_and_then}
-use Rattle.std.proofs.Common.{unwrap_or, List, [], ◌∷◌, Ordering, Less, Equal, Greater, is_eq, nat_cmp, refl, sym, ap, subst, ◌∙◌}
+use Rattle.std.proofs.Common.{◌≡◌, ◌≤◌, ℕ, ℤ, pos, Bool, true, false, ◌||◌, if◌then◌else◌, Option, Some, None, option_map, option_and_then, unwrap_or, List, [], ◌∷◌, Ordering, Less, Equal, Greater, is_eq, nat_cmp, refl, sym, ap, subst, ◌∙◌}
 use Rattle.std.proofs.Common.{true≢false, arith}
 use Rattle.std.proofs.Math.Path.{fun_ext}
 use Rattle.std.proofs.lemmas.Bool.Decides.{Decides-int_eq}
@@ -18,9 +17,9 @@ use Rattle.serde_json.specs.Find.{get, get_member}
 use Rattle.serde_json.specs.Read.{max_depth}
 use Rattle.serde_json.specs.Written.{has_float, members_have_float}
 use Rattle.sm_num.specs.Range.{fits}
+use Rattle.sm_syntax.specs.text.Sorts.{Sorts}
 use Rattle.sm_syntax.specs.declared.tree.Sort.{Sort}
 use Rattle.sm_syntax.specs.declared.tree.Sort.TheVariants.{Num, Arr}
-use Rattle.sm_syntax.specs.text.Sorts.{Sorts}
 use Rattle.sm_syntax.specs.claim.Stores.{Value, Number, Array, zero_value, Store}
 use Rattle.sm_eval.specs.Cells.{listed}
 use Rattle.sm_eval.specs.StoredValues as stored_values
@@ -28,14 +27,10 @@ use Rattle.sm_eval.specs.StoredValues.{meaning, sorts_of}
 use Rattle.sm_eval.specs.declared.stored_value.StoredValue.{StoredValue}
 use Rattle.sm_eval.specs.declared.stored_value.StoredValue.TheVariants as stored
 use Rattle.sm_eval.specs.declared.store.Store as code
-use Rattle.sm_replay.specs.declared.error.InputError.{InputError}
-use Rattle.sm_replay.specs.declared.error.InputError.TheVariants.{BadValue, BadIndex}
-use Rattle.sm_replay.specs.Input.{Texts, name_of, declared_name, missing, cells_fault, value_fault, members_fault, number_or_zero, element}
-use Rattle.sm_replay.specs.Input.{given, member_of, store_of, IsJson, IsInput}
+use Rattle.sm_replay.specs.Input.{Texts, name_of, declared_name, missing, cells_fault, value_fault, members_fault, number_or_zero, element, given, member_of, store_of, IsJson, IsInput, InputError, BadValue, BadIndex}
 use Rattle.sm_replay.specs.Members.{IsInside, IsInsideAt, AreInside}
 use Rattle.sm_replay.specs.Number.{number_of_text, json_number}
-use Rattle.sm_replay.specs.InputText.{StandsBefore, AreOrdered, number_text, cell_at, AreWrittenCells, IsWrittenAs, IsMemberOf, AreWritten}
-use Rattle.sm_replay.specs.InputText.{AreNamed}
+use Rattle.sm_replay.specs.InputText.{StandsBefore, AreOrdered, number_text, cell_at, AreWrittenCells, IsWrittenAs, IsMemberOf, AreWritten, AreNamed}
 use Rattle.sm_replay.proofs.MembersLemmas.{by_place}
 use Rattle.sm_replay.proofs.NumberUnique.{spells_itself}
 

@@ -1,6 +1,5 @@
 -- What is written for a store, member by member and cell by cell.
-use Rattle.std.proofs.Common.{◌≡◌, ◌≢◌, ◌⊎◌, ◌+◌, ◌<◌, ◌≤◌, ℕ, suc, ℤ, pos, Bool, true, false, if◌then◌else◌, Option, Some, None}
-use Rattle.std.proofs.Common.{option_and_then, Result, Ok, Err, List, [], ◌∷◌, length, drop, get_or, BTreeMap, String, Global, Ordering}
+use Rattle.std.proofs.Common.{◌≡◌, ◌≢◌, ◌⊎◌, ◌+◌, ◌<◌, ◌≤◌, ℕ, suc, ℤ, pos, Bool, true, false, if◌then◌else◌, Option, Some, None, option_and_then, Result, Ok, Err, List, [], ◌∷◌, length, drop, get_or, BTreeMap, String, Global, Ordering}
 use Rattle.std.proofs.Common.{Less, Equal, Greater, refl, sym, ap, subst, ◌∙◌, inl, inr, ⊎_elim, true≢false, add-one, drop-cons, arith}
 use Rattle.std.proofs.lemmas.Bool.{ne_eqb}
 use Rattle.std.proofs.lemmas.Bool.Decides.{Decides-int_eq}
@@ -22,16 +21,15 @@ use Rattle.serde_json.specs.View.{view, members_view}
 use Rattle.serde_json.specs.declared.value.Value.{Object, Value as Json}
 use Rattle.serde_json.proofs.Views.{view-Object, get_member-put, get_member-put_other}
 use Rattle.sm_syntax.specs.declared.tree.Name.{Name}
-use Rattle.sm_syntax.specs.declared.tree.Sort.{Sort}
 use Rattle.sm_syntax.specs.text.Parts.{sort_of}
 use Rattle.sm_syntax.specs.text.Sorts.{Sorts}
+use Rattle.sm_syntax.specs.declared.tree.Sort.{Sort}
 use Rattle.sm_syntax.specs.claim.Stores.{Array, Store}
 use Rattle.sm_eval.specs.Cells.{listed, AreCells}
 use Rattle.sm_eval.proofs.Ordered.{listed_at}
 use Rattle.sm_replay.specs.Input.{Texts, declared_name, IsJson}
-use Rattle.sm_replay.specs.Members.{IsInside, IsInsideAt, AreInside}
+use Rattle.sm_replay.specs.Members.{IsInside, IsInsideAt, AreInside, Writes}
 use Rattle.sm_replay.specs.Number.{number_of_text}
-use Rattle.sm_replay.specs.Members.{Writes}
 use Rattle.sm_replay.specs.InputText.{StandsBefore, AreOrdered, number_text, nonzero_text, cell_at, AreWrittenCells, IsMemberOf, AreWritten}
 use Rattle.sm_replay.proofs.UpdatesSound.{numbered}
 use Rattle.sm_replay.proofs.MembersLemmas.{by_place}

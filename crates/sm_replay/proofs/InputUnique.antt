@@ -1,6 +1,5 @@
 -- Bytes give one store as an input, and a store has one text as an input.
-use Rattle.std.proofs.Common.{◌≡◌, ◌≢◌, ◌⊎◌, ℕ, Option, Some, None, Ok, Err, List, Ordering, Less, Equal, Greater, is_eq, nat_cmp, refl}
-use Rattle.std.proofs.Common.{sym, ap, subst, ◌∙◌, inl, inr}
+use Rattle.std.proofs.Common.{◌≡◌, ◌≢◌, ◌⊎◌, ℕ, Option, Some, None, Ok, Err, List, Ordering, Less, Equal, Greater, is_eq, nat_cmp, refl, sym, ap, subst, ◌∙◌, inl, inr}
 use Rattle.std.proofs.lemmas.Cmp.{nat_list_cmp_total}
 use Rattle.std.proofs.lemmas.Map.Text.{is_eq-slice_cmp}
 use Rattle.std.proofs.lemmas.Slice.Eq.{bytes_eq-Decides}
@@ -8,13 +7,11 @@ use Rattle.std.specs.Cmp.Lexicographic.{slice_cmp}
 use Rattle.std.specs.Ordering.{match_ordering, ordering_reverse}
 use Rattle.serde_json.specs.Data.{Data, object, Members, no_members, member}
 use Rattle.serde_json.specs.Find.{as_object, get_member}
-use Rattle.sm_syntax.specs.declared.tree.Sort.{Sort}
 use Rattle.sm_syntax.specs.text.Sorts.{Sorts}
+use Rattle.sm_syntax.specs.declared.tree.Sort.{Sort}
 use Rattle.sm_syntax.specs.claim.Stores.{Value, Number, Array, Store}
 use Rattle.sm_eval.specs.declared.store.Store as code
-use Rattle.sm_replay.specs.declared.error.InputError.{InputError}
-use Rattle.sm_replay.specs.declared.error.InputError.TheVariants.{BadJson, NotObject, UnknownKey, BadValue, BadIndex, Memory}
-use Rattle.sm_replay.specs.Input.{Texts, declared_name, input_fault, store_of, IsJson, IsInput, IsRefusedInput, Reads}
+use Rattle.sm_replay.specs.Input.{Texts, declared_name, input_fault, store_of, IsJson, IsInput, IsRefusedInput, Reads, InputError, BadJson, NotObject, UnknownKey, BadValue, BadIndex, Memory}
 use Rattle.sm_replay.specs.Laws.{ReadingIsOne, WrittenTextIsOne}
 use Rattle.sm_replay.specs.InputText.{StandsBefore, AreOrdered, IsWrittenAs, IsMemberOf}
 use Rattle.sm_replay.proofs.InputTextRoundTrip.{same_text, before_all}

@@ -1,7 +1,6 @@
 -- Members of JSON, and what they give an array.
-use Rattle.std.proofs.Common.{◌≡◌, ◌⊎◌, ◌<◌, ◌++◌, ℕ, zero, suc, ℤ, Bool, true, false, cond, not, ◌||◌, ◌+◌, if◌then◌else◌, nat_lt, Option}
-use Rattle.std.proofs.Common.{Some, None, option_map, option_and_then, List, [], ◌∷◌, length, String, Global, string_bytes, Less, refl, sym}
-use Rattle.std.proofs.Common.{ap, subst, ◌∙◌, inl, inr, ⊎_elim, true≢false, arith}
+use Rattle.std.proofs.Common.{◌≡◌, ◌⊎◌, ◌<◌, ◌++◌, ℕ, zero, suc, ℤ, Bool, true, false, cond, not, ◌||◌, ◌+◌, if◌then◌else◌, nat_lt, Option, Some, None, option_map, option_and_then, List, [], ◌∷◌, length, String, Global, string_bytes, Less}
+use Rattle.std.proofs.Common.{refl, sym, ap, subst, ◌∙◌, inl, inr, ⊎_elim, true≢false, arith}
 use Rattle.std.proofs.lemmas.Bool.Decides.{Decides-ltb}
 use Rattle.std.proofs.lemmas.List.Elements.{Contains-append_left, Contains-append_right, Contains-append_cases}
 use Rattle.std.proofs.lemmas.List.Sorted.{IsPermutation-sym, Contains-permutation}
@@ -20,8 +19,8 @@ use Rattle.serde_json.specs.Find.{get_member}
 use Rattle.serde_json.specs.View.{view, members_view}
 use Rattle.serde_json.proofs.Views.{Entry, member_here, member_later}
 use Rattle.sm_num.specs.Range.{fits}
-use Rattle.sm_syntax.specs.declared.tree.Sort.{Sort}
 use Rattle.sm_syntax.specs.text.Sorts.{Sorts}
+use Rattle.sm_syntax.specs.declared.tree.Sort.{Sort}
 use Rattle.sm_syntax.specs.text.Symbols.{is_among}
 use Rattle.sm_replay.specs.Updates.{Lists}
 use Rattle.sm_replay.specs.Input.{Texts, declared_name, number_or_zero, elements, cell_given}

@@ -1,21 +1,18 @@
 -- Decimal texts and the numbers that they spell.
-use Rattle.std.proofs.Common.{◌≡◌, ◌+◌, ◌<◌, ◌^◌, ◌&&◌, ℕ, suc, ℤ, pos, negsuc, neg_ℤ, Bool, true, false, cond, if◌then◌else◌, Some, None}
-use Rattle.std.proofs.Common.{List, [], ◌∷◌, length, drop, to_z, of_z, refl, sym, ap, subst, ◌∙◌, arith}
-use Rattle.std.proofs.lemmas.Bool.{ne_eqb}
+use Rattle.std.proofs.Common.{◌≡◌, ◌+◌, ◌<◌, ◌^◌, ◌&&◌, ℕ, suc, ℤ, pos, negsuc, neg_ℤ, Bool, true, false, cond, if◌then◌else◌, Some, None, List, [], to_z, of_z, refl, sym, ap, subst, ◌∙◌, arith}
 use Rattle.std.proofs.lemmas.Bool.Decides.{Decides-ltb}
 use Rattle.std.proofs.lemmas.Fmt.{decimal_is_IsNumeral_wide}
 use Rattle.std.proofs.lemmas.Int.{to_z-of_z}
 use Rattle.std.proofs.lemmas.Slice.Eq.{bytes_eq-Decides}
-use Rattle.std.proofs.lemmas.Str.Parse.{digit_from_value}
 use Rattle.std.specs.Fmt.{decimal, signed_decimal}
 use Rattle.std.specs.Int.{w128}
 use Rattle.std.specs.Int.RustNames.{FitsSigned}
 use Rattle.std.specs.Str.{bytes_eq}
-use Rattle.std.specs.Str.Parse.{AllDigits, IsNumeral, digits_value, starts_with_minus, without_leading_plus, without_leading_sign}
-use Rattle.std.specs.Str.Parse.{signed_digits_value}
+use Rattle.std.specs.Str.Parse.{IsNumeral, digits_value, without_leading_sign, signed_digits_value}
 use lib.Signed.{mag}
 use Rattle.sm_num.specs.Range.{fits}
 use Rattle.sm_replay.specs.Number.{number_of_text}
+use Rattle.sm_lemmas.proofs.Numbers.{no_minus, unsigned}
 
 -- a number that fits is small
 fits_small : (z : ℤ) → fits z ≡ true → mag z < 2 ^ 127
@@ -30,19 +27,6 @@ small_fits (negsuc n) h = (Decides-ltb n (2 ^ 127)).1 h
 -- so it has few digits
 wide : (n : ℕ) → n < 2 ^ 127 → n + 1 < 10 ^ 64
 wide n h = omega arith
-
--- digits begin with no sign
-no_minus : (ds : List ℕ) → AllDigits 10 ds → 0 < length ds → starts_with_minus ds ≡ false
-no_minus [] d some = absurd (omega arith)
-no_minus (c ∷ cs) d some = ne_eqb c 45 (λ (e : c ≡ 45). omega (arith, digit_from_value c d.0))
-
-no_plus : (ds : List ℕ) → AllDigits 10 ds → 0 < length ds → without_leading_plus ds ≡ ds
-no_plus [] d some = absurd (omega arith)
-no_plus (c ∷ cs) d some =
-    ap (λ (b : Bool). drop (cond b 1 0) (c ∷ cs)) (ne_eqb c 43 (λ (e : c ≡ 43). omega (arith, digit_from_value c d.0)))
-
-unsigned : (ds : List ℕ) → AllDigits 10 ds → 0 < length ds → without_leading_sign ds ≡ ds
-unsigned ds d some = ap (λ (b : Bool). cond b (drop 1 ds) (without_leading_plus ds)) (no_minus ds d some) ∙ no_plus ds d some
 
 -- after its sign, the text of a number is digits
 text_is_numeral : (z : ℤ) → mag z < 2 ^ 127 → IsNumeral 10 (without_leading_sign (signed_decimal z))

@@ -1,18 +1,15 @@
 -- Which tasks may be run.
 use Rattle.std.proofs.Common.{◌≡◌, ℕ, Option, Some, None, List, [], ◌∷◌, length, refl, sym, ap, subst, ◌∙◌}
-use Rattle.std.specs.Option.{option_or}
 use Rattle.sm_syntax.specs.declared.copies.PerCopy.{PerCopy}
 use Rattle.sm_syntax.specs.declared.tree.Block.{Block}
-use Rattle.sm_syntax.specs.declared.tree.Sort.{Sort}
-use Rattle.sm_syntax.specs.text.Conditions.{Refusal, TooMany, first_of_all, first_of_lists, first_sort_fault, double_name}
-use Rattle.sm_syntax.specs.text.Conditions.{first_output_fault, over, size_fault, program_fault, double_hole, hole_in_filling, unknown_hole}
-use Rattle.sm_syntax.specs.text.Conditions.{missing_filling, ill_formed, ill_assumed, first_refusal, code_nodes, code_depth}
-use Rattle.sm_syntax.specs.text.Conditions.{condition_nodes, condition_depth}
+use Rattle.sm_syntax.specs.text.Conditions.{TooMany, first_of_all, first_of_lists, first_sort_fault, double_name, first_output_fault, over, size_fault, program_fault, double_hole, hole_in_filling, unknown_hole, missing_filling, ill_formed}
+use Rattle.sm_syntax.specs.text.Conditions.{ill_assumed, first_refusal, code_nodes, code_depth, condition_nodes, condition_depth}
 use Rattle.sm_syntax.specs.text.Uses.{names_used}
 use Rattle.sm_syntax.specs.claim.ConflictFree.{Copy, O, A, B, M, program_of}
 use Rattle.sm_syntax.specs.claim.Fill.{fill}
 use Rattle.sm_syntax.specs.text.Parts.{Parts, sort_of, task_of}
 use Rattle.sm_syntax.specs.text.Sorts.{Sorts, IsWellSorted}
+use Rattle.sm_syntax.specs.declared.tree.Sort.{Sort}
 use Rattle.sm_syntax.specs.text.Spells.{Spells}
 use Rattle.sm_syntax.specs.claim.Syntax.{Condition, Code}
 use Rattle.sm_task.specs.Filling.{AreFilled}
@@ -20,22 +17,7 @@ use Rattle.sm_replay.specs.Runs.{code_in, AreSorted}
 use Rattle.sm_eval.proofs.Faultless.{code_sorted, condition_sorted}
 use Rattle.sm_replay.specs.Judging.{IsWellSortedAssumption}
 use Rattle.sm_replay.specs.Sorted.{names_assumed, sort_fault}
-
--- no fault of two is neither
-neither : (a b : Option Refusal) → option_or a b ≡ None → (a ≡ None) × (b ≡ None)
-neither None b none = (refl, none)
-neither (Some r) b none = cc
-
--- no fault of the four copies is none of each
-each_none : (f : Copy → Option Refusal) → first_of_lists f ≡ None → (c : Copy) → f c ≡ None
-each_none f none O = (neither (f O) _ none).0
-each_none f none A = (neither (f A) _ (neither (f O) _ none).1).0
-each_none f none B = (neither (f B) _ (neither (f A) _ (neither (f O) _ none).1).1).0
-each_none f none M = (neither (f M) _ (neither (f B) _ (neither (f A) _ (neither (f O) _ none).1).1).1).0
-
--- where each of the four copies has no fault, there is none
-none_each : (f : Copy → Option Refusal) → ((c : Copy) → f c ≡ None) → first_of_lists f ≡ None
-none_each f none = rw (none O, none A, none B, none M)
+use Rattle.sm_syntax.proofs.Refusals.{neither_refuses, each_none, none_of_lists}
 
 -- a program without a fault has no name that isn't declared as it stands
 program_names : (declared : List (ℕ × Sort)) (outputs : List ℕ) (c : Code) → program_fault declared outputs c ≡ None
@@ -44,27 +26,27 @@ unfolding program_fault
 program_names declared outputs c none =
     let names = first_sort_fault (sort_of declared) (names_used c) in
     let sizes = over 200 (length declared) TooMany ∷ size_fault (code_nodes c) (code_depth c) ∷ [] in
-    let after = neither (double_name declared) (first_of_all (first_output_fault (sort_of declared) [] outputs ∷ names ∷ sizes)) none in
-    let rest = neither (first_output_fault (sort_of declared) [] outputs) (first_of_all (names ∷ sizes)) after.1 in
-    (neither names (first_of_all sizes) rest.1).0
+    let after = neither_refuses (double_name declared) (first_of_all (first_output_fault (sort_of declared) [] outputs ∷ names ∷ sizes)) none in
+    let rest = neither_refuses (first_output_fault (sort_of declared) [] outputs) (first_of_all (names ∷ sizes)) after.1 in
+    (neither_refuses names (first_of_all sizes) rest.1).0
 
 -- an assumption without a fault has no name that isn't declared as it stands
 assumed_names : (declared : List (ℕ × Sort)) (assumed : Option Condition) → ill_assumed declared assumed ≡ None
     → first_sort_fault (sort_of declared) (names_assumed assumed) ≡ None
 unfolding ill_assumed first_sort_fault
 assumed_names declared None none = refl
-assumed_names declared (Some b) none = (neither _ (first_of_all (size_fault (condition_nodes b) (condition_depth b) ∷ [])) none).0
+assumed_names declared (Some b) none = (neither_refuses _ (first_of_all (size_fault (condition_nodes b) (condition_depth b) ∷ [])) none).0
 
 -- the conditions on programs and on the assumption hold where all do
 last_two : (t : Parts) → first_refusal t ≡ None → (ill_formed t ≡ None) × (ill_assumed t.declared t.assumed ≡ None)
 unfolding first_refusal
 last_two t none =
-    let a = neither (double_hole t) _ none in
-    let b = neither (hole_in_filling t) _ a.1 in
-    let c = neither (unknown_hole t) _ b.1 in
-    let d = neither (missing_filling t) _ c.1 in
-    let e = neither (ill_formed t) _ d.1 in
-    (e.0, (neither (ill_assumed t.declared t.assumed) None e.1).0)
+    let a = neither_refuses (double_hole t) _ none in
+    let b = neither_refuses (hole_in_filling t) _ a.1 in
+    let c = neither_refuses (unknown_hole t) _ b.1 in
+    let d = neither_refuses (missing_filling t) _ c.1 in
+    let e = neither_refuses (ill_formed t) _ d.1 in
+    (e.0, (neither_refuses (ill_assumed t.declared t.assumed) None e.1).0)
 
 -- the programs of a task that meets the conditions
 valid_programs : (t : Parts) → ill_formed t ≡ None → (c : Copy) → program_fault t.declared t.outputs (program_of (task_of t) c) ≡ None
@@ -79,7 +61,7 @@ valid_runs t none =
     let names = λ (c : Copy). first_sort_fault (sort_of t.declared) (names_used (program_of (task_of t) c)) in
     let each : (c : Copy) → names c ≡ None =
     λ (c : Copy). program_names t.declared t.outputs (program_of (task_of t) c) (valid_programs t both.0 c) in
-    rw (assumed_names t.declared t.assumed both.1, none_each names each)
+    rw (assumed_names t.declared t.assumed both.1, none_of_lists names each)
 
 -- the parts of that
 parts_run : (t : Parts) → sort_fault t ≡ None
@@ -87,8 +69,8 @@ parts_run : (t : Parts) → sort_fault t ≡ None
     (first_of_lists (λ (c : Copy). first_sort_fault (sort_of t.declared) (names_used (program_of (task_of t) c))) ≡ None)
 unfolding sort_fault
 parts_run t none =
-    let both = neither (first_sort_fault (sort_of t.declared) (names_assumed t.assumed)) _ none in
-    (both.0, (neither _ None both.1).0)
+    let both = neither_refuses (first_sort_fault (sort_of t.declared) (names_assumed t.assumed)) _ none in
+    (both.0, (neither_refuses _ None both.1).0)
 
 -- each program may be run
 pub may_run : (t : Parts) → sort_fault t ≡ None → (c : Copy) → IsWellSorted (sort_of t.declared) (program_of (task_of t) c)

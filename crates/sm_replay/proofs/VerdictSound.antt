@@ -1,6 +1,5 @@
 -- What a verdict tells of violations.
-use Rattle.std.proofs.Common.{◌≡◌, ◌⊎◌, ◌+◌, ◌<◌, ◌≤◌, ◌↔◌, ℕ, ℤ, Bool, true, false, Option, Some, None, Result, Ok, Err, List, IsTrue}
-use Rattle.std.proofs.Common.{refl, sym, subst, ◌∙◌, arith, ⊎_elim, true≢false}
+use Rattle.std.proofs.Common.{◌≡◌, ◌⊎◌, ◌+◌, ◌<◌, ◌≤◌, ◌↔◌, ℕ, ℤ, Bool, true, false, Option, Some, None, Result, Ok, Err, List, IsTrue, refl, sym, subst, ◌∙◌, arith, ⊎_elim, true≢false}
 use Rattle.std.proofs.Math.Path.{fun_ext}
 use Rattle.std.proofs.lemmas.Bool.{cases_eq}
 use Rattle.std.proofs.lemmas.Option.{slice_get_within, get_or_from_slice_get}
@@ -13,14 +12,12 @@ use Rattle.sm_syntax.specs.text.Sorts.{Sorts}
 use Rattle.sm_syntax.specs.claim.Stores.{Store}
 use Rattle.sm_syntax.specs.claim.Syntax.{Condition, Code}
 use Rattle.sm_eval.specs.declared.error.EvalError.{EvalError}
-use Rattle.sm_replay.specs.declared.error.ReplayError.{ReplayError}
 use Rattle.sm_replay.specs.declared.error.ReplayError.TheVariants as stop
-use Rattle.sm_replay.specs.declared.verdict.Verdict.{Verdict}
 use Rattle.sm_replay.specs.declared.verdict.Verdict.TheVariants as verdict
 use Rattle.sm_replay.specs.Judging.{Tells}
-use Rattle.sm_replay.specs.Trials.{trial, SomeTrialMeets}
+use Rattle.sm_replay.specs.Trials.{trial, SomeTrialMeets, Verdict}
 use Rattle.sm_replay.specs.TrialJobs.{shown_of, Shows}
-use Rattle.sm_replay.specs.Verdicts.{KeepsOutputs, Breaks, IsUnmet, Stops, Judges, IsViolation, cell_of}
+use Rattle.sm_replay.specs.Verdicts.{KeepsOutputs, Breaks, IsUnmet, Stops, Judges, IsViolation, cell_of, ReplayError}
 use Rattle.sm_replay.specs.Violations.{IsMet, AreEnds, KeepsAt, Violates}
 
 -- a run has one end

@@ -1,10 +1,8 @@
 -- One store has one verdict, and one list of trials has one first violation.
-use Rattle.std.proofs.Common.{◌≡◌, ◌⊎◌, ◌<◌, ℕ, zero, suc, ℤ, pos, negsuc, Option, Some, None, Ok, Err, refl, sym, ap, subst, ◌∙◌, inl, inr}
-use Rattle.std.proofs.Common.{⊎_elim, arith}
+use Rattle.std.proofs.Common.{◌≡◌, ◌⊎◌, ◌<◌, ℕ, suc, ℤ, pos, negsuc, Option, Some, None, Ok, Err, refl, sym, ap, subst, ◌∙◌, inl, inr, ⊎_elim, arith, List}
 use Rattle.std.specs.Prelude.{◌<ℤ◌}
 use Rattle.std.proofs.lemmas.Int.{ints}
 use Rattle.std.specs.List.{slice_get}
-use Rattle.std.proofs.Common.{List}
 use Rattle.sm_syntax.specs.declared.tree.Sort.{Sort}
 use Rattle.sm_syntax.specs.declared.tree.Name.{Name}
 use Rattle.sm_syntax.specs.claim.ConflictFree.{Copy, Task, program_of, copy_of}
@@ -15,25 +13,16 @@ use Rattle.sm_syntax.specs.claim.Syntax.{Code}
 use Rattle.sm_eval.specs.Events.{event}
 use Rattle.sm_eval.specs.declared.error.EvalError.{EvalError}
 use Rattle.sm_eval.specs.declared.error.EvalError.TheVariants as eval
-use Rattle.sm_replay.specs.declared.error.ReplayError.{ReplayError}
 use Rattle.sm_replay.specs.declared.error.ReplayError.TheVariants as stop
-use Rattle.sm_replay.specs.declared.verdict.Verdict.{Verdict}
 use Rattle.sm_replay.specs.declared.verdict.Verdict.TheVariants as verdict
 use Rattle.sm_replay.specs.Runs.{stop_of}
 use Rattle.sm_replay.specs.Laws.{VerdictIsOne, LeastTrialIsOne, FirstViolationIsOne}
-use Rattle.sm_replay.specs.Trials.{trial, Names}
-use Rattle.sm_replay.specs.Verdicts.{cell_of, IsBelow, FailsAt, IsFirstBreak, KeepsOutputs, Breaks, IsUnmet, Stops}
+use Rattle.sm_replay.specs.Trials.{trial, Names, Verdict}
+use Rattle.sm_replay.specs.Verdicts.{cell_of, IsBelow, FailsAt, IsFirstBreak, KeepsOutputs, Breaks, IsUnmet, Stops, ReplayError}
 use Rattle.sm_replay.specs.Violations.{assumed_event, IsMet, AreEnds, KeepsAt}
 use Rattle.sm_replay.proofs.VerdictSound.{same_ends, not_kept, holds_not_violated, breaks_violates}
-
--- of two numbers one is less, or they are the same
-order : (a b : ℕ) → (a < b) ⊎ ((a ≡ b) ⊎ (b < a))
-order zero zero = inr (inl refl)
-order zero (suc b) = inl (omega arith)
-order (suc a) zero = inr (inr (omega arith))
-order (suc a) (suc b) =
-    ⊎_elim (λ (lt : a < b). inl (omega (arith, lt)))
-    (λ (h : (a ≡ b) ⊎ (b < a)). ⊎_elim (λ (e : a ≡ b). inr (inl (ap suc e))) (λ (gt : b < a). inr (inr (omega (arith, gt)))) h) (order a b)
+use Rattle.sm_lemmas.proofs.Numbers.{order}
+use Rattle.sm_lemmas.proofs.Lists.{one_thing}
 
 int_order : (i j : ℤ) → (i <ℤ j) ⊎ ((i ≡ j) ⊎ (j <ℤ i))
 int_order (pos a) (pos b) =
@@ -46,9 +35,6 @@ int_order (negsuc a) (negsuc b) =
     ⊎_elim (λ (lt : a < b). inr (inr (omega (arith, ints, lt))))
     (λ (h : (a ≡ b) ⊎ (b < a)). ⊎_elim (λ (e : a ≡ b). inr (inl (ap negsuc e))) (λ (gt : b < a). inl (omega (arith, ints, gt))) h)
     (order a b)
-
-some_one : {T : Type 0} (x y : T) → Some x ≡ Some y → x ≡ y
-some_one x y is = cc
 
 -- ---- the copy that stops first, and its event
 
@@ -63,7 +49,7 @@ stopped_one program s n c d e f p q =
     ⊎_elim (λ (lt : c < d). absurd (stop_below program s n c d e f p q lt))
     (λ (h : (c ≡ d) ⊎ (d < c)). ⊎_elim (λ (e : c ≡ d). e) (λ (gt : d < c). absurd (stop_below program s n d c f e q p gt)) h) (order c d) in
     let events : Some e ≡ Some f = sym p.stops ∙ ap (λ (k : ℕ). event n (program (copy_of k)) s) copy ∙ q.stops in
-    ap (λ (k : ℕ). stop_of k e) copy ∙ ap (stop_of d) (some_one e f events)
+    ap (λ (k : ℕ). stop_of k e) copy ∙ ap (stop_of d) (one_thing e f events)
 
 -- ---- the cell and the part at which Keeps fails first
 
@@ -109,7 +95,7 @@ module _ (outputs : List (ℕ × Sort)) (end : Copy → Store) (c d : Cell) (p q
       (order x.place y.place)
 
   variable_one : variable c ≡ variable d
-  variable_one = some_one (variable c) (variable d) (sym x.output ∙ ap (slice_get outputs) place_one ∙ y.output)
+  variable_one = one_thing (variable c) (variable d) (sym x.output ∙ ap (slice_get outputs) place_one ∙ y.output)
 
   cell_one : c ≡ d
   cell_one =
@@ -204,7 +190,7 @@ verdict_one t s n (Err (stop.BeyondAssumed op y z)) (Ok (verdict.Violates x j q)
 verdict_one t s n (Err (stop.BeyondAssumed op y z)) (Err (stop.OutOfTurns d)) ka kb a b = absurd (met_beyond t s n _ b.0 a)
 verdict_one t s n (Err (stop.BeyondAssumed op y z)) (Err (stop.Beyond d oq v w)) ka kb a b = absurd (met_beyond t s n _ b.0 a)
 verdict_one t s n (Err (stop.BeyondAssumed op y z)) (Err (stop.BeyondAssumed oq v w)) ka kb a b =
-    ap (λ (e : EvalError). Err (assumed_stop e)) (some_one (eval.Beyond op y z) (eval.Beyond oq v w) (sym a ∙ b))
+    ap (λ (e : EvalError). Err (assumed_stop e)) (one_thing (eval.Beyond op y z) (eval.Beyond oq v w) (sym a ∙ b))
 verdict_one t s n (Err stop.Memory) b ka kb ja jb = absurd (ka refl)
 verdict_one t s n (Ok v) (Err stop.Memory) ka kb a b = absurd (kb refl)
 verdict_one t s n (Err e) (Err stop.Memory) ka kb a b = absurd (kb refl)

@@ -1,8 +1,6 @@
 -- Inputs: which store an object of JSON gives, and why other bytes are refused. Public clauses cite
 -- it.
-use Rattle.std.specs.Prelude.{◌≡◌, ℕ, ℤ, pos, if◌then◌else◌, Option, Some, None, option_map}
-use Rattle.std.specs.Prelude.{option_and_then, unwrap_or, Result, Ok, Err, List, [], ◌∷◌, slice_get}
-use Rattle.std.specs.Prelude.{position}
+use Rattle.std.specs.Prelude.{◌≡◌, ℕ, ℤ, pos, if◌then◌else◌, Option, Some, None, option_map, option_and_then, unwrap_or, Result, Ok, Err, List, [], ◌∷◌, slice_get, position}
 use Rattle.std.specs.Fmt.{signed_decimal}
 use Rattle.std.specs.Option.{option_or}
 use Rattle.std.specs.Str.{IsUtf8, bytes_eq}
@@ -10,16 +8,15 @@ use Rattle.serde_json.specs.Data.{Data, Members, no_members, member}
 use Rattle.serde_json.specs.Find.{as_object, get}
 use Rattle.serde_json.specs.Read.{read}
 use Rattle.sm_syntax.specs.declared.tree.Name.{Name}
+use Rattle.sm_syntax.specs.text.Sorts.{Sorts}
 use Rattle.sm_syntax.specs.declared.tree.Sort.{Sort}
 use Rattle.sm_syntax.specs.declared.tree.Sort.TheVariants.{Num, Arr}
-use Rattle.sm_syntax.specs.text.Sorts.{Sorts}
 use Rattle.sm_syntax.specs.claim.Stores.{Value, Number, Array, zero_value, Store}
 use Rattle.sm_num.specs.Range.{fits}
 use Rattle.sm_eval.specs.declared.store.Store as code
 use Rattle.sm_eval.specs.StoredValues.{meaning, sorts_of}
-use Rattle.sm_replay.specs.declared.error.InputError.{InputError}
-use Rattle.sm_replay.specs.declared.error.InputError.TheVariants.{BadJson, NotObject, UnknownKey}
-use Rattle.sm_replay.specs.declared.error.InputError.TheVariants.{BadValue, BadIndex, Memory}
+pub use Rattle.sm_replay.specs.declared.error.InputError.{InputError}
+pub use Rattle.sm_replay.specs.declared.error.InputError.TheVariants.{BadIndex, BadJson, BadValue, Memory, NotObject, UnknownKey}
 use Rattle.sm_replay.specs.Number.{number_of_text, json_number}
 
 -- the texts of names by their numbers

@@ -1,7 +1,6 @@
 -- The text of an input: compact JSON of each declared name, numbers as texts, an array without its
 -- zero cells. Public clauses cite it.
-use Rattle.std.specs.Prelude.{◌≡◌, ℕ, ℤ, pos, if◌then◌else◌, Option, Some, None, List, slice_get}
-use Rattle.std.specs.Prelude.{position}
+use Rattle.std.specs.Prelude.{◌≡◌, ℕ, ℤ, pos, if◌then◌else◌, Option, Some, None, List, slice_get, position}
 use Rattle.std.specs.Cmp.Lexicographic.{slice_cmp}
 use Rattle.std.specs.declared.cmp.Ordering.TheVariants.{Less}
 use Rattle.std.specs.Fmt.{signed_decimal}
@@ -9,8 +8,8 @@ use Rattle.std.specs.Ordering.{int_eq, nat_cmp}
 use Rattle.std.specs.Str.{bytes_eq}
 use Rattle.serde_json.specs.Data.{Data, string, object, Members, no_members, member}
 use Rattle.serde_json.specs.Find.{get_member}
-use Rattle.sm_syntax.specs.declared.tree.Sort.{Sort}
 use Rattle.sm_syntax.specs.text.Sorts.{Sorts}
+use Rattle.sm_syntax.specs.declared.tree.Sort.{Sort}
 use Rattle.sm_syntax.specs.claim.Stores.{Value, Number, Array, Store}
 use Rattle.sm_replay.specs.Input.{Texts, declared_name}
 use Rattle.sm_replay.specs.Number.{number_of_text}

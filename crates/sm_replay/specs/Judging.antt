@@ -4,10 +4,7 @@ use Rattle.sm_syntax.specs.text.Sorts.{Sorts, IsWellSortedCondition}
 use Rattle.sm_syntax.specs.claim.Stores.{Store}
 use Rattle.sm_syntax.specs.claim.Syntax.{Condition}
 use Rattle.sm_eval.specs.declared.error.EvalError.TheVariants as eval
-use Rattle.sm_replay.specs.declared.error.ReplayError.{ReplayError}
-use Rattle.sm_replay.specs.declared.error.ReplayError.TheVariants.{OutOfTurns, Beyond}
-use Rattle.sm_replay.specs.declared.error.ReplayError.TheVariants.{BeyondAssumed, Memory}
-use Rattle.sm_replay.specs.Verdicts.{IsUnmet}
+use Rattle.sm_replay.specs.Verdicts.{IsUnmet, ReplayError, OutOfTurns, Beyond, BeyondAssumed, Memory}
 use Rattle.sm_replay.specs.Violations.{assumed_event, IsMet}
 
 -- each name of an assumption stands as it is declared

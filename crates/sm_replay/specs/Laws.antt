@@ -10,15 +10,12 @@ use Rattle.sm_syntax.specs.text.Spells.{Spells}
 use Rattle.sm_syntax.specs.claim.Stores.{Store}
 use Rattle.sm_eval.specs.StoredValues.{meaning, sorts_of}
 use Rattle.sm_eval.specs.declared.store.Store as code
-use Rattle.sm_replay.specs.declared.error.InputError.{InputError}
 use Rattle.sm_replay.specs.declared.error.InputError.TheVariants as no_input
-use Rattle.sm_replay.specs.declared.error.ReplayError.{ReplayError}
 use Rattle.sm_replay.specs.declared.error.ReplayError.TheVariants as stop
-use Rattle.sm_replay.specs.declared.verdict.Verdict.{Verdict}
-use Rattle.sm_replay.specs.Input.{Texts, Reads}
+use Rattle.sm_replay.specs.Input.{Texts, Reads, InputError}
 use Rattle.sm_replay.specs.Sorted.{sort_fault}
-use Rattle.sm_replay.specs.Trials.{IsLeast, IsFirstViolation}
-use Rattle.sm_replay.specs.Verdicts.{Judges}
+use Rattle.sm_replay.specs.Trials.{IsLeast, IsFirstViolation, Verdict}
+use Rattle.sm_replay.specs.Verdicts.{Judges, ReplayError}
 use Rattle.sm_replay.specs.Violations.{Violates}
 use Rattle.sm_replay.specs.InputText.{AreNamed, AreWritten}
 

@@ -3,8 +3,8 @@
 use Rattle.std.specs.Prelude.{◌≡◌, ℕ, ℤ, pos, true, false, Option, Some, None, List}
 use Rattle.serde_json.specs.Data.{Data, Members, put}
 use Rattle.sm_num.specs.Range.{fits}
-use Rattle.sm_syntax.specs.declared.tree.Sort.{Sort}
 use Rattle.sm_syntax.specs.text.Sorts.{Sorts}
+use Rattle.sm_syntax.specs.declared.tree.Sort.{Sort}
 use Rattle.sm_syntax.specs.claim.Stores.{Value, Number, Array, Store}
 use Rattle.sm_replay.specs.Input.{Texts, declared_name}
 use Rattle.sm_replay.specs.InputText.{IsWrittenAs}

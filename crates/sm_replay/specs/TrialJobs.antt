@@ -1,13 +1,11 @@
 -- What the job of a trial gives, and the first of many that gives something. No public clause cites
 -- it.
-use Rattle.std.specs.Prelude.{◌≡◌, ◌<◌, ℕ, Option, Some, None, Result, Ok, Err, List, length}
-use Rattle.std.specs.Prelude.{slice_index_or}
+use Rattle.std.specs.Prelude.{◌≡◌, ◌<◌, ℕ, Option, Some, None, Result, Ok, Err, List, length, slice_index_or}
 use Rattle.sm_syntax.specs.claim.ConflictFree.{Task}
 use Rattle.sm_syntax.specs.claim.Stores.{Store}
 use Rattle.sm_replay.specs.declared.error.ReplayError.{ReplayError}
-use Rattle.sm_replay.specs.declared.verdict.Verdict.{Verdict}
 use Rattle.sm_replay.specs.declared.verdict.Verdict.TheVariants as verdict
-use Rattle.sm_replay.specs.Trials.{Names}
+use Rattle.sm_replay.specs.Trials.{Names, Verdict}
 use Rattle.sm_replay.specs.Violations.{Violates}
 
 -- the verdict of an answer, where it says that the store violates

@@ -1,16 +1,16 @@
 -- The trials: the inputs that are tried on every task. Trial 0 is zero. Public clauses cite it.
-use Rattle.std.specs.Prelude.{◌<◌, ℕ, zero, suc, ◌+◌, ◌*◌, ◌/◌, ◌%◌, ℤ, pos, negsuc, ◌-ℤ◌, nat_lt}
-use Rattle.std.specs.Prelude.{if◌then◌else◌, Option, Some, None, unwrap_or, MatchOption}
-use Rattle.sm_syntax.specs.declared.tree.Sort.{Sort}
-use Rattle.sm_syntax.specs.declared.tree.Sort.TheVariants.{Num, Arr}
+use Rattle.std.specs.Prelude.{◌<◌, ℕ, zero, suc, ◌+◌, ◌*◌, ◌/◌, ◌%◌, ℤ, pos, negsuc, ◌-ℤ◌, nat_lt, if◌then◌else◌, Option, Some, None, unwrap_or, MatchOption}
 use Rattle.sm_syntax.specs.claim.ConflictFree.{Task}
 use Rattle.sm_syntax.specs.text.Sorts.{Sorts}
+use Rattle.sm_syntax.specs.declared.tree.Sort.{Sort}
+use Rattle.sm_syntax.specs.declared.tree.Sort.TheVariants.{Num, Arr}
 use Rattle.sm_syntax.specs.claim.Stores.{Value, Number, Array, zero_value, Store}
 use Rattle.sm_eval.specs.Zeros.{zeros}
-use Rattle.sm_replay.specs.declared.verdict.Verdict.{Verdict}
+pub use Rattle.sm_replay.specs.declared.verdict.Verdict.{Verdict}
 use Rattle.sm_replay.specs.declared.verdict.Verdict.TheVariants as verdict
 use Rattle.sm_replay.specs.Violations.{IsMet, Violates}
 use Rattle.sm_replay.specs.Verdicts.{Breaks, cell_of}
+pub use Rattle.sm_replay.specs.declared.verdict.Verdict.TheVariants.{Holds, Unmet}
 
 -- how many trials there are
 abbrev pub trials : ℕ

@@ -1,19 +1,17 @@
 -- What a verdict says. Of one task, store and bound on turns just one of these holds, but for want
 -- of memory. Public clauses cite it.
-use Rattle.std.specs.Prelude.{◌≡◌, ◌<◌, ℕ, ℤ, ◌<ℤ◌, Option, Some, None, Result, Ok, Err, List}
-use Rattle.std.specs.Prelude.{Contains, slice_get}
+use Rattle.std.specs.Prelude.{◌≡◌, ◌<◌, ℕ, ℤ, ◌<ℤ◌, Option, Some, None, Result, Ok, Err, List, Contains, slice_get}
 use Rattle.sm_syntax.specs.declared.tree.Sort.{Sort}
 use Rattle.sm_syntax.specs.claim.ConflictFree.{Copy, O, A, B, M, Meets, Task, program_of, copy_of}
 use Rattle.sm_syntax.specs.trees.FirstBroken.{IsFirstBroken}
 use Rattle.sm_syntax.specs.claim.Keeps.{Cell, Scalar, Element, content, variable}
 use Rattle.sm_syntax.specs.claim.Stores.{Store}
 use Rattle.sm_syntax.specs.claim.Syntax.{Condition, Code}
-use Rattle.sm_eval.specs.declared.error.EvalError.{EvalError}
 use Rattle.sm_eval.specs.declared.error.EvalError.TheVariants as eval
 use Rattle.sm_eval.specs.Events.{event}
-use Rattle.sm_replay.specs.declared.error.ReplayError.{ReplayError}
-use Rattle.sm_replay.specs.declared.error.ReplayError.TheVariants.{OutOfTurns, Beyond}
-use Rattle.sm_replay.specs.declared.error.ReplayError.TheVariants.{BeyondAssumed, Memory}
+use Rattle.sm_eval.specs.declared.error.EvalError.{EvalError}
+pub use Rattle.sm_replay.specs.declared.error.ReplayError.{ReplayError}
+pub use Rattle.sm_replay.specs.declared.error.ReplayError.TheVariants.{Beyond, BeyondAssumed, Memory, OutOfTurns}
 use Rattle.sm_replay.specs.declared.verdict.Verdict.{Verdict}
 use Rattle.sm_replay.specs.declared.verdict.Verdict.TheVariants as verdict
 use Rattle.sm_replay.specs.Violations.{assumed_event, IsMet, AreEnds, KeepsAt}

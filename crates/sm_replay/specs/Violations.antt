@@ -5,8 +5,8 @@ use Rattle.sm_syntax.specs.claim.Keeps.{Keeps, Cell, content, variable}
 use Rattle.sm_syntax.specs.claim.Meaning.{run}
 use Rattle.sm_syntax.specs.claim.Stores.{Store}
 use Rattle.sm_syntax.specs.claim.Syntax.{Condition, Code}
-use Rattle.sm_eval.specs.declared.error.EvalError.{EvalError}
 use Rattle.sm_eval.specs.Events.{condition_event, event}
+use Rattle.sm_eval.specs.declared.error.EvalError.{EvalError}
 
 -- the first event of an assumption
 abbrev pub assumed_event : Option Condition → Store → Option EvalError

@@ -1,6 +1,5 @@
 // The first cell of the four ends at which the condition fails.
-ghost use Rattle.std.specs.Prelude.{◌≡◌, ◌⊎◌, ◌↔◌, ◌<◌, ◌≤ℤ◌, ℕ, ℤ, pos, Some, None, unwrap_or};
-ghost use Rattle.std.specs.Prelude.{map, length, IsNone, IfNone, IfSome, IsSomeAnd};
+ghost use Rattle.std.specs.Prelude.{◌≡◌, ◌⊎◌, ◌↔◌, ◌<◌, ◌≤ℤ◌, ℕ, ℤ, pos, Some, None, unwrap_or, map, length, IsNone, IfNone, IfSome, IsSomeAnd};
 ghost use Rattle.sm_eval.specs.Cells.{index_at, listed};
 ghost use Rattle.sm_eval.specs.StoredValues.{sorts_of};
 ghost use Rattle.sm_syntax.specs.trees.Copies.{copy_named};

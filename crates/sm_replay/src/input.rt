@@ -1,6 +1,5 @@
 // Inputs in JSON.
-ghost use Rattle.std.specs.Prelude.{◌≡◌, ◌≢◌, ◌++◌, ℤ, Some, None, option_map, MatchResult, IfOk};
-ghost use Rattle.std.specs.Prelude.{IfErr, OnOk};
+ghost use Rattle.std.specs.Prelude.{◌≡◌, ◌≢◌, ◌++◌, ℤ, Some, None, option_map, MatchResult, IfOk, IfErr, OnOk};
 ghost use Rattle.serde_json.specs.Data.{Data, object};
 ghost use Rattle.serde_json.specs.Find.{as_object};
 ghost use Rattle.serde_json.specs.View.{view, members_view};
@@ -9,10 +8,7 @@ ghost use Rattle.sm_syntax.specs.text.Parts.{sort_of};
 ghost use Rattle.sm_syntax.specs.trees.Programs.{declared_of};
 ghost use Rattle.sm_eval.specs.Zeros.{zero_of, zeros};
 ghost use Rattle.sm_replay.specs.Updates.{GivesValue, Lists, Overrides};
-ghost use Rattle.sm_replay.specs.Input.{declared_name, missing, cells_fault, value_fault};
-ghost use Rattle.sm_replay.specs.Input.{members_fault, input_fault, number_or_zero, elements};
-ghost use Rattle.sm_replay.specs.Input.{cell_given, given, member_of, store_of, IsJson, Reads};
-ghost use Rattle.sm_replay.specs.Input.{reported};
+ghost use Rattle.sm_replay.specs.Input.{declared_name, missing, cells_fault, value_fault, members_fault, input_fault, number_or_zero, elements, cell_given, given, member_of, store_of, IsJson, Reads, reported};
 ghost use Rattle.sm_replay.specs.Number.{number_of_text, json_number};
 
 use crate::error::InputError;

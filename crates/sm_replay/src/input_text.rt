@@ -11,10 +11,8 @@ ghost use Rattle.sm_syntax.specs.text.Parts.{sort_of};
 ghost use Rattle.sm_syntax.specs.trees.Programs.{declared_of};
 ghost use Rattle.sm_syntax.specs.claim.Stores as plain;
 ghost use Rattle.sm_replay.specs.Input.{declared_name, IsInput};
-ghost use Rattle.sm_replay.specs.Members.{IsInside, IsInsideAt, AreInside};
-ghost use Rattle.sm_replay.specs.Members.{Writes};
-ghost use Rattle.sm_replay.specs.InputText.{number_text, AreWrittenCells, IsWrittenAs, AreWritten};
-ghost use Rattle.sm_replay.specs.InputText.{AreNamed};
+ghost use Rattle.sm_replay.specs.Members.{IsInside, IsInsideAt, AreInside, Writes};
+ghost use Rattle.sm_replay.specs.InputText.{number_text, AreWrittenCells, IsWrittenAs, AreWritten, AreNamed};
 
 use crate::input::declared_name;
 use itoa::Buffer;

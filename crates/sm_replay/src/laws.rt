@@ -1,7 +1,5 @@
 // Laws of violations, of answers and of tasks, as contracts.
-ghost use Rattle.sm_replay.specs.Laws.{ViolationsConflict, ValidTasksRun, SpelledNamesAreFound};
-ghost use Rattle.sm_replay.specs.Laws.{VerdictIsOne, LeastTrialIsOne, FirstViolationIsOne};
-ghost use Rattle.sm_replay.specs.Laws.{ReadingIsOne, WrittenTextIsOne};
+ghost use Rattle.sm_replay.specs.Laws.{ViolationsConflict, ValidTasksRun, SpelledNamesAreFound, VerdictIsOne, LeastTrialIsOne, FirstViolationIsOne, ReadingIsOne, WrittenTextIsOne};
 
 /// An input that violates the condition is a conflict of the merge.
 pub fn violations_conflict()

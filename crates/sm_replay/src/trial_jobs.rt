@@ -1,6 +1,5 @@
 // The trials as jobs.
-ghost use Rattle.std.specs.Prelude.{◌≡◌, ◌≢◌, ◌<◌, ◌≤◌, ◌↔◌, ℕ, None, Err, IsTrue, IfNone, IfSome};
-ghost use Rattle.std.specs.Prelude.{IfOk, length, slice_index_or};
+ghost use Rattle.std.specs.Prelude.{◌≡◌, ◌≢◌, ◌<◌, ◌≤◌, ◌↔◌, ℕ, None, Err, IsTrue, IfNone, IfSome, IfOk, length, slice_index_or};
 ghost use Rattle.sm_eval.specs.StoredValues.{meaning, sorts_of};
 ghost use Rattle.sm_syntax.specs.text.Parts.{sort_of, task_of};
 ghost use Rattle.sm_syntax.specs.trees.Programs.{declared_of};

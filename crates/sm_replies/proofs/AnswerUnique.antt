@@ -1,6 +1,5 @@
 -- Two answers to the same words and told files, each without a fault, are equal.
-use Rattle.std.proofs.Common.{◌≡◌, ◌≢◌, ◌<◌, ◌∷◌, ◌++◌, inl, inr, ℕ, Bool, true, false, List, []}
-use Rattle.std.proofs.Common.{Option, Some, None, codes, refl, sym, ap, subst, ◌∙◌, arith}
+use Rattle.std.proofs.Common.{◌≡◌, ◌≢◌, ◌<◌, ◌∷◌, ◌++◌, inl, inr, ℕ, Bool, true, false, List, [], Option, Some, None, codes, refl, sym, ap, subst, ◌∙◌, arith}
 use Rattle.serde_json.specs.Data.{Members, object}
 use Rattle.serde_json.specs.Written.{compact_text}
 use Rattle.sm_io.specs.Causes.{Rose}
@@ -16,14 +15,12 @@ use Rattle.std.specs.Fmt.{signed_decimal}
 use Rattle.sm_houdini.specs.Outcomes as outcome
 use Rattle.sm_houdini.specs.Outcomes.{Outcome}
 use Rattle.sm_replies.proofs.SpelledLemmas.{outcome_one}
-use Rattle.sm_replies.specs.Check.{reach_of, AnswersCheck, IsInputText, IsNote, SaysNoted}
-use Rattle.sm_replies.specs.Check.{SaysOutcome, ShowsTrial}
+use Rattle.sm_replies.specs.Check.{reach_of, AnswersCheck, IsInputText, IsNote, SaysNoted, SaysOutcome, ShowsTrial}
 use Rattle.sm_replies.specs.Seconds.{RunsOut}
 use Rattle.sm_replies.specs.Suggest.{is_accepted, AnswersSuggest, Decides, SaysSuggestion, Suggests}
 use Rattle.sm_suggest.specs.Combinations.{choices, combination, hole_count}
 use Rattle.sm_suggest.specs.First.{IsFirst}
-use Rattle.sm_answers.specs.Lines.{goal_line, input_line, op_word, suggestion_line, too_many_line}
-use Rattle.sm_answers.specs.Lines.{trial_line}
+use Rattle.sm_answers.specs.Lines.{goal_line, input_line, op_word, suggestion_line, too_many_line, trial_line}
 use Rattle.sm_words.specs.declared.effort.Effort.{Effort}
 use Rattle.sm_answers.specs.declared.status.Status.{Status}
 use Rattle.sm_answers.specs.declared.status.Status.TheVariants.{Accepted, Conflict, Unknown}

@@ -1,16 +1,13 @@
 -- Two answers to one list of told files, each without a fault, are equal, where two to one task are.
-use Rattle.std.proofs.Common.{◌≡◌, ◌≢◌, ◌<◌, ◌⊎◌, inl, inr, ℕ, zero, suc, List, [], ◌∷◌, length}
-use Rattle.std.proofs.Common.{map, get_or, refl, sym, ap, subst, ◌∙◌, arith}
+use Rattle.std.proofs.Common.{◌≡◌, ◌≢◌, ◌<◌, ◌⊎◌, inl, inr, ℕ, zero, suc, List, [], ◌∷◌, length, map, get_or, refl, sym, ap, subst, ◌∙◌, arith}
 use Rattle.std.specs.List.{AllZip}
 use Rattle.std.specs.Prelude.{Contains}
 use Rattle.sm_io.specs.Causes.{Rose}
 use Rattle.sm_io.specs.Files.{Known, untold, absent}
 use Rattle.sm_syntax.specs.text.Parts.{Parts}
-use Rattle.sm_answers.proofs.AnswerUnique.{Same, says_same, refused_same, task_or_none, task_same}
-use Rattle.sm_answers.proofs.AnswerUnique.{not_there}
+use Rattle.sm_answers.proofs.AnswerUnique.{Same, says_same, refused_same, task_or_none, task_same, not_there}
 use Rattle.sm_answers.proofs.ListUnique.{list_same, list_or_none, no_list_same}
-use Rattle.sm_replies.specs.Batch.{Line, AnswersFile, IsLineOf, first_line, numbered, status_of_all}
-use Rattle.sm_replies.specs.Batch.{FailsToReadOne, AnswersAll, Batches}
+use Rattle.sm_replies.specs.Batch.{Line, AnswersFile, IsLineOf, first_line, numbered, status_of_all, FailsToReadOne, AnswersAll, Batches}
 use Rattle.sm_replies.specs.Check.{AnswersCheck}
 use Rattle.sm_words.specs.declared.effort.Effort.{Effort}
 use Rattle.sm_answers.specs.declared.status.Status.{Status}

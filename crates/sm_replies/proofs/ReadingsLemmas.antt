@@ -3,10 +3,10 @@ use Rattle.std.proofs.Common.{inl, ℕ, List}
 use Rattle.sm_io.specs.Files.{Known}
 use Rattle.sm_io.specs.Reads.{Read}
 use Rattle.sm_answers.specs.Exit.{ExitsWith}
+use Rattle.sm_answers.specs.declared.exit.Exit.{Exit}
 use Rattle.sm_answers.specs.File.{GivesNoTask}
 use Rattle.sm_replies.specs.Suggest.{ProposesRead}
 use Rattle.sm_words.specs.declared.effort.Effort.{Effort}
-use Rattle.sm_answers.specs.declared.exit.Exit.{Exit}
 use Rattle.sm_answers.proofs.Answering.{stops_by}
 use Rattle.sm_answers.proofs.Statuses.{without_task}
 

@@ -10,10 +10,8 @@ use Rattle.sm_replies.specs.Suggest.{AnswersSuggest, SaysSuggestion, Suggests}
 use Rattle.sm_syntax.specs.claim.Stores.{Store}
 use Rattle.sm_words.specs.declared.effort.Effort.{Effort}
 use Rattle.sm_answers.specs.declared.status.Status.{Status}
-use Rattle.sm_answers.specs.declared.status.Status.TheVariants.{Accepted, Conflict, Unknown}
-use Rattle.sm_answers.specs.declared.status.Status.TheVariants.{Refused}
-use Rattle.sm_answers.proofs.Statuses.{WritesNothing, of_accepted, of_refused, of_unknown, same_as}
-use Rattle.sm_answers.proofs.Statuses.{IsToCommand, without_task}
+use Rattle.sm_answers.specs.declared.status.Status.TheVariants.{Accepted, Conflict, Unknown, Refused}
+use Rattle.sm_answers.proofs.Statuses.{WritesNothing, of_accepted, of_refused, of_unknown, same_as, IsToCommand, without_task}
 
 -- an input that is shown is a conflict
 pub shown_status : (t : Parts) (j : ℕ) (s : Store) (v : Verdict) (status : Status) (text : List ℕ) → ShowsFrom t j s v status text

@@ -1,6 +1,5 @@
 -- What Accepted of `suggest` says: the task is free of conflicts with the combination that is put.
-use Rattle.std.proofs.Common.{◌≡◌, ◌≤◌, inl, inr, ℕ, Bool, true, false, List, Option, Some, None}
-use Rattle.std.proofs.Common.{Result, Ok, Err, IfOk, IfNone, IfSome, refl, sym, subst}
+use Rattle.std.proofs.Common.{◌≡◌, ◌≤◌, inl, inr, ℕ, Bool, true, false, List, Option, Some, None, Result, Ok, Err, IfOk, IfNone, IfSome, refl, sym, subst}
 use Rattle.std.specs.Borrow.{Bor}
 use Rattle.std.specs.Fn.{Shared}
 use Rattle.std.specs.declared.alloc.AllocError.{AllocError}
@@ -15,8 +14,7 @@ use Rattle.sm_answers.specs.Status.{Says}
 use Rattle.sm_answers.specs.declared.status.Reply.{Reply}
 use Rattle.sm_answers.specs.declared.status.Status.{Status}
 use Rattle.sm_answers.specs.declared.status.Status.TheVariants.{Accepted, Unknown}
-use Rattle.sm_replies.specs.Suggest.{AnswersSuggest, Decides, IsSafeSuggestion, SaysSuggestion}
-use Rattle.sm_replies.specs.Suggest.{Suggests}
+use Rattle.sm_replies.specs.Suggest.{AnswersSuggest, Decides, IsSafeSuggestion, SaysSuggestion, Suggests}
 use Rattle.sm_words.specs.declared.effort.Effort.{Effort}
 use Rattle.sm_answers.proofs.Statuses.{without_task}
 

@@ -1,18 +1,16 @@
 -- What `batch` answers to a list of files, each of a task: for each name in order a line with its
 -- number and the first line of what `check` answers to its file. Public clauses cite it.
-use Rattle.std.specs.Prelude.{◌≡◌, ◌≢◌, ◌⊎◌, ◌++◌, ◌==◌, ℕ, suc, Bool, if◌then◌else◌, List, [], ◌∷◌}
-use Rattle.std.specs.Prelude.{map, Contains}
+use Rattle.std.specs.Prelude.{◌≡◌, ◌≢◌, ◌⊎◌, ◌++◌, ◌==◌, ℕ, suc, Bool, if◌then◌else◌, List, [], ◌∷◌, map, Contains}
 use Rattle.std.specs.List.{AllZip, list_any}
 use Rattle.sm_io.specs.Files.{Known}
 use Rattle.sm_syntax.specs.text.Parts.{Parts}
 use Rattle.sm_answers.specs.File.{FailsToRead, GivesTask, GivesNoTask}
+use Rattle.sm_answers.specs.declared.status.Status.{Status}
+use Rattle.sm_answers.specs.declared.status.Status.TheVariants.{Accepted, Conflict, Unknown, Refused, ReadFault}
 use Rattle.sm_answers.specs.Lists.{numbered_line, GivesList, GivesNoList}
 use Rattle.sm_answers.specs.Status.{status_number, Says}
 use Rattle.sm_replies.specs.Check.{AnswersCheck}
 use Rattle.sm_words.specs.declared.effort.Effort.{Effort}
-use Rattle.sm_answers.specs.declared.status.Status.{Status}
-use Rattle.sm_answers.specs.declared.status.Status.TheVariants.{Accepted, Conflict, Unknown}
-use Rattle.sm_answers.specs.declared.status.Status.TheVariants.{Refused, ReadFault}
 
 -- the first line of a text, without its end
 abbrev pub first_line : List ℕ → List ℕ

@@ -1,6 +1,5 @@
 -- What is known of a batch on its way. No public clause cites it.
-use Rattle.std.specs.Prelude.{◌≡◌, ◌≢◌, ◌↔◌, ◌==◌, ℕ, true, if◌then◌else◌, List, [], ◌∷◌, Option}
-use Rattle.std.specs.Prelude.{Some, None, IfSome, IsSome, map, Vec, ◌++◌}
+use Rattle.std.specs.Prelude.{◌≡◌, ◌≢◌, ◌↔◌, ◌==◌, ℕ, true, if◌then◌else◌, List, [], ◌∷◌, Option, Some, None, IfSome, IsSome, map, Vec, ◌++◌}
 use Rattle.std.specs.List.{AllZip}
 use Rattle.std.specs.declared.alloc.Global.{Global}
 use Rattle.sm_batch.specs.declared.worker.Answered.{Answered}
@@ -10,10 +9,12 @@ use Rattle.sm_io.specs.Files.{Known}
 use Rattle.sm_io.specs.Reads.{Read}
 use Rattle.sm_syntax.specs.text.Parts.{Parts}
 use Rattle.sm_syntax.specs.text.Spells.{Spells}
-use Rattle.sm_text.specs.declared.task.Task.{Task}
 use Rattle.sm_text.specs.printing.Named.{HasText}
 use Rattle.sm_text.specs.Tasks.{parts_of}
+use Rattle.sm_text.specs.declared.task.Task.{Task}
 use Rattle.sm_answers.specs.File.{GivesTask, GivesNoTask}
+use Rattle.sm_answers.specs.declared.status.Status.{Status}
+use Rattle.sm_answers.specs.declared.status.Status.TheVariants.{Accepted, Conflict, Unknown, Refused, ReadFault}
 use Rattle.sm_replies.specs.Batch.{Line, IsLineOf, first_line}
 use Rattle.sm_replies.specs.Check.{reach_of, AnswersCheck}
 use Rattle.sm_answers.specs.Merges.{IsSafeMerge}
@@ -21,9 +22,6 @@ use Rattle.sm_answers.specs.ReadFiles.{ReadsAmong}
 use Rattle.sm_replies.specs.Taken.{is_taken}
 use Rattle.sm_words.specs.declared.effort.Effort.{Effort}
 use Rattle.sm_answers.specs.declared.status.Reply.{Reply}
-use Rattle.sm_answers.specs.declared.status.Status.{Status}
-use Rattle.sm_answers.specs.declared.status.Status.TheVariants.{Accepted, Conflict, Unknown}
-use Rattle.sm_answers.specs.declared.status.Status.TheVariants.{Refused, ReadFault}
 
 -- the effort with one worker
 abbrev pub alone : Effort → Effort

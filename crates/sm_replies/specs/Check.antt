@@ -9,15 +9,14 @@ use Rattle.sm_houdini.specs.Outcomes as outcome
 use Rattle.sm_houdini.specs.Outcomes.{Outcome, IsOutcome}
 use Rattle.sm_replay.specs.Input.{IsInput}
 use Rattle.sm_replay.specs.Trials.{trial, SomeTrialMeets}
-use Rattle.sm_replay.specs.InputText.{AreWritten}
 use Rattle.sm_replay.specs.declared.verdict.Verdict.{Verdict}
+use Rattle.sm_replay.specs.InputText.{AreWritten}
 use Rattle.sm_replay.specs.declared.verdict.Verdict.TheVariants as verdict
 use Rattle.sm_solve.specs.declared.reach.Reach.{Reach}
 use Rattle.sm_syntax.specs.claim.ConflictFree.{ConflictFree}
 use Rattle.sm_syntax.specs.claim.Stores.{Store}
 use Rattle.sm_syntax.specs.text.Parts.{Parts, sort_of, task_of}
-use Rattle.sm_answers.specs.Lines.{goal_line, input_line, op_word, too_many_line, trial_line}
-use Rattle.sm_answers.specs.Lines.{unmet_line}
+use Rattle.sm_answers.specs.Lines.{goal_line, input_line, op_word, too_many_line, trial_line, unmet_line}
 use Rattle.sm_answers.specs.Status.{Says}
 use Rattle.sm_words.specs.declared.effort.Effort.{Effort}
 use Rattle.sm_answers.specs.declared.status.Status.{Status}

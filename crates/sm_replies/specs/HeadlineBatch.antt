@@ -1,7 +1,6 @@
 -- What a line `I Accepted` of `batch` says: of files that are told, and of the bytes that were read.
 -- The public clauses `batched` and `batched_read` of `safemerge` cite it.
-use Rattle.std.specs.Prelude.{◌≡◌, ◌<◌, ◌++◌, ℕ, suc, Some, List, slice_get, codes, decimal}
-use Rattle.std.specs.Prelude.{Contains}
+use Rattle.std.specs.Prelude.{◌≡◌, ◌<◌, ◌++◌, ℕ, suc, Some, List, slice_get, codes, decimal, Contains}
 use Rattle.sm_io.specs.Files.{Known, WhereHeld}
 use Rattle.sm_io.specs.Reads.{Read, ReadsWhole}
 use Rattle.sm_proof.specs.Verdicts.{lines_in}

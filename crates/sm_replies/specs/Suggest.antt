@@ -1,13 +1,9 @@
 -- What is answered by what the reads of a command gave, of told files and of others. Only private
 -- clauses cite it; `HeadlineRead` says what follows of Accepted and Conflict.
-use Rattle.std.specs.Prelude.{◌≢◌, ◌⊎◌, ℕ, List, Option, Some, None, ◌≡◌, ◌<◌, ◌≤◌, Bool, true}
-use Rattle.std.specs.Prelude.{false}
+use Rattle.std.specs.Prelude.{◌≢◌, ◌⊎◌, ℕ, List, Option, Some, None, ◌≡◌, ◌<◌, ◌≤◌, Bool, true, false}
 use Rattle.sm_io.specs.Reads.{Read}
 use Rattle.sm_syntax.specs.text.Parts.{Parts, task_of}
 use Rattle.sm_words.specs.declared.effort.Effort.{Effort}
-use Rattle.sm_answers.specs.declared.status.Status.{Status}
-use Rattle.sm_answers.specs.declared.status.Status.TheVariants.{Accepted, Conflict, Refused}
-use Rattle.sm_answers.specs.declared.status.Status.TheVariants.{Unknown}
 use Rattle.sm_answers.specs.Readings.{ReadsTask}
 use Rattle.sm_houdini.specs.Outcomes as outcome
 use Rattle.sm_houdini.specs.Outcomes.{Outcome, IsOutcome}
@@ -18,6 +14,8 @@ use Rattle.sm_suggest.specs.First.{AllRefused, IsFirst}
 use Rattle.sm_syntax.specs.claim.ConflictFree.{ConflictFree}
 use Rattle.sm_syntax.specs.text.Spells.{Spells}
 use Rattle.sm_answers.specs.File.{GivesNoTask, GivesTask}
+use Rattle.sm_answers.specs.declared.status.Status.{Status}
+use Rattle.sm_answers.specs.declared.status.Status.TheVariants.{Accepted, Conflict, Refused, Unknown}
 use Rattle.sm_answers.specs.Lines.{many_holes_line, none_line, suggestion_line}
 use Rattle.sm_answers.specs.Status.{Says}
 use Rattle.sm_replies.specs.Check.{reach_of}

@@ -2,8 +2,7 @@
 ghost use Rattle.std.specs.Prelude.{◌≡◌, IfOk};
 ghost use Rattle.sm_answers.specs.Status.{Says};
 ghost use Rattle.sm_replies.specs.Batch.{first_line, has_status, numbered, status_of_all};
-ghost use Rattle.sm_replies.specs.BatchSteps.{line_in, lines_of, next_line, statuses, texts};
-ghost use Rattle.sm_replies.specs.BatchSteps.{told, told_status};
+ghost use Rattle.sm_replies.specs.BatchSteps.{line_in, lines_of, next_line, statuses, texts, told, told_status};
 
 use sm_answers::{Reply, Status, put_numbered};
 use std::alloc::{AllocError, Global};

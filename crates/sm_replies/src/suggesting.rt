@@ -9,8 +9,7 @@ ghost use Rattle.sm_text.specs.printing.Named.{HasText};
 ghost use Rattle.sm_answers.specs.Exit.{ExitsWith};
 ghost use Rattle.sm_answers.specs.Lines.{many_holes_line, none_line, suggestion_line};
 ghost use Rattle.sm_answers.specs.Status.{Says};
-ghost use Rattle.sm_replies.specs.Suggest.{ProposesRead};
-ghost use Rattle.sm_replies.specs.Suggest.{is_accepted, AnswersSuggest, Decides, Suggests};
+ghost use Rattle.sm_replies.specs.Suggest.{ProposesRead, is_accepted, AnswersSuggest, Decides, Suggests};
 ghost use Rattle.sm_words.specs.Views.{HasWorkers};
 
 use crate::limit::{Limited, time_over};

@@ -5,8 +5,7 @@ ghost use Rattle.sm_theory.specs.Facts.{BranchFact};
 ghost use Rattle.sm_theory.specs.Elements.{element_adds};
 ghost use Rattle.sm_theory.specs.SortedFacts.{AreFactsSorted};
 ghost use Rattle.sm_theory.specs.Views.{line_in, IsLineWithin, AllStand, StandsIf};
-ghost use Rattle.sm_theory.proofs.ElementsLemmas.{arrays_hold, arrays_sorted};
-ghost use Rattle.sm_theory.proofs.ElementsLemmas.{arrays_below, arrays_anywhere};
+ghost use Rattle.sm_theory.proofs.ElementsLemmas.{arrays_hold, arrays_sorted, arrays_below, arrays_anywhere};
 
 use crate::reads::{hit, missed};
 use sm_term::TermTable;

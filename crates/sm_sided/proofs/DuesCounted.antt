@@ -3,13 +3,13 @@ use Rattle.std.proofs.Common.{◌≡◌, Some, None, Ok, List, [], ◌∷◌, le
 use Rattle.std.proofs.lemmas.List.{length-map}
 use Rattle.sm_syntax.specs.text.Sorts.{Sorts}
 use Rattle.sm_term.specs.Terms.{Tree}
-use Rattle.sm_term.specs.declared.formula.Formula.{Formula}
 use Rattle.sm_term.specs.Formulas.{numbered, assertion_in}
+use Rattle.sm_term.specs.declared.formula.Formula.{Formula}
 use Rattle.sm_plan.specs.Plans as plain
 use Rattle.sm_plan.specs.Plans.{Fault}
 use Rattle.std.specs.Prelude.{Result}
-use Rattle.sm_expand.specs.declared.due.Due.{Due}
 use Rattle.sm_expand.specs.Views.{dues_in}
+use Rattle.sm_expand.specs.declared.due.Due.{Due}
 use Rattle.sm_sided.specs.WholePlan.{facts_before}
 
 -- there is one

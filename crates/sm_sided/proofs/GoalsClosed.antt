@@ -1,12 +1,11 @@
 -- Where the candidate has the only change, the certificates of an output's goals close their branches.
-use Rattle.std.proofs.Common.{◌≡◌, ℕ, suc, ◌+◌, Bool, true, Option, Some, None, slice_get}
-use Rattle.std.proofs.Common.{List, [], ◌∷◌, ◌++◌, map, length, refl, ap, sym, ◌∙◌, arith}
+use Rattle.std.proofs.Common.{◌≡◌, ℕ, suc, ◌+◌, Bool, true, Option, Some, None, slice_get, List, [], ◌∷◌, ◌++◌, map, length, refl, ap, sym, ◌∙◌, arith}
 use Rattle.std.proofs.lemmas.Bool.{and_from}
 use Rattle.std.proofs.lemmas.List.{append_assoc, length-map}
-use Rattle.sm_syntax.specs.declared.tree.Sort.{Sort}
-use Rattle.sm_syntax.specs.declared.tree.Sort.TheVariants.{Num}
 use Rattle.sm_syntax.specs.claim.ConflictFree.{Copy, O, A, B, M}
 use Rattle.sm_syntax.specs.text.Sorts.{Sorts}
+use Rattle.sm_syntax.specs.declared.tree.Sort.{Sort}
+use Rattle.sm_syntax.specs.declared.tree.Sort.TheVariants.{Num}
 use Rattle.sm_term.specs.Terms.{Tree}
 use Rattle.sm_term.specs.SameTerms.{same_tree}
 use Rattle.sm_term.specs.Assertions.{Assertion, Eq, Ne, And}
@@ -18,10 +17,8 @@ use Rattle.sm_theory.specs.Equality.{or_other, turned_equation, turned_contrary,
 use Rattle.sm_theory.specs.Ways.{adds, adding, both_parts, closing_if, cannot_hold}
 use Rattle.sm_cert.specs.Certificates.{Certificate, Next, Closed, Theories, first_bad, bad_line, in_one_way, in_no_way, Closes}
 use Rattle.sm_plan.specs.States.{keeps_goals}
-use Rattle.sm_sided.specs.declared.sided.Change.{Change}
-use Rattle.sm_sided.specs.declared.sided.Change.TheVariants.{OfA, OfB, OfBoth}
 use Rattle.sm_sided.specs.OneSided.{IsOnly}
-use Rattle.sm_sided.specs.WholeCertificates.{by_first, by_second, by_clash, by_turned, certificates_of}
+use Rattle.sm_sided.specs.WholeCertificates.{by_first, by_second, by_clash, by_turned, certificates_of, Change, OfA, OfB, OfBoth}
 use Rattle.sm_sided.specs.WholePlan.{denied, AreClosed}
 
 -- what stands behind other facts

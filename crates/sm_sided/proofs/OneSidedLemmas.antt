@@ -1,22 +1,12 @@
 -- The test of one-sided programs is exact.
-use Rattle.std.proofs.Common.{◌≡◌, ◌⊎◌, ◌↔◌, Bool, true, false, ◌&&◌, ◌||◌, IsTrue, Option, Some, None, is_some, MatchOption}
-use Rattle.std.proofs.Common.{inl, inr, refl, sym}
-use Rattle.std.proofs.lemmas.Bool.{and_parts, and_from, or_cases, cases_Bool}
+use Rattle.std.proofs.Common.{◌≡◌, ◌⊎◌, ◌↔◌, Bool, true, false, ◌&&◌, ◌||◌, IsTrue, Option, Some, None, is_some, MatchOption, inl, inr, refl, sym}
+use Rattle.std.proofs.lemmas.Bool.{and_parts, and_from, or_cases, cases_Bool, or_right, or_left}
 use Rattle.sm_syntax.specs.claim.Syntax.{Code}
 use Rattle.sm_syntax.specs.claim.ConflictFree.{Copy, O, A, B, M}
 use Rattle.sm_term.specs.SameCodeLaws.{code_gives, same_code_is}
 use Rattle.sm_sided.specs.declared.sided.Change.{Change}
 use Rattle.sm_sided.specs.declared.sided.Change.TheVariants.{OfA, OfB, OfBoth}
 use Rattle.sm_sided.specs.OneSided.{IsOnly, IsOneSided, agree, is_one_sided}
-
--- one of two tests
-or_left : (b c : Bool) → b ≡ true → (b || c) ≡ true
-or_left true c e = refl
-or_left false c e = absurd cc
-
-or_right : (b c : Bool) → c ≡ true → (b || c) ≡ true
-or_right true c e = refl
-or_right false c e = e
 
 -- two pairs of copies agree
 both_agree : (program : Copy → Code) (c d e f : Copy) → (agree program c d && agree program e f) ≡ true

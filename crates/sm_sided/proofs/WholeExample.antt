@@ -10,8 +10,7 @@ use Rattle.sm_deps.specs.Inputs.{inputs}
 use Rattle.sm_plan.specs.Limits.{is_shallow}
 use Rattle.sm_plan.specs.Nodes.{Abs, Ends}
 use Rattle.sm_plan.specs.Plans.{At, Over, More, Due, Fault, obligations}
-use Rattle.sm_sided.specs.declared.sided.Change.TheVariants.{OfA}
-use Rattle.sm_sided.specs.WholeCertificates.{whole_certificates}
+use Rattle.sm_sided.specs.WholeCertificates.{whole_certificates, OfA}
 use Rattle.sm_sided.specs.WholePlan.{whole_plan, IsShown}
 
 -- x = 5; while (0 < x) { x = x - 1; }

@@ -1,6 +1,5 @@
 -- The whole plan expands: after each copy's summary all copies are at their ends.
-use Rattle.std.proofs.Common.{◌≡◌, ◌⊎◌, ℕ, suc, ◌==◌, nat_le, Bool, true, false, if◌then◌else◌, max}
-use Rattle.std.proofs.Common.{Result, Ok, Err, List, [], ◌∷◌, length, inl, inr, refl, ap, sym, ◌∙◌, arith}
+use Rattle.std.proofs.Common.{◌≡◌, ◌⊎◌, ℕ, suc, ◌==◌, nat_le, Bool, true, false, if◌then◌else◌, max, Result, Ok, Err, List, [], ◌∷◌, length, inl, inr, refl, ap, sym, ◌∙◌, arith}
 use Rattle.std.proofs.lemmas.Bool.{cases_Bool, le-leb}
 use Rattle.std.proofs.lemmas.List.{append-nil}
 use Rattle.sm_syntax.specs.claim.Syntax.{Code, End, Skip, Assign, Write, If, While, Hole}
@@ -12,13 +11,15 @@ use Rattle.sm_term.specs.Slots.{all_at_stores}
 use Rattle.sm_term.proofs.SameTermsLemmas.{is_copy_is}
 use Rattle.sm_plan.specs.Copies.{with_copy}
 use Rattle.sm_plan.specs.Nodes as node
-use Rattle.sm_plan.specs.Nodes.{opened_by, follows, asks, where_true}
+use Rattle.sm_plan.specs.Nodes.{follows, asks, where_true}
 use Rattle.sm_plan.specs.Plans.{Plan, At, Over, More, branches, Due, Fault, Wrong, due, joined, opened, expand, expand_all}
 use Rattle.sm_plan.specs.Statements.{is_over, is_long, front, rest_after}
 use Rattle.sm_plan.specs.States.{State}
 use Rattle.sm_plan.specs.Successors.{summarized, summary_state}
 use Rattle.sm_moves.specs.CodeShapes.{own_statements}
 use Rattle.sm_sided.specs.WholePlan.{summary_before, whole_plan}
+use Rattle.sm_plan.proofs.StatementsLemmas.{over_is}
+use Rattle.sm_syntax.proofs.EachCopy.{each_copy}
 
 -- code has as many statements as it has
 long_all : (c : Code) → is_long (own_statements c) c ≡ true
@@ -59,16 +60,6 @@ some_there (Write a i d k) e = le-leb 1 (suc (own_statements k)) (omega arith)
 some_there (If b c d k) e = le-leb 1 (suc (own_statements k)) (omega arith)
 some_there (While b c k) e = le-leb 1 (suc (own_statements k)) (omega arith)
 some_there (Hole h k) e = le-leb 1 (suc (own_statements k)) (omega arith)
-
--- code that is over is none
-over_is : (c : Code) → is_over c ≡ true → c ≡ End
-over_is End e = refl
-over_is (Skip k) e = absurd cc
-over_is (Assign x d k) e = absurd cc
-over_is (Write a i d k) e = absurd cc
-over_is (If b c d k) e = absurd cc
-over_is (While b c k) e = absurd cc
-over_is (Hole h k) e = absurd cc
 
 -- a copy has done its program
 pub record HasDone (program : Copy → Code) (c : Copy) (st next : State) : Type 0 where
@@ -179,13 +170,6 @@ pub record ReachesEnds (program : Copy → Code) (k : ℕ) (st : State) : Type 0
   pub last : State
   pub expands : expand k st (whole_plan program) ≡ expand number last (At node.Ends Over)
   pub ends : IsAtEnds program st last
-
--- what is so of each of the four
-each_copy : (P : Copy → Type 0) → P O → P A → P B → P M → (c : Copy) → P c
-each_copy P o a b m O = o
-each_copy P o a b m A = a
-each_copy P o a b m B = b
-each_copy P o a b m M = m
 
 -- it ends there
 pub whole_reaches : (program : Copy → Code) (k : ℕ) (st : State) → ((c : Copy) → st.rest c ≡ program c) →

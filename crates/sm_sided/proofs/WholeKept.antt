@@ -10,9 +10,7 @@ use Rattle.sm_plan.specs.Nodes.{Node}
 use Rattle.sm_plan.specs.Plans.{Plan, At, Over, More, nodes_of}
 use Rattle.sm_plan.specs.Statements.{is_over}
 use Rattle.sm_moves.specs.CodeShapes.{own_statements}
-use Rattle.sm_sided.specs.declared.sided.Change.{Change}
-use Rattle.sm_sided.specs.declared.sided.Change.TheVariants.{OfA, OfB, OfBoth}
-use Rattle.sm_sided.specs.WholeCertificates.{certificates_of, whole_certificates, NamesNoTerm}
+use Rattle.sm_sided.specs.WholeCertificates.{certificates_of, whole_certificates, NamesNoTerm, Change, OfA, OfB, OfBoth}
 use Rattle.sm_sided.specs.WholePlan.{summary_before, whole_plan, KeepsNone}
 
 -- a summary keeps none

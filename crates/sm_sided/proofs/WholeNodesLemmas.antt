@@ -1,27 +1,28 @@
 -- The nodes of the whole plan, as the program puts them together.
 use Rattle.std.proofs.Common.{◌≡◌, ℕ, suc, ◌-◌, ◌<◌, Bool, true, false, if◌then◌else◌, List, [], ◌∷◌, ◌++◌, map, length, refl, ap, sym, ◌∙◌, arith}
-use Rattle.sm_syntax.specs.declared.tree.Block.{Block}
-use Rattle.sm_syntax.specs.declared.tree.Stmt.{Stmt, Stmt-F}
 use Rattle.sm_syntax.specs.declared.tree.Stmt.TheOpen as layer
 use Rattle.sm_syntax.specs.claim.Syntax.{Code, End}
 use Rattle.sm_syntax.specs.claim.ConflictFree.{Copy, O, A, B, M}
 use Rattle.sm_syntax.specs.text.Sorts.{Sorts}
 use Rattle.sm_syntax.specs.trees.Views.{statement_of, statement_layer, sequence, code_of}
+use Rattle.sm_syntax.specs.declared.tree.Stmt.{Stmt, Stmt-F}
+use Rattle.sm_syntax.specs.declared.tree.Block.{Block}
 use Rattle.sm_syntax.proofs.Blocks.{block_is, statement_layer_is}
 use Rattle.sm_term.specs.Terms.{Tree}
 use Rattle.sm_plan.specs.Nodes as node
 use Rattle.sm_plan.specs.Plans as plain
 use Rattle.sm_plan.specs.Statements.{is_over}
 use Rattle.sm_expand.specs.declared.plan.Last.TheVariants as last
-use Rattle.sm_expand.specs.declared.plan.Plan.{Plan}
-use Rattle.sm_expand.specs.declared.plan.Simple.{Simple}
 use Rattle.sm_expand.specs.declared.plan.Simple.TheVariants as simple
 use Rattle.sm_expand.specs.NumberedPlans.{NumberedPlan, At, Over, More, Ends, plan_over}
 use Rattle.sm_expand.specs.Views.{simple_node, straight_before, numbered_last, plan_in}
+use Rattle.sm_expand.specs.declared.plan.Plan.{Plan}
+use Rattle.sm_expand.specs.declared.plan.Simple.{Simple}
 use Rattle.sm_expand.proofs.PlanViews.{plan_is, last_end}
 use Rattle.sm_moves.specs.CodeShapes.{own_statements}
 use Rattle.sm_sided.specs.WholePlan.{summary_before, whole_plan}
 use Rattle.sm_sided.specs.WholeNodes.{summary_nodes}
+use Rattle.sm_moves.proofs.PiecesLemmas.{own-block}
 
 -- one statement more
 one_more : (s : Stmt) (k : Code) → (own_statements (statement_of s k) ≡ suc (own_statements k)) × (is_over (statement_of s k) ≡ false)
@@ -41,10 +42,6 @@ one_more s k =
 listed : (ss : List Stmt) → own_statements (sequence (map statement_of ss) End) ≡ length ss
 listed [] = refl
 listed (s ∷ ss) = (one_more s (sequence (map statement_of ss) End)).0 ∙ ap suc (listed ss)
-
--- code has as many statements as its block
-pub block_statements : (b : Block) → own_statements (code_of b) ≡ length b.list.items
-block_statements b = ap own_statements (block_is b) ∙ listed b.list.items
 
 -- one with statements isn't
 pub filled_goes_on : (b : Block) (n : ℕ) → length b.list.items ≡ suc n → is_over (code_of b) ≡ false
@@ -120,6 +117,6 @@ put_together w x y z none one two three four a b c d e =
 pub node_of : (b : Block) (copy count : ℕ) → count ≡ length b.list.items → 0 < count →
     simple.Abs copy count ∷ [] ≡ summary_nodes copy (code_of b)
 node_of b copy count e some =
-    ap (λ (n : ℕ). simple.Abs copy n ∷ []) (e ∙ sym (block_statements b))
+    ap (λ (n : ℕ). simple.Abs copy n ∷ []) (e ∙ sym (own-block b))
     ∙ sym (ap (λ (over : Bool). if over then [] else simple.Abs copy (own_statements (code_of b)) ∷ [])
     (filled_goes_on b (count - 1) (omega arith)))

@@ -3,11 +3,11 @@ use Rattle.std.proofs.Common.{◌≡◌, ◌⊎◌, ℕ, nat_lt, false, Ok, List
 use Rattle.std.specs.List.{flat_map}
 use Rattle.std.specs.Prelude.{Option}
 use Rattle.std.proofs.lemmas.List.{append-nil}
-use Rattle.sm_syntax.specs.declared.tree.Sort.{Sort}
-use Rattle.sm_syntax.specs.declared.tree.Sort.TheVariants.{Num, Arr}
 use Rattle.sm_syntax.specs.claim.Syntax.{Code, Condition}
 use Rattle.sm_syntax.specs.claim.ConflictFree.{Copy, O, A, B, M, Task}
 use Rattle.sm_syntax.specs.text.Sorts.{Sorts}
+use Rattle.sm_syntax.specs.declared.tree.Sort.{Sort}
+use Rattle.sm_syntax.specs.declared.tree.Sort.TheVariants.{Num, Arr}
 use Rattle.sm_term.specs.Terms.{Tree, Read, Cell}
 use Rattle.sm_term.specs.Assertions.{Assertion}
 use Rattle.sm_term.specs.Slots.{fill_term, all_at_stores}
@@ -20,10 +20,8 @@ use Rattle.sm_plan.specs.States.{State, place, keeps_goals, start_store, start_o
 use Rattle.sm_plan.specs.Successors.{summarized}
 use Rattle.sm_expand.specs.Tasks.{HasParts}
 use Rattle.sm_expand.proofs.WholeLemmas.{not_deep, start_is}
-use Rattle.sm_sided.specs.declared.sided.Change.{Change}
-use Rattle.sm_sided.specs.declared.sided.Change.TheVariants.{OfA, OfB, OfBoth}
 use Rattle.sm_sided.specs.OneSided.{IsOnly}
-use Rattle.sm_sided.specs.WholeCertificates.{whole_certificates}
+use Rattle.sm_sided.specs.WholeCertificates.{whole_certificates, Change, OfA, OfB, OfBoth}
 use Rattle.sm_sided.specs.WholePlan.{whole_plan, denied, denied_goals, facts_before, AreClosed, IsShown}
 use Rattle.sm_sided.proofs.GoalsClosed.{output_closed}
 use Rattle.sm_sided.proofs.WholeExpands.{ReachesEnds, whole_reaches, ends_expand, whole_straight}

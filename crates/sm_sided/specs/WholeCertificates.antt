@@ -7,8 +7,8 @@ use Rattle.sm_term.specs.Terms.{Tree}
 use Rattle.sm_theory.specs.Lines.{Both, Sym, Close, Clash}
 use Rattle.sm_cert.specs.Certificates.{Certificate, Next, Closed}
 use Rattle.sm_cert.specs.NamedTerms.{EachTerm}
-use Rattle.sm_sided.specs.declared.sided.Change.{Change}
-use Rattle.sm_sided.specs.declared.sided.Change.TheVariants.{OfA, OfB, OfBoth}
+pub use Rattle.sm_sided.specs.declared.sided.Change.{Change}
+pub use Rattle.sm_sided.specs.declared.sided.Change.TheVariants.{OfA, OfB, OfBoth}
 
 -- the first part can't be
 abbrev pub by_first : ℕ → Certificate

@@ -1,6 +1,5 @@
 // The plan of one-sided programs, with its certificates.
-ghost use Rattle.std.specs.Prelude.{◌≡◌, ◌+◌, ◌<◌, ◌^◌, ◌++◌, List, map, length};
-ghost use Rattle.std.specs.Prelude.{option_map, true, Ok, IfOk, IfSome, OnOk, OnErr};
+ghost use Rattle.std.specs.Prelude.{◌≡◌, ◌+◌, ◌<◌, ◌^◌, ◌++◌, List, map, length, option_map, true, Ok, IfOk, IfSome, OnOk, OnErr};
 ghost use Rattle.std.specs.List.{AllByRecursion};
 ghost use Rattle.sm_syntax.specs.claim.ConflictFree.{Copy, Task};
 ghost use Rattle.sm_syntax.specs.text.Parts.{sort_of, sorted_outputs};
@@ -20,8 +19,7 @@ ghost use Rattle.sm_expand.specs.NumberedPlans.{IsPlanReady};
 ghost use Rattle.sm_expand.specs.Tasks.{HasParts};
 ghost use Rattle.sm_expand.specs.Views.{numbered_plan, plan_in, dues_in};
 ghost use Rattle.sm_sided.specs.OneSided.{IsOneSided};
-ghost use Rattle.sm_sided.specs.WholeCertificates.{certificates_of};
-ghost use Rattle.sm_sided.specs.WholeCertificates.{whole_certificates, AreWhole, NamesNoTerm};
+ghost use Rattle.sm_sided.specs.WholeCertificates.{certificates_of, whole_certificates, AreWhole, NamesNoTerm};
 ghost use Rattle.sm_sided.specs.WholeNodes.{summary_nodes};
 ghost use Rattle.sm_sided.specs.WholePlan.{whole_plan, facts_before, IsShown, KeepsNone};
 

@@ -1,6 +1,5 @@
 -- The formula that a site keeps: the conjunction of the templates that are chosen, by halves.
-use Rattle.std.proofs.Common.{◌≡◌, ℕ, zero, suc, ◌+◌, ◌-◌, ◌/◌, ◌≤◌, ◌<◌, Option, Some, List, [], ◌∷◌, ◌++◌, take, drop, length}
-use Rattle.std.proofs.Common.{slice_get, get_or, map, refl, ap, sym, ◌∙◌, subst, arith, append-nil}
+use Rattle.std.proofs.Common.{◌≡◌, ℕ, zero, suc, ◌+◌, ◌-◌, ◌/◌, ◌≤◌, ◌<◌, Option, Some, List, [], ◌∷◌, ◌++◌, take, drop, length, slice_get, get_or, map, refl, ap, sym, ◌∙◌, subst, arith, append-nil}
 use Rattle.std.specs.Prelude.{option_to_list, unwrap_or, Vec}
 use Rattle.std.specs.declared.alloc.Global.{Global}
 use Rattle.std.proofs.lemmas.List.{append_assoc, length-take, length-drop, take-map, drop-map, take_more, map-append}
@@ -8,8 +7,8 @@ use Rattle.std.proofs.lemmas.Option.{slice_get-get_or, slice_get_past}
 use Rattle.sm_syntax.specs.text.Sorts.{Sorts}
 use Rattle.sm_term.specs.Assertions.{Assertion, And}
 use Rattle.sm_term.specs.Terms.{Tree}
-use Rattle.sm_term.specs.declared.formula.Formula.{Formula}
 use Rattle.sm_term.specs.Formulas.{numbered, assertion_in}
+use Rattle.sm_term.specs.declared.formula.Formula.{Formula}
 use Rattle.sm_plan.specs.ReadyStates.{AreFormsReady}
 use Rattle.sm_plan.specs.Views.{forms_in}
 use Rattle.sm_expand.proofs.FormsLemmas.{ready_append, ready_front}
@@ -17,9 +16,7 @@ use Rattle.sm_sketch.specs.declared.kept.TemplateChoice.{TemplateChoice}
 use Rattle.sm_sketch.specs.Choices.{picked, halved, conjoined, kept_by}
 use Rattle.sm_sketch.specs.ChoiceViews.{choice_in, pointed, picked_forms}
 use denote.Bor.{Bor}
-
-half_less : (n m : ℕ) → suc (suc n) ≤ suc m → (suc (suc n) / 2 ≤ m) × (suc (suc n) - suc (suc n) / 2 ≤ m)
-half_less n m h = (omega arith, omega arith)
+use Rattle.sm_lemmas.proofs.Numbers.{half_less}
 
 -- how many formulas there may be doesn't matter where it is enough
 halved_same : (n m : ℕ) (fs : List Assertion) → length fs ≤ n → length fs ≤ m → halved n fs ≡ halved m fs

@@ -1,13 +1,11 @@
 -- What is too large stays so with nodes before it; and the nodes of a set, one copy after the other.
-use Rattle.std.proofs.Common.{◌≡◌, Result, Err, IfErr, ℕ, suc, ◌+◌, ◌≤◌, inl, inr, max, Bool, true, false, if◌then◌else◌, refl, sym, ap}
-use Rattle.std.proofs.Common.{◌∙◌, subst, arith}
+use Rattle.std.proofs.Common.{◌≡◌, Result, Err, IfErr, ℕ, suc, ◌+◌, ◌≤◌, inl, inr, max, Bool, true, false, if◌then◌else◌, refl, sym, ap, ◌∙◌, subst, arith}
 use Rattle.sm_syntax.specs.claim.ConflictFree.{Copy, O, A, B, M}
 use Rattle.sm_plan.specs.Copies.{Copies, has}
 use Rattle.sm_plan.specs.Nodes.{Node, is_branching}
 use Rattle.sm_moves.specs.CopySets.{members}
-use Rattle.sm_sketch.specs.declared.error.ProductError.{ProductError}
 use Rattle.sm_sketch.specs.declared.error.ProductError.TheVariants as error
-use Rattle.sm_sketch.specs.Errors.{TellsSketch}
+use Rattle.sm_sketch.specs.Errors.{TellsSketch, ProductError}
 use Rattle.sm_sketch.specs.Extents.{TellsExtent, drawn_where}
 use Rattle.sm_sketch.specs.Sketches.{Sketch, then_draw, each_of}
 use Rattle.sm_sketch.specs.SketchSizes.{sketch_size, sketch_depth, IsTooLarge}

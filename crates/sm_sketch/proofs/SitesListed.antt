@@ -1,8 +1,7 @@
 -- The templates of a sketch's sites, by how it ends.
-use Rattle.std.proofs.Common.{◌≡◌, ℕ, zero, suc, ◌+◌, ◌<◌, ◌≤◌, Result, Ok, Err, List, [], ◌∷◌, ◌++◌, map, take, length, get_or}
-use Rattle.std.proofs.Common.{append-nil, append_assoc, refl, sym, ap, ◌∙◌, subst, arith}
+use Rattle.std.proofs.Common.{◌≡◌, ℕ, zero, suc, ◌+◌, ◌<◌, ◌≤◌, List, [], ◌∷◌, ◌++◌, map, take, length, get_or, append-nil, append_assoc, refl, sym, ap, ◌∙◌, subst, arith}
 use Rattle.std.proofs.lemmas.List.{length-map, map-append, take_more, take_all}
-use Rattle.std.specs.Prelude.{Box, OnOk}
+use Rattle.std.specs.Prelude.{Box}
 use Rattle.std.specs.declared.alloc.Global.{Global}
 use Rattle.std.specs.declared.rc.Rc.{Rc}
 use Rattle.sm_syntax.specs.text.Sorts.{Sorts}
@@ -12,17 +11,14 @@ use Rattle.sm_term.specs.Terms.{Tree}
 use Rattle.sm_plan.specs.declared.state.Formulas.{Formulas}
 use Rattle.sm_plan.specs.ReadyStates.{AreFormsReady}
 use Rattle.sm_plan.specs.Views.{forms_in}
-use Rattle.sm_expand.specs.declared.plan.Simple.{Simple}
 use Rattle.sm_expand.specs.Views.{simple_node}
-use Rattle.sm_sketch.specs.declared.sketch.Sketch.{Sketch}
+use Rattle.sm_expand.specs.declared.plan.Simple.{Simple}
 use Rattle.sm_sketch.specs.declared.sketch.SketchEnd.TheVariants as last
 use Rattle.sm_sketch.specs.declared.sketch.Sketches.{Sketches, out-Sketches}
-use Rattle.sm_sketch.specs.NumberedSketches.{NumberedSite, Plain, LoopSite, BlockSite, NumberedSketch, Draw, NumberedSketches, Over, More}
-use Rattle.sm_sketch.specs.NumberedSketches.{site_over, sketch_over, sketches_over, sketches_before}
-use Rattle.sm_sketch.specs.NumberedSketches.{IsSiteReady, AreNodesReady, AreBelowReady}
+use Rattle.sm_sketch.specs.NumberedSketches.{NumberedSite, Plain, LoopSite, BlockSite, NumberedSketch, Draw, NumberedSketches, Over, More, site_over, sketch_over, sketches_over, sketches_before, IsSiteReady, AreNodesReady, AreBelowReady}
 use Rattle.sm_sketch.specs.Sketches.{site_at, sites_of, sites_below}
 use Rattle.sm_sketch.specs.SketchSites.{forms_at, forms_of, forms_below, forms_of_all, shared_forms, AreListsReady}
-use Rattle.sm_sketch.specs.SketchViews.{stacked, numbered_sketch, numbered_end, numbered_sketches, sketch_in, IsSketchReady}
+use Rattle.sm_sketch.specs.SketchViews.{stacked, numbered_sketch, numbered_end, numbered_sketches, sketch_in, IsSketchReady, Sketch}
 use Rattle.sm_sketch.proofs.SketchEnds.{sketch_is, sketches_are, end_fork, end_loop, end_block, end_end}
 
 -- over the trees of a table they are those of the sketch
@@ -199,8 +195,3 @@ pub listed_all : (a b : List (List Formula)) (l : List Sketch) (i : ℕ) (ps : S
 listed_all a b l i ps before past same =
     before ∙ ap (λ (m : List Sketch). a ++ forms_of_all (map numbered_sketch m)) (take_all i l past ∙ same)
     ∙ ap (λ (r : List NumberedSketch). a ++ forms_of_all r) (sym (sketches_are ps))
-
--- where a call goes well
-pub on_ok : {T E P Q : Type 0} (r : Result T E) → (P → Q) → OnOk r P → OnOk r Q
-on_ok (Ok x) f h = f h
-on_ok (Err e) f h = tt

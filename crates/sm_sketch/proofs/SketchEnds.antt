@@ -5,17 +5,16 @@ use Rattle.std.specs.declared.alloc.Global.{Global}
 use Rattle.std.specs.declared.rc.Rc.{Rc}
 use Rattle.sm_syntax.specs.text.Parts.{by_copy}
 use Rattle.sm_plan.specs.declared.state.Formulas.{Formulas}
-use Rattle.sm_expand.specs.declared.plan.Simple.{Simple}
 use Rattle.sm_expand.specs.NumberedPlans.{Fork, Ends}
 use Rattle.sm_expand.specs.Views.{simple_node}
-use Rattle.sm_sketch.specs.declared.sketch.Sketch.{Sketch, fold_out-Sketch}
+use Rattle.sm_expand.specs.declared.plan.Simple.{Simple}
 use Rattle.sm_sketch.specs.declared.sketch.SketchEnd.{SketchEnd, fold-roll-SketchEnd}
 use Rattle.sm_sketch.specs.declared.sketch.SketchEnd.TheOpen as layer
 use Rattle.sm_sketch.specs.declared.sketch.SketchEnd.TheVariants as last
 use Rattle.sm_sketch.specs.declared.sketch.SketchEnd.TheVariants.{rolls-Fork, rolls-Loop, rolls-Block, rolls-End}
 use Rattle.sm_sketch.specs.declared.sketch.Sketches.{Sketches, out-Sketches, roll-Sketches, fold_out-Sketches, fold-roll-Sketches}
 use Rattle.sm_sketch.specs.NumberedSketches.{Plain, LoopSite, BlockSite, NumberedSketch, Draw, Over, More, sketches_before}
-use Rattle.sm_sketch.specs.SketchViews.{stacked, end_layer, sketch_layer, sketches_layer, numbered_sketch, numbered_end, numbered_sketches}
+use Rattle.sm_sketch.specs.SketchViews.{stacked, end_layer, sketch_layer, sketches_layer, numbered_sketch, numbered_end, numbered_sketches, Sketch, fold_out-Sketch}
 
 -- a sketch is its simple nodes, and then its last one
 pub sketch_is : (s : Sketch) → numbered_sketch s ≡ stacked s.straight.list.items (numbered_end s.last)

@@ -9,12 +9,10 @@ use Rattle.sm_plan.proofs.TablesWiden as widened
 use Rattle.sm_expand.specs.NumberedPlans.{NumberedNode, At, node_over, IsKeepReady}
 use Rattle.sm_expand.specs.NumberedPlans as numbers
 use Rattle.sm_expand.proofs.PlansWiden as plans
-use Rattle.sm_sketch.specs.declared.sketch.Sketch.{Sketch}
-use Rattle.sm_sketch.specs.NumberedSketches.{NumberedSite, Plain, LoopSite, BlockSite, NumberedSketch, Draw, NumberedSketches, Over, More}
-use Rattle.sm_sketch.specs.NumberedSketches.{site_over, sketch_over, sketches_over, IsSiteReady, AreNodesReady, AreBelowReady}
+use Rattle.sm_sketch.specs.NumberedSketches.{NumberedSite, Plain, LoopSite, BlockSite, NumberedSketch, Draw, NumberedSketches, Over, More, site_over, sketch_over, sketches_over, IsSiteReady, AreNodesReady, AreBelowReady}
 use Rattle.sm_sketch.specs.Sketches as tree
 use Rattle.sm_sketch.specs.SketchSizes.{sketch_size, sketch_depth}
-use Rattle.sm_sketch.specs.SketchViews.{numbered_sketch, sketch_in, IsSketchReady, AreSketchesReady}
+use Rattle.sm_sketch.specs.SketchViews.{numbered_sketch, sketch_in, IsSketchReady, AreSketchesReady, Sketch}
 
 -- the first node of a plan
 abbrev first : plan.Plan → Node

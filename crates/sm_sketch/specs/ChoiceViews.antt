@@ -1,6 +1,5 @@
 -- Cited by public clauses: the choices that the program's own stand for.
-use Rattle.std.specs.Prelude.{ℕ, ◌+◌, ◌++◌, List, [], ◌∷◌, map, length, slice_get}
-use Rattle.std.specs.Prelude.{option_to_list, Vec}
+use Rattle.std.specs.Prelude.{ℕ, ◌+◌, ◌++◌, List, [], ◌∷◌, map, length, slice_get, option_to_list, Vec}
 use Rattle.std.specs.declared.alloc.Global.{Global}
 use Rattle.sm_syntax.specs.text.Sorts.{Sorts}
 use Rattle.sm_term.specs.Terms.{Tree}

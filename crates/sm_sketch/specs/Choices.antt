@@ -1,6 +1,5 @@
 -- Cited by public clauses: choices of templates, and the formula that a site keeps of them.
-use Rattle.std.specs.Prelude.{ℕ, zero, suc, ◌/◌, List, [], ◌∷◌, ◌++◌, map, take, drop, length}
-use Rattle.std.specs.Prelude.{slice_get, unwrap_or, option_to_list}
+use Rattle.std.specs.Prelude.{ℕ, zero, suc, ◌/◌, List, [], ◌∷◌, ◌++◌, map, take, drop, length, slice_get, unwrap_or, option_to_list}
 use Rattle.std.specs.List.{range_with_len}
 use Rattle.sm_term.specs.Assertions.{Assertion, Yes, And}
 

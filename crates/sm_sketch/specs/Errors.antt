@@ -1,5 +1,5 @@
 -- Cited by public clauses: what the errors of this crate tell.
-use Rattle.sm_sketch.specs.declared.error.ProductError.{ProductError}
+pub use Rattle.sm_sketch.specs.declared.error.ProductError.{ProductError}
 use Rattle.sm_sketch.specs.declared.error.ProductError.TheVariants as error
 use Rattle.sm_sketch.specs.Sketches.{Sketch}
 use Rattle.sm_sketch.specs.SketchSizes.{IsTooLarge}

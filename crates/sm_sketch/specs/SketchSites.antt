@@ -7,8 +7,7 @@ use Rattle.sm_term.specs.declared.formula.Formula.{Formula}
 use Rattle.sm_term.specs.Terms.{Tree}
 use Rattle.sm_plan.specs.declared.state.Formulas.{Formulas}
 use Rattle.sm_plan.specs.ReadyStates.{AreFormsReady}
-use Rattle.sm_sketch.specs.NumberedSketches.{NumberedSite, Plain, LoopSite, BlockSite}
-use Rattle.sm_sketch.specs.NumberedSketches.{NumberedSketch, Draw, NumberedSketches, Over, More}
+use Rattle.sm_sketch.specs.NumberedSketches.{NumberedSite, Plain, LoopSite, BlockSite, NumberedSketch, Draw, NumberedSketches, Over, More}
 
 -- the templates of a node that is a site
 abbrev pub forms_at : NumberedSite → List (List Formula)

@@ -2,8 +2,7 @@
 -- large.
 use Rattle.std.specs.Prelude.{ℕ, suc, ◌+◌, ◌<◌, ◌≤◌, ◌⊎◌, max, Bool, true, if◌then◌else◌}
 use Rattle.sm_plan.specs.Nodes.{is_branching}
-use Rattle.sm_sketch.specs.Sketches.{SketchNode, Plain, LoopSite, BlockSite}
-use Rattle.sm_sketch.specs.Sketches.{Sketch, Draw, Sketches, Over, More}
+use Rattle.sm_sketch.specs.Sketches.{SketchNode, Plain, LoopSite, BlockSite, Sketch, Draw, Sketches, Over, More}
 
 -- whether a node opens more than one state
 abbrev pub is_branching_node : SketchNode → Bool

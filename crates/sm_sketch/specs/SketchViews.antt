@@ -3,16 +3,15 @@ use Rattle.std.specs.Prelude.{◌≡◌, List, [], ◌∷◌}
 use Rattle.sm_syntax.specs.text.Parts.{by_copy}
 use Rattle.sm_syntax.specs.text.Sorts.{Sorts}
 use Rattle.sm_term.specs.Terms.{Tree}
-use Rattle.sm_expand.specs.declared.plan.Simple.{Simple}
 use Rattle.sm_expand.specs.NumberedPlans.{Fork, Ends}
 use Rattle.sm_expand.specs.Views.{simple_node}
-use Rattle.sm_sketch.specs.declared.sketch.Sketch.{Sketch, Sketch-F, fold-Sketch}
+use Rattle.sm_expand.specs.declared.plan.Simple.{Simple}
+use Rattle.sm_sketch.specs.declared.sketch.Sketch.{Sketch-F, fold-Sketch}
+pub use Rattle.sm_sketch.specs.declared.sketch.Sketch.{Sketch, fold_out-Sketch}
 use Rattle.sm_sketch.specs.declared.sketch.SketchEnd.{SketchEnd, SketchEnd-F, fold-SketchEnd}
 use Rattle.sm_sketch.specs.declared.sketch.SketchEnd.TheOpen as layer
 use Rattle.sm_sketch.specs.declared.sketch.Sketches.{Sketches, Sketches-F, fold-Sketches}
-use Rattle.sm_sketch.specs.NumberedSketches.{Plain, LoopSite, BlockSite}
-use Rattle.sm_sketch.specs.NumberedSketches.{NumberedSketch, Draw, Over, More}
-use Rattle.sm_sketch.specs.NumberedSketches.{sketches_before, sketch_over, AreNodesReady}
+use Rattle.sm_sketch.specs.NumberedSketches.{Plain, LoopSite, BlockSite, NumberedSketch, Draw, Over, More, sketches_before, sketch_over, AreNodesReady}
 use Rattle.sm_sketch.specs.Sketches as tree
 use Rattle.sm_sketch.specs.SketchSizes.{sketch_size, sketch_depth}
 

@@ -2,8 +2,7 @@
 ghost use Rattle.std.specs.Prelude.{◌≡◌, List, IfOk};
 ghost use Rattle.sm_syntax.specs.text.Sorts.{Sorts};
 ghost use Rattle.sm_term.specs.Terms.{Tree};
-ghost use Rattle.sm_sketch.specs.SketchViews.{numbered_sketch, numbered_end, numbered_sketches};
-ghost use Rattle.sm_sketch.specs.SketchViews.{sketch_in, IsSketchReady};
+ghost use Rattle.sm_sketch.specs.SketchViews.{numbered_sketch, numbered_end, numbered_sketches, sketch_in, IsSketchReady};
 
 use crate::sketch::{Sketch, SketchEnd, Sketches};
 use sm_expand::{Simple, Simples};

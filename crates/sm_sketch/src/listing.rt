@@ -5,8 +5,7 @@ ghost use Rattle.sm_term.specs.Terms.{Tree};
 ghost use Rattle.sm_plan.specs.Views.{forms_in};
 ghost use Rattle.sm_sketch.specs.Sketches.{sites_of};
 ghost use Rattle.sm_sketch.specs.SketchSites.{forms_of, forms_of_all, shared_forms, AreListsReady};
-ghost use Rattle.sm_sketch.specs.SketchViews.{numbered_sketch, numbered_sketches};
-ghost use Rattle.sm_sketch.specs.SketchViews.{sketch_in, IsSketchReady};
+ghost use Rattle.sm_sketch.specs.SketchViews.{numbered_sketch, numbered_sketches, sketch_in, IsSketchReady};
 
 use crate::sketch::{Sketch, SketchEnd, Sketches};
 use sm_plan::Formulas;

@@ -8,13 +8,11 @@ ghost use Rattle.sm_plan.specs.Views.{forms_in};
 ghost use Rattle.sm_expand.specs.NumberedPlans.{plan_over, IsPlanReady};
 ghost use Rattle.sm_expand.specs.Views.{numbered_plan, numbered_last, plan_in};
 ghost use Rattle.sm_sketch.specs.Choices.{kept_by};
-ghost use Rattle.sm_sketch.specs.ChoiceViews.{choice_in, plans_from, sites_among};
-ghost use Rattle.sm_sketch.specs.ChoiceViews.{AreSomeReady, AreAllReady};
+ghost use Rattle.sm_sketch.specs.ChoiceViews.{choice_in, plans_from, sites_among, AreSomeReady, AreAllReady};
 ghost use Rattle.sm_sketch.specs.NumberedSketches.{sketch_over, AreNodesReady};
 ghost use Rattle.sm_sketch.specs.Sketches as plain;
 ghost use Rattle.sm_sketch.specs.Sketches.{sites_of};
-ghost use Rattle.sm_sketch.specs.SketchViews.{numbered_sketch, numbered_end, numbered_sketches};
-ghost use Rattle.sm_sketch.specs.SketchViews.{sketch_in, IsSketchReady};
+ghost use Rattle.sm_sketch.specs.SketchViews.{numbered_sketch, numbered_end, numbered_sketches, sketch_in, IsSketchReady};
 
 use crate::copying::copied_simples;
 use crate::kept::{TemplateChoice, kept_formula};

@@ -1,18 +1,17 @@
 -- A node before, while and after the contrary of a goal stands in its place.
-use Rattle.std.proofs.Common.{◌≡◌, inl, inr, ℕ, zero, suc, ◌+◌, ◌<◌, ◌≤◌, Some, Option, IfSome, List, [], ◌∷◌, ◌++◌, length}
-use Rattle.std.proofs.Common.{take, drop, slice_get, slice_set, refl, sym, ap, subst, ◌∙◌, arith}
+use Rattle.std.proofs.Common.{◌≡◌, inl, inr, ℕ, ◌+◌, ◌<◌, ◌≤◌, Some, Option, IfSome, List, [], ◌∷◌, ◌++◌, length, take, drop, slice_get, slice_set, refl, sym, ap, subst, ◌∙◌, arith}
 use Rattle.std.proofs.lemmas.List.{append-nil, length-set, length-map, length-append, take-append-drop}
 use Rattle.std.specs.List.{range_with_len}
 use Rattle.sm_syntax.specs.text.Sorts.{Sorts}
 use Rattle.sm_num.specs.Forms.{Linear}
-use Rattle.sm_term.specs.declared.formula.Formula.{Formula}
 use Rattle.sm_term.specs.declared.formula.Formula.TheVariants as tree
-use Rattle.sm_term.specs.declared.term.TermId.{TermId}
 use Rattle.sm_term.specs.Assertions.{Assertion, Yes}
 use Rattle.sm_term.specs.Formulas.{numbered, assertion_in, IsFormulaWithin}
+use Rattle.sm_term.specs.declared.formula.Formula.{Formula}
 use Rattle.sm_term.specs.Sorted.{AreFormsSorted, IsFormSorted}
 use Rattle.sm_term.specs.Terms.{Tree}
 use Rattle.sm_term.specs.Tables.{TableValue, trees_in, sorts_in, codes_in}
+use Rattle.sm_term.specs.declared.term.TermId.{TermId}
 use Rattle.sm_term.specs.TableLaws.{AddsTerms}
 use Rattle.sm_cc.specs.BaseClasses.{IsLedBy, AreAllGiven}
 use Rattle.sm_pairs.specs.Longer.{IsLonger}
@@ -36,18 +35,14 @@ use Rattle.sm_solve.specs.Inconsistent.{IsInconsistent}
 use Rattle.sm_solve.proofs.GroundingLemmas.{as_many}
 use Rattle.sm_judge.proofs.LinearsLemmas.{first_forms}
 use Rattle.sm_solve.proofs.NamingLemmas.{named_root}
-use Rattle.sm_solve.proofs.NodeLemmas.{terms_there, added_behind, given_still, given_first, replaced_is, replaced_last, replaced_within}
-use Rattle.sm_solve.proofs.NodeLemmas.{always_there, put_back, cut_back}
+use Rattle.sm_solve.proofs.NodeLemmas.{terms_there, added_behind, given_still, given_first, replaced_is, replaced_last, replaced_within, always_there, put_back, cut_back}
 use Rattle.sm_list.proofs.OwnLemmas.{facts_grown, facts_within_grown}
 use Rattle.sm_list.proofs.PartsLemmas.{queue_from}
 use Rattle.sm_terms.proofs.WithTermLemmas.{closed_with_formulas, closed_none}
-use Rattle.sm_solve.proofs.SortedLemmas.{sorted-append, sorted_with}
-
--- a place at which something stands
-place_there : {A : Type 0} (xs : List A) (k : ℕ) (x : A) → slice_get xs k ≡ Some x → k < length xs
-place_there [] k x e = absurd cc
-place_there (y ∷ ys) zero x e = omega arith
-place_there (y ∷ ys) (suc k) x e = let less = place_there ys k x e in omega arith
+use Rattle.sm_solve.proofs.SortedLemmas.{sorted_with}
+use Rattle.std.proofs.lemmas.List.FromFn.{length-range_with_len}
+use Rattle.sm_lemmas.proofs.Lists.{get_below, get_set, below_if_got}
+use Rattle.sm_term.proofs.SortedForms.{forms_append}
 
 -- own tables of which one has more terms
 pub own_grows : (old new : TableValue) (terms more : List Tree) → sorts_in new ≡ sorts_in old → codes_in new ≡ codes_in old →
@@ -135,7 +130,7 @@ module _ (old new : TableValue) (given : List Assertion) (n m : FactBase) (form 
         );
         place = place ∙ is.place;
         there =
-            let long = place_there fs n.place tree.Yes here in
+            let long = below_if_got fs n.place tree.Yes here in
             let same = ap length back in
             omega (arith, long, same, place);
         sorted = subst (λ (s : Sorts). AreFormsSorted s given) (sym grows.sorts) is.sorted;
@@ -197,18 +192,6 @@ module _ (old new : TableValue) (given : List Assertion) (n m : FactBase) (form 
         at_goal fact (subst (λ (gs : List Formula). IsLonger gs m.facts.items) put longer) place same_base same_inconsistent all
         (stay (length own) (subst (λ (gs : List Formula). AreFormulasWithin (length own) (all_numbered gs)) (sym put) replaced)) sorted
 
--- an element that is put at a place
-set_there : {A : Type 0} (xs : List A) (k : ℕ) (x : A) → k < length xs → slice_get (slice_set xs k x) k ≡ Some x
-set_there [] k x h = absurd (omega arith)
-set_there (y ∷ ys) zero x h = refl
-set_there (y ∷ ys) (suc k) x h = let less : k < length ys = omega arith in set_there ys k x less
-
--- the element of a list at a place
-thing_at : {A : Type 0} (xs : List A) (k : ℕ) → k < length xs → (x : A) × (slice_get xs k ≡ Some x)
-thing_at [] k h = absurd (omega arith)
-thing_at (y ∷ ys) zero h = (y, refl)
-thing_at (y ∷ ys) (suc k) h = let less : k < length ys = omega arith in thing_at ys k less
-
 -- terms that are counted from a number on
 pub counted_longer : (n : ℕ) (xs ys : List TermId) → numbers_of xs ≡ range_with_len n (length xs) → numbers_of ys ≡ range_with_len n (length ys) →
     length xs ≤ length ys → IsLonger xs ys
@@ -231,14 +214,9 @@ counted_longer n (x ∷ xs) (y ∷ ys) e f h =
     same_id : (s t : TermId) → s.0 ≡ t.0 → s ≡ t
     same_id s t e = ap (λ (k : ℕ). record { 0 = k }) e
 
--- as many numbers as are asked for
-length_range : (s n : ℕ) → length (range_with_len s n) ≡ n
-length_range s zero = refl
-length_range s (suc n) = ap suc (length_range (s + 1) n)
-
 -- how many terms are counted
 pub count_of : (ids : List TermId) (n : ℕ) → numbers_of ids ≡ range_with_len 0 n → length ids ≡ n
-count_of ids n e = sym (length-map ids (λ (t : TermId). t.0)) ∙ ap length e ∙ length_range 0 n
+count_of ids n e = sym (length-map ids (λ (t : TermId). t.0)) ∙ ap length e ∙ length-range_with_len 0 n
 
 -- the classes of a goal begin with those of the node's facts
 pub led_with : (table : TableValue) (given : List Assertion) (form : Assertion) (n : FactBase) → IsAtGoal table given form n →
@@ -273,8 +251,8 @@ led_with table given form n at =
         let without = slice_set kept place tree.Yes in
         let long = length-set kept place tree.Yes in
         let inside : place < length kept = omega (arith, there, long) in
-        let here = thing_at kept place inside in
-        let one = given_still 0 without place here.0 (set_there kept place tree.Yes inside) in
+        let here = get_below kept place inside in
+        let one = given_still 0 without place here.0 (get_set kept place tree.Yes inside) in
         let back = put_back kept place tree.Yes here.0 here.1 in
         let two : AreAllGiven (given_from 0 without) (given_from 0 kept) =
         subst (λ (gs : List Formula). AreAllGiven (given_from 0 without) (given_from 0 gs)) back one in
@@ -397,7 +375,7 @@ goal_sorted table given form n at =
   where
     sorted_last : (sorts : Sorts) (fs : List Assertion) (f : Assertion) → AreFormsSorted sorts fs → IsFormSorted sorts f →
         AreFormsSorted sorts (fs ++ f ∷ [])
-    sorted_last sorts fs f h k = sorted-append sorts fs (f ∷ []) h (k, tt)
+    sorted_last sorts fs f h k = forms_append sorts fs (f ∷ []) h (k, tt)
 
 -- its terms are those of its facts with the contrary
 pub goal_named : (table : TableValue) (given : List Assertion) (form : Assertion) (n : FactBase) → IsAtGoal table given form n →
@@ -411,7 +389,7 @@ goal_named table given form n at =
 pub room_below : (table : TableValue) (given : List Assertion) (n : FactBase) → IsFactBase table given n → n.place < length n.facts.items
 room_below table given n is =
     let yes = always_there (sorts_in table) (trees_in n.terms.own) given n.facts.items is.facts in
-    let long = place_there n.facts.items (length given) tree.Yes yes in
+    let long = below_if_got n.facts.items (length given) tree.Yes yes in
     let here = is.place in
     omega (arith, long, here)
 

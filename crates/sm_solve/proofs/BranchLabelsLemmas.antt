@@ -3,18 +3,18 @@ use Rattle.std.proofs.Common.{◌≡◌, ℕ, ◌==◌, Option, option_map, Some
 use Rattle.std.proofs.lemmas.Bool.{eqb-true, eq-eqb}
 use Rattle.std.proofs.lemmas.List.{length-map}
 use Rattle.std.proofs.lemmas.Option.{slice_get-map}
-use Rattle.sm_term.specs.declared.term.TermId.{TermId}
 use Rattle.sm_term.specs.declared.formula.Formula.{Formula}
 use Rattle.sm_term.specs.Terms.{Tree}
 use Rattle.sm_term.specs.Tables.{TableValue, trees_in, tree_at}
+use Rattle.sm_term.specs.declared.term.TermId.{TermId}
 use Rattle.sm_cc.specs.Labels.{AreTermLabels}
 use Rattle.sm_cc.specs.Rounds.{are_equal}
 use Rattle.sm_cc.specs.Views.{ClassesValue, setting_of}
 use Rattle.sm_certify.specs.Given.{IsWhole, classes_by}
 use Rattle.sm_judge.specs.Labelled.{AreLabels}
 use Rattle.sm_terms.specs.Listing.{trees_at, numbers_of}
-use Rattle.sm_pairs.proofs.AmongLemmas.{one_test}
 use Rattle.sm_cc.proofs.LeastLemmas.{equal_is_same}
+use Rattle.sm_lemmas.proofs.Tests.{same_tests}
 
 -- the number at the place of a term
 number_at : (trees : List Tree) (terms : List TermId) → trees_at trees (numbers_of terms) ≡ trees → (i : ℕ) (t : Tree) →
@@ -47,7 +47,7 @@ module _ (table : TableValue) (terms : List TermId) (facts : List Formula) (whol
         let law = told.each i j l m first.0 second.0 first.1 second.1 at_l at_m in
         let s = setting_of (classes_by table terms facts) in
         let same = equal_is_same s (tree_at trees first.0.0) (tree_at trees second.0.0) in
-        one_test (l == m) (are_equal s (tree_at trees first.0.0) (tree_at trees second.0.0)) (λ h. same.1 (law.0 (eqb-true l m h)))
+        same_tests (l == m) (are_equal s (tree_at trees first.0.0) (tree_at trees second.0.0)) (λ h. same.1 (law.0 (eqb-true l m h)))
         (λ h. eq-eqb l m (law.1 (same.0 h)))
         ∙ ap (λ (x : Tree). are_equal s x (tree_at trees second.0.0)) first.2
         ∙ ap (are_equal s t) second.2;

@@ -1,6 +1,5 @@
 -- A branch that is closed at once stays so with more facts and terms.
-use Rattle.std.proofs.Common.{◌≡◌, ◌⊎◌, ℕ, zero, suc, ◌≤◌, map, Bool, true, false, ◌&&◌, List, [], ◌∷◌, ◌++◌, slice_get, Option, Some, None}
-use Rattle.std.proofs.Common.{inl, inr, refl, ap, sym, ◌∙◌, arith}
+use Rattle.std.proofs.Common.{◌≡◌, ◌⊎◌, ℕ, zero, suc, ◌≤◌, map, Bool, true, false, ◌&&◌, List, [], ◌∷◌, ◌++◌, slice_get, Some, None, inl, inr, refl, ap, sym, ◌∙◌, arith}
 use Rattle.std.specs.List.{list_any}
 use Rattle.std.specs.Ordering.{int_eq}
 use Rattle.sm_syntax.specs.text.Sorts.{Sorts}
@@ -10,18 +9,17 @@ use Rattle.sm_term.specs.SameTerms.{same_tree}
 use Rattle.sm_term.specs.Heads.{arguments_of, same_head}
 use Rattle.sm_theory.specs.Lines.{equal_sides, unequal_sides}
 use Rattle.sm_theory.specs.Equality.{says_equal}
-use Rattle.sm_theory.specs.Elements.{Written, written_in, read_in}
 use Rattle.sm_theory.specs.Arithmetic.{compared_forms}
 use Rattle.sm_pairs.specs.Pairs.{Pairs}
-use Rattle.sm_cc.specs.Classes.{Setting, given_equal, given_unequal, differ, are_apart, equal_lists, if_there}
-use Rattle.sm_cc.specs.Classes.{reads_written, brings, AreClosed}
+use Rattle.sm_cc.specs.Classes.{Setting, given_equal, given_unequal, differ, are_apart, equal_lists, reads_written, brings, AreClosed}
 use Rattle.sm_cc.specs.Rounds.{are_equal}
 use Rattle.sm_cc.proofs.StandingLemmas.{or_map, and_map, any_from}
-use Rattle.sm_pairs.proofs.AmongLemmas.{any_to}
 use Rattle.sm_list.specs.Branches.{greatest_of, parts_of, parts_of_all, depth_of, taken_apart, with_parts}
 use Rattle.sm_certify.specs.Given.{seen_by}
 use Rattle.sm_judge.specs.Holding.{is_refuted, are_torn, is_closed}
 use Rattle.sm_cc.proofs.LeastLemmas.{equal_closed, equal_least}
+use Rattle.sm_cc.proofs.BringsLemmas.{reads_more}
+use Rattle.std.proofs.lemmas.Map.Keys.{any_passes_from_place}
 
 -- one test for each element is passed where another is
 any_more : {A : Type 0} (p q : A → Bool) → ((x : A) → p x ≡ true → q x ≡ true) → (xs : List A) → list_any p xs ≡ true →
@@ -33,19 +31,6 @@ any_more p q more (x ∷ xs) h = or_map (p x) (q x) (more x) (any_more p q more 
 any_longer : {A : Type 0} (p : A → Bool) (xs ys : List A) → list_any p xs ≡ true → list_any p (xs ++ ys) ≡ true
 any_longer p [] ys h = absurd cc
 any_longer p (x ∷ xs) ys h = or_map (p x) (p x) (λ e. e) (any_longer p xs ys) h
-
-there_more : {T : Type 0} (p q : T → Bool) → ((x : T) → p x ≡ true → q x ≡ true) → (o : Option T) →
-    if_there o p ≡ true → if_there o q ≡ true
-there_more p q more None h = absurd cc
-there_more p q more (Some x) h = more x h
-
-reads_more : (p q : Written → Tree → Bool) → ((w : Written) (j : Tree) → p w j ≡ true → q w j ≡ true) → (t : Tree) →
-    reads_written t p ≡ true → reads_written t q ≡ true
-reads_more p q more t h =
-    there_more (λ (r : Tree × Tree). if_there (written_in r.0) (λ (w : Written). p w r.1))
-    (λ (r : Tree × Tree). if_there (written_in r.0) (λ (w : Written). q w r.1))
-    (λ (r : Tree × Tree). there_more (λ (w : Written). p w r.1) (λ (w : Written). q w r.1) (λ (w : Written). more w r.1) (written_in r.0))
-    (read_in t) h
 
 -- each fact is one of the others, or says nothing
 abbrev pub AreAmongFacts : List Assertion → List Assertion → Type 0
@@ -60,7 +45,7 @@ facts_more p facts others among nothing h =
   where
     of : (f : Assertion) → p f ≡ true → (f ≡ Yes) ⊎ ((m : ℕ) × (slice_get others m ≡ Some f)) → list_any p others ≡ true
     of f e (inl is) = absurd (let wrong : true ≡ false = sym e ∙ ap p is ∙ nothing in cc)
-    of f e (inr at) = any_to p others at.0 f at.1 e
+    of f e (inr at) = any_passes_from_place p others at.0 f at.1 e
 
 module _ (sorts : Sorts) (terms more : List Tree) (facts others : List Assertion) (among : AreAmongFacts facts others) where
   -- what classes are made of, and of more

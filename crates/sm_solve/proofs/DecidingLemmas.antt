@@ -7,9 +7,9 @@ use Rattle.sm_omega.specs.Exact.{exact}
 use Rattle.sm_omega.specs.Rules.{Answer}
 use Rattle.sm_omega.proofs.LimitLemmas.{count_is_within, limit_does_not_matter}
 use Rattle.sm_term.specs.Assertions.{Assertion}
-use Rattle.sm_judge.specs.declared.forms.Source.{Source}
 use Rattle.sm_judge.specs.Holding.{Seen}
 use Rattle.sm_judge.specs.Refutations.{AreSources}
+use Rattle.sm_judge.specs.declared.forms.Source.{Source}
 use Rattle.sm_certify.specs.Decided.{AreDecided}
 use Rattle.sm_solve.specs.Walk.{decided, by_decision}
 

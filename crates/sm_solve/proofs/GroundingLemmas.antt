@@ -3,15 +3,15 @@ use Rattle.std.proofs.Common.{◌≡◌, ℕ, None, Option, IfSome, List, [], �
 use Rattle.std.proofs.lemmas.List.{map-append, length-map}
 use Rattle.std.specs.List.{range_with_len}
 use Rattle.sm_syntax.specs.text.Sorts.{Sorts}
-use Rattle.sm_term.specs.declared.formula.Formula.{Formula}
 use Rattle.sm_term.specs.declared.formula.Formula.TheVariants as tree
-use Rattle.sm_term.specs.declared.term.TermId.{TermId}
 use Rattle.sm_term.specs.Terms.{Tree}
 use Rattle.sm_term.specs.Assertions.{Assertion, Yes}
 use Rattle.sm_term.specs.Formulas as number
 use Rattle.sm_term.specs.Formulas.{NumberedFormula, numbered, assertion_in}
+use Rattle.sm_term.specs.declared.formula.Formula.{Formula}
 use Rattle.sm_term.specs.Sorted.{AreFormsSorted}
 use Rattle.sm_term.specs.Tables.{TableValue, trees_in, sorts_in}
+use Rattle.sm_term.specs.declared.term.TermId.{TermId}
 use Rattle.sm_solve.specs.declared.fact_base.FactBase.{FactBase}
 use Rattle.sm_solve.specs.declared.inconsistent.Inconsistent.{Inconsistent}
 use Rattle.sm_judge.specs.AllForms.{AreAllForms}
@@ -26,7 +26,8 @@ use Rattle.sm_solve.specs.Sharing.{IsFactBase, room_for_goal}
 use Rattle.sm_solve.specs.Inconsistent.{IsInconsistent}
 use Rattle.sm_solve.proofs.NodeLemmas.{unread}
 use Rattle.sm_list.proofs.PartsLemmas.{within-append}
-use Rattle.sm_solve.proofs.SortedLemmas.{sorted-append, sorted_with}
+use Rattle.sm_solve.proofs.SortedLemmas.{sorted_with}
+use Rattle.sm_term.proofs.SortedForms.{forms_append}
 
 -- facts and what always holds
 numbers_are : (facts list all : List Formula) → all ≡ list ++ tree.Yes ∷ [] → all_numbered list ≡ all_numbered facts →
@@ -49,7 +50,7 @@ room_within count facts list all are same within =
 
 -- they are sorted with all their parts
 pub room_sorted : (sorts : Sorts) (given : List Assertion) → AreFormsSorted sorts given → AreFormsSorted sorts (room_for_goal given)
-room_sorted sorts given h = sorted_with sorts (given ++ Yes ∷ []) (sorted-append sorts given (Yes ∷ []) h (tt, tt))
+room_sorted sorts given h = sorted_with sorts (given ++ Yes ∷ []) (forms_append sorts given (Yes ∷ []) h (tt, tt))
 
 -- as many as the facts
 pub as_many : (sorts : Sorts) (trees : List Tree) (facts : List Formula) →

@@ -1,25 +1,25 @@
 -- Facts of a node that can't hold together: so do these with the contrary of a goal.
-use Rattle.std.proofs.Common.{◌≡◌, ◌⊎◌, ℕ, ℤ, ◌+◌, ◌≤◌, true, false, Bool, IfSome, Some, slice_get, take, drop, get_or, add-one, ⊎_elim, ◌<◌, Result, Ok, Err, OnOk, List, [], ◌∷◌, ◌++◌}
-use Rattle.std.proofs.Common.{length, if◌then◌else◌, refl, sym, ap, subst, ◌∙◌, arith}
+use Rattle.std.proofs.Common.{◌≡◌, ◌⊎◌, ℕ, ℤ, ◌+◌, ◌≤◌, true, false, Bool, IfSome, Some, slice_get, take, drop, get_or, add-one, ⊎_elim, ◌<◌, Result, Ok, Err, OnOk, List, [], ◌∷◌, ◌++◌, length, if◌then◌else◌, refl, sym, ap, subst, ◌∙◌}
+use Rattle.std.proofs.Common.{arith}
 use Rattle.std.specs.List.{range_with_len}
 use Rattle.std.proofs.Math.Seq.{take-suc}
 use Rattle.std.proofs.lemmas.Bool.{cases_Bool}
 use Rattle.std.proofs.lemmas.List.{append-nil, length-append, take-append-drop}
 use Rattle.sm_syntax.specs.text.Sorts.{Sorts}
-use Rattle.sm_num.specs.declared.kind.Kind.{Kind}
 use Rattle.sm_num.specs.Forms.{Linear}
+use Rattle.sm_num.specs.declared.kind.Kind.{Kind}
 use Rattle.sm_num.specs.Combining.{Outcome, Fits}
-use Rattle.sm_term.specs.declared.term.TermId.{TermId}
 use Rattle.sm_term.specs.Assertions.{Assertion, Yes}
 use Rattle.sm_term.specs.Sorted.{AreFormsSorted}
 use Rattle.sm_term.specs.Tables.{TableValue, trees_in, sorts_in, codes_in}
+use Rattle.sm_term.specs.declared.term.TermId.{TermId}
 use Rattle.sm_term.specs.TableLaws.{AddsTerms}
 use Rattle.sm_term.specs.Terms.{Tree}
 use Rattle.sm_theory.specs.Facts.{as_facts}
-use Rattle.sm_cert.specs.declared.tree.CertTree.{CertTree}
 use Rattle.sm_cert.specs.Certificates.{Certificate, splits_above}
 use Rattle.sm_cert.specs.MovedTrees.{NamesWhatItReads}
 use Rattle.sm_cert.specs.Views.{certificate_in, lines_of, AreLinesWithin}
+use Rattle.sm_cert.specs.declared.tree.CertTree.{CertTree}
 use Rattle.sm_cc.specs.BaseClasses.{IsLedBy}
 use Rattle.sm_cc.specs.Views.{ClassesValue}
 use Rattle.sm_pairs.specs.Longer.{IsLonger}
@@ -30,9 +30,8 @@ use Rattle.sm_certify.specs.Bases.{IsFrom}
 use Rattle.sm_theory.specs.TermsOfFormulas.{with_formulas}
 use Rattle.sm_list.specs.Branches.{with_parts, terms_of}
 use Rattle.sm_certify.specs.Refutes.{Refutes}
-use Rattle.sm_certify.specs.Given.{classes_by}
+use Rattle.sm_certify.specs.Given.{classes_by, seen_by}
 use Rattle.sm_judge.specs.Holding.{Seen, is_closed, split_of}
-use Rattle.sm_certify.specs.Given.{seen_by}
 use Rattle.sm_terms.specs.Listing.{numbers_of}
 use Rattle.sm_list.specs.Parts.{all_numbered, assertions_in, AreFormulasWithin}
 use Rattle.sm_list.specs.Renumbered.{AreTermsOf}
@@ -42,8 +41,7 @@ use Rattle.sm_solve.specs.Sharing.{IsFactBase, room_for_goal}
 use Rattle.sm_solve.specs.Inconsistent.{IsInconsistent, IsBelow}
 use Rattle.sm_solve.specs.Walking.{ClosesIn}
 use Rattle.sm_judge.specs.Forms.{Walked, Closes, by_forms, forms_of}
-use Rattle.sm_solve.specs.declared.reach.Reach.{Reach}
-use Rattle.sm_solve.specs.Walk.{by_classes, by_no_split, by_parts, walk_from}
+use Rattle.sm_solve.specs.Walk.{by_classes, by_no_split, by_parts, walk_from, Reach}
 use Rattle.sm_solve.proofs.AtGoalLemmas.{own_grows, counted_longer, count_of}
 use Rattle.sm_solve.proofs.AtomsLemmas.{more_atoms}
 use Rattle.sm_solve.proofs.ClosedLemmas.{closed_more, parts_among}
@@ -52,8 +50,9 @@ use Rattle.sm_certify.proofs.GivenLemmas.{all_whole}
 use Rattle.sm_terms.proofs.ListingLemmas.{below_grown, same_grown}
 use Rattle.sm_solve.proofs.NamingLemmas.{named_root}
 use Rattle.sm_solve.proofs.ReplacedLemmas.{closes_in_replaced}
-use Rattle.sm_solve.proofs.SortedLemmas.{sorted-append, sorted_with}
+use Rattle.sm_solve.proofs.SortedLemmas.{sorted_with}
 use Rattle.sm_solve.proofs.WalkingLemmas.{closed_told, open_told}
+use Rattle.sm_term.proofs.SortedForms.{forms_append}
 
 -- the classes of a node are those of its facts
 pub node_led : (table : TableValue) (given : List Assertion) (n : FactBase) → IsFactBase table given n →
@@ -83,7 +82,7 @@ node_led table given n is =
 pub node_sorted : (table : TableValue) (given : List Assertion) (n : FactBase) → IsFactBase table given n →
     AreFormsSorted (sorts_in n.terms.own) (assertions_in (sorts_in n.terms.own) (trees_in n.terms.own) (all_numbered n.facts.items))
 node_sorted table given n is =
-    let all = sorted_with (sorts_in table) (given ++ Yes ∷ []) (sorted-append (sorts_in table) given (Yes ∷ []) is.sorted (tt, tt)) in
+    let all = sorted_with (sorts_in table) (given ++ Yes ∷ []) (forms_append (sorts_in table) given (Yes ∷ []) is.sorted (tt, tt)) in
     subst (λ (s : Sorts). AreFormsSorted s (assertions_in s (trees_in n.terms.own) (all_numbered n.facts.items))) (sym is.shared.sorts)
     (subst (AreFormsSorted (sorts_in table)) (sym is.facts) all)
 

@@ -1,34 +1,34 @@
 -- Lines that add the parts of conjunctions lead to the branch that has all parts; trees of the program put
 -- together.
-use Rattle.std.proofs.Common.{◌≡◌, ℕ, zero, suc, ◌+◌, ◌<◌, ◌≤◌, Option, Some, List, [], ◌∷◌, ◌++◌, map, length, drop, get_or}
-use Rattle.std.proofs.Common.{refl, sym, ap, subst, ◌∙◌, arith}
+use Rattle.std.proofs.Common.{◌≡◌, ℕ, zero, suc, ◌+◌, ◌<◌, ◌≤◌, Option, Some, List, [], ◌∷◌, ◌++◌, map, length, drop, get_or, refl, sym, ap, subst, ◌∙◌, arith}
 use Rattle.std.specs.Prelude.{Box}
 use Rattle.std.specs.declared.alloc.Global.{Global}
 use Rattle.std.proofs.lemmas.List.{append-nil, append_assoc, map-append, length-append}
 use Rattle.sm_syntax.specs.text.Sorts.{Sorts}
 use Rattle.sm_term.specs.Terms.{Tree}
 use Rattle.sm_term.specs.Assertions.{Assertion}
-use Rattle.sm_term.specs.declared.formula.Formula.{Formula}
 use Rattle.sm_term.specs.Formulas.{NumberedFormula, Yes, No, Eq, Ne, Le, Lt, And, Or, numbered, assertion_in}
-use Rattle.sm_theory.specs.declared.line.CertLine.{CertLine}
+use Rattle.sm_term.specs.declared.formula.Formula.{Formula}
 use Rattle.sm_theory.specs.Facts.{BranchFact, Formal, as_facts}
 use Rattle.sm_theory.specs.Lines.{CertificateLine, followed, formula_at}
 use Rattle.sm_theory.specs.Views.{line_in, IsLineWithin}
+use Rattle.sm_theory.specs.declared.line.CertLine.{CertLine}
 use Rattle.sm_theory.specs.Ways.{Ways, ways, both_parts, splitting, adds}
 use Rattle.sm_theory.specs.Equality.{or_other}
-use Rattle.sm_cert.specs.declared.tree.CertTree.{CertTree, CertTree-F, roll-CertTree, fold-roll-CertTree}
-use Rattle.sm_cert.specs.declared.tree.CertEnd.{CertEnd, fold-roll-CertEnd}
 use Rattle.sm_cert.specs.declared.tree.CertEnd.TheOpen as layer
 use Rattle.sm_cert.specs.declared.tree.CertEnd.TheVariants as ends
-use Rattle.sm_cert.specs.declared.tree.CertEnd.TheVariants.{rolls-Split}
 use Rattle.sm_cert.specs.Certificates.{Certificate, Next, Split, splits_above, first_bad, in_one_way, in_two_ways, lines_in}
 use Rattle.sm_cert.specs.Views.{lines_before, tree_layer, end_layer, certificate_in, end_lines, tree_lines, lines_of, AreLinesWithin}
+use Rattle.sm_cert.specs.declared.tree.CertTree.{CertTree, CertTree-F, roll-CertTree, fold-roll-CertTree}
+use Rattle.sm_cert.specs.declared.tree.CertEnd.{CertEnd, fold-roll-CertEnd}
+use Rattle.sm_cert.specs.declared.tree.CertEnd.TheVariants.{rolls-Split}
 use Rattle.sm_cert.proofs.CheckLemmas.{end_in, tree_is, lines_of_end, lines_are}
 use Rattle.sm_list.specs.Branches.{parts_of, with_parts}
 use Rattle.sm_certify.specs.Refutes.{Refutes}
 use Rattle.sm_solve.specs.Leading.{both_line, both_lines, led_by}
 use Rattle.sm_list.specs.Parts.{all_numbered, assertions_in}
 use Rattle.sm_list.proofs.PartsLemmas.{with_parts-next}
+use Rattle.sm_list.proofs.RenumberLemmas.{within-append}
 
 -- lines of the program before a certificate
 pub before_is : (trees : List Tree) (ls : List CertLine) (c : Certificate) → lines_before trees ls c ≡ led_by (map (line_in trees) ls) c
@@ -65,10 +65,6 @@ under_is trees ls t x lines last =
     ∙ ap (λ (ms : List CertificateLine). led_by ms (end_in trees t.last)) (map-append (line_in trees) ls own)
     ∙ led-append (map (line_in trees) ls) (map (line_in trees) own) (end_in trees t.last)
     ∙ ap (led_by (map (line_in trees) ls)) (sym (before_is trees own (end_in trees t.last)) ∙ sym (tree_is trees t))
-
-pub within-append : (n : ℕ) (ls ms : List CertLine) → AreLinesWithin n ls → AreLinesWithin n ms → AreLinesWithin n (ls ++ ms)
-within-append n [] ms h k = k
-within-append n (l ∷ ls) ms h k = (h.0, within-append n ls ms h.1 k)
 
 pub under_within : (n : ℕ) (ls : List CertLine) (t : CertTree) (x : CertTree-F CertEnd CertTree) →
     x.lines.list.items ≡ ls ++ t.lines.list.items → x.last ≡ t.last →

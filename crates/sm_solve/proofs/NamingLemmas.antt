@@ -1,10 +1,9 @@
 -- The terms of a walk: those of its formulas stand in front, and what a split adds names no others.
-use Rattle.std.proofs.Common.{◌≡◌, ℕ, zero, suc, Bool, true, false, ◌||◌, not, if◌then◌else◌, Option, Some, None, List, [], ◌∷◌, ◌++◌, map}
-use Rattle.std.proofs.Common.{refl, sym, ap, subst, ◌∙◌}
+use Rattle.std.proofs.Common.{◌≡◌, ℕ, zero, suc, Bool, true, false, ◌||◌, not, if◌then◌else◌, Option, Some, None, List, [], ◌∷◌, ◌++◌, map, refl, sym, ap, subst, ◌∙◌}
 use Rattle.std.specs.List.{AllByRecursion}
+use Rattle.sm_syntax.specs.text.Sorts.{Sorts}
 use Rattle.sm_syntax.specs.declared.tree.Sort.{Sort}
 use Rattle.sm_syntax.specs.declared.tree.Sort.TheVariants.{Num}
-use Rattle.sm_syntax.specs.text.Sorts.{Sorts}
 use Rattle.sm_term.specs.Terms.{Tree, Read, Write}
 use Rattle.sm_term.specs.Heads.{arguments_of}
 use Rattle.sm_term.specs.Assertions.{Assertion, Yes, No, Eq, Ne, Le, Lt, And, Or}
@@ -22,7 +21,8 @@ use Rattle.sm_judge.specs.Holding.{Seen, Split, is_fact, is_held, first_of, inde
 use Rattle.sm_judge.specs.Splits.{split_told}
 use Rattle.sm_certify.specs.Given.{seen_by}
 use Rattle.sm_solve.specs.Naming.{AreNamed, NamesNoMore, NameNoMore}
-use Rattle.sm_solve.proofs.NodeLemmas.{those_behind, formulas-append, apart_among, same_formulas}
+use Rattle.sm_solve.proofs.NodeLemmas.{those_behind, apart_among}
+use Rattle.sm_certify.proofs.NamingLemmas.{with_formulas-append, same_with_formulas}
 
 -- the arguments of each term are among others
 abbrev HaveArguments : List Tree → List Tree → Type 0
@@ -96,8 +96,8 @@ named_root trees fs is = subst (λ (ts : List Tree). AreNamed ts fs) (sym is) (n
 names_no_more : (facts : List Assertion) (f : Assertion) → FormulaAmong (all_terms facts) f → NamesNoMore facts f
 names_no_more facts f h =
     let seen = all_terms facts in
-    formulas-append facts (with_parts (f ∷ [])) []
-    ∙ same_formulas (with_parts (f ∷ [])) seen (closed_terms facts) (apart_among (greatest_of (map depth_of (f ∷ []))) seen (f ∷ []) (h, tt))
+    with_formulas-append facts (with_parts (f ∷ [])) []
+    ∙ same_with_formulas (with_parts (f ∷ [])) seen (closed_terms facts) (apart_among (greatest_of (map depth_of (f ∷ []))) seen (f ∷ []) (h, tt))
 
 -- so all terms are named with it
 pub named_more : (trees : List Tree) (facts : List Assertion) (f : Assertion) → AreNamed trees facts → NamesNoMore facts f →

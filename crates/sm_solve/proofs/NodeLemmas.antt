@@ -1,32 +1,30 @@
 -- The facts of a node with the contrary of a goal at its place: behind them stand their parts as they
 -- stood, or those of the contrary alone, and the terms of the goal go behind those of the facts.
-use Rattle.std.proofs.Common.{◌≡◌, ℕ, zero, suc, ◌+◌, max, Bool, true, false, Option, Some, None, List, [], ◌∷◌, ◌++◌, map, length}
-use Rattle.std.proofs.Common.{slice_get, slice_set, take, refl, sym, ap, ◌∙◌, subst, arith}
+use Rattle.std.proofs.Common.{◌≡◌, ℕ, zero, suc, ◌+◌, max, Bool, true, false, Option, Some, None, List, [], ◌∷◌, ◌++◌, map, length, slice_get, slice_set, take, refl, sym, ap, ◌∙◌, subst, arith}
 use Rattle.std.proofs.lemmas.List.{append-nil, append_assoc, length-append, length-set, map-set}
 use Rattle.std.proofs.lemmas.Option.{same_Some}
 use Rattle.std.proofs.Math.Seq.{set-append_seam, take-append_seam}
 use Rattle.sm_syntax.specs.text.Sorts.{Sorts}
-use Rattle.sm_term.specs.declared.formula.Formula.{Formula}
 use Rattle.sm_term.specs.declared.formula.Formula.TheVariants as tree
 use Rattle.sm_term.specs.Terms.{Tree}
 use Rattle.sm_term.specs.Heads.{arguments_of}
 use Rattle.sm_term.specs.Assertions.{Assertion, Yes, No, Eq, Ne, Le, Lt, And, Or}
 use Rattle.sm_term.specs.Formulas.{numbered, assertion_in, IsFormulaWithin}
+use Rattle.sm_term.specs.declared.formula.Formula.{Formula}
 use Rattle.sm_cc.specs.declared.classes.GivenFact.{GivenFact}
 use Rattle.sm_theory.specs.TermsOfFormulas.{put, with_term, with_formula, with_formulas, is_among}
 use Rattle.sm_cc.specs.BaseClasses.{AreAllGiven}
-use Rattle.sm_list.specs.Branches.{greatest_of, writes_on, parts_of, parts_of_all, depth_of, taken_apart, with_parts}
-use Rattle.sm_list.specs.Branches.{put_if, read_before, with_reads, with_all_reads, terms_of}
+use Rattle.sm_list.specs.Branches.{greatest_of, writes_on, parts_of, parts_of_all, depth_of, taken_apart, with_parts, put_if, read_before, with_reads, with_all_reads, terms_of}
 use Rattle.sm_certify.specs.Given.{given_from}
-use Rattle.sm_terms.specs.Listing.{IsClosed}
 use Rattle.sm_list.specs.Parts.{all_numbered, assertions_in, AreFormulasWithin}
 use Rattle.sm_list.specs.Shared.{with_those_before}
 use Rattle.sm_solve.specs.Sharing.{room_for_goal}
 use Rattle.sm_list.proofs.BuiltLemmas.{FormulaAmong, FormulasAmong, formulas_among}
 use Rattle.sm_certify.proofs.GivenLemmas.{given_from-cons}
 use Rattle.sm_list.proofs.PartsLemmas.{flat_parts, shallow_below, with_parts-next, queue_from, queue_last}
-use Rattle.sm_terms.proofs.WithTermLemmas.{AllOf, by_arguments, with_terms, with_term_is, put_there, put_new, same_with_term}
-use Rattle.sm_terms.proofs.WithTermLemmas.{closed_none, closed_with_formulas}
+use Rattle.sm_terms.proofs.WithTermLemmas.{AllOf, by_arguments, with_terms, with_term_is, put_there, put_new, closed_none, closed_with_formulas}
+use Rattle.sm_certify.proofs.NamingLemmas.{with_formulas-append, same_with_formulas}
+use Rattle.sm_lemmas.proofs.Lists.{no_items}
 
 -- what is no conjunction has no parts
 no_parts : (n : Assertion) → depth_of n ≡ 0 → parts_of n ≡ []
@@ -88,11 +86,6 @@ room_there given = ap (λ (fs : List Assertion). slice_get fs (length given)) (p
     seam [] rest = refl
     seam (f ∷ fs) rest = seam fs rest
 
--- lists of no elements
-nothing : {A : Type 0} (xs : List A) → length xs ≡ 0 → xs ≡ []
-nothing [] h = refl
-nothing (x ∷ xs) h = absurd (omega arith)
-
 none_first : {A : Type 0} (xs ys : List A) → xs ++ ys ≡ [] → xs ≡ []
 none_first [] ys h = refl
 none_first (x ∷ xs) ys h = absurd cc
@@ -106,7 +99,7 @@ none_behind : (given : List Assertion) → length (room_for_goal given) ≡ leng
 none_behind given h =
     let rest = parts_after given in
     let long = ap length (parts_are given Yes refl) ∙ length-append given (Yes ∷ rest) in
-    nothing rest (omega (arith, long, h))
+    no_items rest (omega (arith, long, h))
 
 no_parts_given : (given : List Assertion) → parts_after given ≡ [] → parts_of_all given ≡ []
 no_parts_given given none = by (greatest_of (map depth_of given)) refl
@@ -168,50 +161,27 @@ behind_among : (k : ℕ) (seen : List Tree) (fs : List Assertion) → FormulasAm
 behind_among zero seen fs h = tt
 behind_among (suc k) seen fs h = apart_among k seen (parts_of_all fs) (all_parts_among seen fs h)
 
--- formulas whose terms are there change nothing
-same_two : (t u : Tree) (seen : List Tree) → IsClosed seen → is_among seen t ≡ true → is_among seen u ≡ true →
-    with_term u (with_term t seen) ≡ seen
-same_two t u seen closed h k = ap (with_term u) (same_with_term t seen closed h) ∙ same_with_term u seen closed k
-
-pub same_formula : (f : Assertion) (seen : List Tree) → IsClosed seen → FormulaAmong seen f → with_formula f seen ≡ seen
-same_formula Yes seen closed h = refl
-same_formula No seen closed h = refl
-same_formula (Eq sort t u) seen closed h = same_two t u seen closed h.0 h.1
-same_formula (Ne sort t u) seen closed h = same_two t u seen closed h.0 h.1
-same_formula (Le t u) seen closed h = same_two t u seen closed h.0 h.1
-same_formula (Lt t u) seen closed h = same_two t u seen closed h.0 h.1
-same_formula (And p q) seen closed h = ap (with_formula q) (same_formula p seen closed h.0) ∙ same_formula q seen closed h.1
-same_formula (Or p q) seen closed h = ap (with_formula q) (same_formula p seen closed h.0) ∙ same_formula q seen closed h.1
-
-pub same_formulas : (fs : List Assertion) (seen : List Tree) → IsClosed seen → FormulasAmong seen fs → with_formulas fs seen ≡ seen
-same_formulas [] seen closed h = refl
-same_formulas (f ∷ fs) seen closed h = ap (with_formulas fs) (same_formula f seen closed h.0) ∙ same_formulas fs seen closed h.1
-
-pub formulas-append : (fs gs : List Assertion) (seen : List Tree) → with_formulas (fs ++ gs) seen ≡ with_formulas gs (with_formulas fs seen)
-formulas-append [] gs seen = refl
-formulas-append (f ∷ fs) gs seen = formulas-append fs gs (with_formula f seen)
-
 -- the parts of formulas name no terms but theirs
 behind_same : (fs : List Assertion) → with_formulas (parts_after fs) (with_formulas fs []) ≡ with_formulas fs []
 behind_same fs =
     let seen = with_formulas fs [] in
-    same_formulas (parts_after fs) seen (closed_with_formulas fs [] closed_none)
+    same_with_formulas (parts_after fs) seen (closed_with_formulas fs [] closed_none)
     (behind_among (greatest_of (map depth_of fs)) seen fs (formulas_among fs []))
 
 parts_name : (fs : List Assertion) → with_formulas (with_parts fs) [] ≡ with_formulas fs []
 parts_name fs =
     ap (λ (gs : List Assertion). with_formulas gs []) (apart_behind (greatest_of (map depth_of fs)) fs)
-    ∙ formulas-append fs (parts_after fs) [] ∙ behind_same fs
+    ∙ with_formulas-append fs (parts_after fs) [] ∙ behind_same fs
 
 -- the terms of the room are those of the facts
 pub room_terms : (given : List Assertion) → with_formulas (room_for_goal given) [] ≡ with_formulas given []
-room_terms given = parts_name (given ++ Yes ∷ []) ∙ formulas-append given (Yes ∷ []) []
+room_terms given = parts_name (given ++ Yes ∷ []) ∙ with_formulas-append given (Yes ∷ []) []
 
 -- those of a goal go behind them
 pub named_there : (given : List Assertion) (n : Assertion) →
     with_formulas (with_parts (given ++ n ∷ [])) [] ≡ with_formula n (with_formulas (room_for_goal given) [])
 named_there given n =
-    parts_name (given ++ n ∷ []) ∙ formulas-append given (n ∷ []) [] ∙ ap (with_formula n) (sym (room_terms given))
+    parts_name (given ++ n ∷ []) ∙ with_formulas-append given (n ∷ []) [] ∙ ap (with_formula n) (sym (room_terms given))
 
 pub terms_there : (given : List Assertion) (n : Assertion) →
     terms_of (with_parts (given ++ n ∷ [])) ≡ with_those_before (with_formula n (with_formulas (room_for_goal given) []))

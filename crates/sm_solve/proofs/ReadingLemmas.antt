@@ -2,14 +2,14 @@
 use Rattle.std.proofs.Common.{◌≡◌, ◌<◌, ◌+◌, ℕ, false, get_or, List, [], ◌∷◌, ◌++◌, length, take, refl, sym, ap, subst, ◌∙◌}
 use Rattle.std.proofs.lemmas.List.{take_more}
 use Rattle.sm_term.specs.Terms.{Tree}
-use Rattle.sm_theory.specs.declared.line.CertLine.{CertLine}
 use Rattle.sm_theory.specs.Named.{reads_all}
 use Rattle.sm_theory.specs.Views.{line_in}
-use Rattle.sm_cert.specs.declared.tree.CertTree.{CertTree}
+use Rattle.sm_theory.specs.declared.line.CertLine.{CertLine}
 use Rattle.sm_cert.specs.declared.tree.CertEnd.TheVariants as ends
 use Rattle.sm_cert.specs.Certificates.{Certificate, Next, Closed}
 use Rattle.sm_cert.specs.MovedTrees.{NamesWhatItReads}
 use Rattle.sm_cert.specs.Views.{certificate_in, lines_before}
+use Rattle.sm_cert.specs.declared.tree.CertTree.{CertTree}
 use Rattle.sm_cert.proofs.CheckLemmas.{tree_closed}
 
 -- what stands under lines names what it reads, and so do they
@@ -17,7 +17,7 @@ abbrev pub LeadTo : List CertLine → Type 0
 LeadTo lines = (trees : List Tree) (c : Certificate) → NamesWhatItReads c → NamesWhatItReads (lines_before trees lines c)
 
 -- a last line stands above the certificate
-before_last : (trees : List Tree) (lines : List CertLine) (line : CertLine) (c : Certificate) →
+pub before_last : (trees : List Tree) (lines : List CertLine) (line : CertLine) (c : Certificate) →
     lines_before trees (lines ++ line ∷ []) c ≡ lines_before trees lines (Next (line_in trees line) c)
 before_last trees [] line c = refl
 before_last trees (l ∷ ls) line c = ap (Next (line_in trees l)) (before_last trees ls line c)

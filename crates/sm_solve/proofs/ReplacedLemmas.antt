@@ -1,36 +1,37 @@
 -- A fact that says nothing is of no use to a certificate: what closes the branch closes each other
 -- branch on which another fact stands in its place.
-use Rattle.std.proofs.Common.{◌≡◌, ◌≢◌, ◌⊎◌, ℕ, zero, suc, ◌+◌, Bool, true, false, ◌&&◌, nat_eq, slice_get, Option, Some, None}
+use Rattle.std.proofs.Common.{◌≡◌, ◌≢◌, ◌⊎◌, ℕ, zero, suc, ◌+◌, Bool, true, false, ◌&&◌, nat_eq, slice_get, Option, Some, None, List, [], ◌∷◌, ◌++◌, length, inl, inr, refl, ap, sym, ◌∙◌, subst, arith, eq-eqb}
 use Rattle.std.specs.Prelude.{IsFalse}
-use Rattle.std.proofs.Common.{List, [], ◌∷◌, ◌++◌, length, inl, inr, refl, ap, sym, ◌∙◌, subst, arith, eq-eqb}
 use Rattle.std.proofs.lemmas.List.{length-append}
 use Rattle.std.proofs.lemmas.Bool.{and_parts, and_from, eqb-true}
 use Rattle.sm_syntax.specs.text.Sorts.{Sorts}
+use Rattle.sm_syntax.specs.declared.tree.Sort.TheVariants.{Num}
 use Rattle.sm_num.specs.Forms.{Linear}
 use Rattle.sm_num.specs.Tightening.{tightened}
 use Rattle.sm_term.specs.Terms.{Tree, Read}
 use Rattle.sm_term.specs.Assertions.{Assertion, Yes, Eq}
-use Rattle.sm_syntax.specs.declared.tree.Sort.TheVariants.{Num}
 use Rattle.sm_term.specs.Sorted.{tree_sort}
 use Rattle.sm_term.specs.SameTerms.{same_tree}
 use Rattle.sm_term.specs.Heads.{arguments_of, same_head}
 use Rattle.sm_theory.specs.Facts.{BranchFact, Formal, Sum, as_facts}
 use Rattle.sm_theory.specs.Named.{reads_all}
-use Rattle.sm_theory.specs.Lines.{CertificateLine, Both, Either, Cases, Order, Refl, Sym, Trans}
-use Rattle.sm_theory.specs.Lines.{Subst, Cong, Same, Apart, Hit, Miss, Lin, Elim, Tight, Close, Clash}
-use Rattle.sm_theory.specs.Lines.{followed, Sides, formula_in, form_in, equal_sides, unequal_sides, form_at, equation_at, contrary_at}
-use Rattle.sm_theory.specs.Equality.{formula_if, turned_equation, turned_contrary, or_other, chained, substituted}
-use Rattle.sm_theory.specs.Equality.{says_equal, say_equal, is_inhabited_list, equality_adds}
-use Rattle.sm_theory.specs.Elements.{Written, written_in, read_in, read_of_written}
+use Rattle.sm_theory.specs.Lines.{CertificateLine, Both, Either, Cases, Order, Refl, Sym, Trans, Subst, Cong, Same, Apart, Hit, Miss, Lin, Elim, Tight, Close, Clash, followed, Sides, formula_in, form_in, equal_sides, unequal_sides, form_at}
+use Rattle.sm_theory.specs.Lines.{equation_at, contrary_at}
+use Rattle.sm_theory.specs.Equality.{formula_if, turned_equation, turned_contrary, or_other, chained, substituted, says_equal, say_equal, is_inhabited_list, equality_adds}
+use Rattle.sm_theory.specs.Elements.{Written}
 use Rattle.sm_theory.specs.Arithmetic.{arithmetic_adds, form_of_comparison, cancelled}
 use Rattle.sm_theory.specs.Ways.{Ways, adding, closing_if, both_parts, either_part, ordered, cannot_hold, ways_with, adds}
 use Rattle.sm_theory.proofs.FactsLemmas.{Gives, followed_gives, gives_itself}
 use Rattle.sm_theory.proofs.EqualityLemmas.{says_moves, formula_if_moves}
-use Rattle.sm_cert.specs.declared.tree.CertTree.{CertTree}
 use Rattle.sm_cert.specs.Certificates.{Certificate, Next, Closed, Split, lines_in, in_one_way, in_no_way, in_two_ways, first_bad}
 use Rattle.sm_cert.specs.MovedTrees.{NamesWhatItReads}
 use Rattle.sm_cert.specs.Views.{certificate_in}
+use Rattle.sm_cert.specs.declared.tree.CertTree.{CertTree}
 use Rattle.sm_solve.specs.Walking.{ClosesIn}
+use Rattle.sm_cert.proofs.CertificateMoves.{both_none, parts_none}
+use Rattle.sm_theory.proofs.TheoriesLemmas.{first_alone}
+use Rattle.sm_theory.proofs.ElementsLemmas.{read_gives}
+use Rattle.sm_theory.proofs.WaysLemmas.{adding_gives, closing_gives}
 
 -- the second has what the first has, or the first says nothing
 abbrev MayGive : Option BranchFact → Option BranchFact → Type 0
@@ -99,20 +100,6 @@ third_passes a b c d passes h =
 first_passes : (a b c : Bool) → (a ≡ true → b ≡ true) → (a && c) ≡ true → (b && c) ≡ true
 first_passes a b c passes h = let p = and_parts a c h in and_from b c (passes p.0) p.1
 
--- what only the first can add
-first_alone : (o p : Option BranchFact) → Gives o p → Gives (or_other o None) (or_other p None)
-first_alone None p now k h = absurd cc
-first_alone (Some f) p now k h = subst (λ (q : Option BranchFact). or_other q None ≡ Some k) (sym (now f refl)) h
-
--- what is read of what was written
-reading : (t : Tree) (f g : Written → Tree → Option BranchFact) → ((w : Written) (j : Tree) → Gives (f w j) (g w j)) →
-    Gives (read_of_written t f) (read_of_written t g)
-reading t f g later =
-    followed_gives (read_in t) (read_in t) (λ (r : Tree × Tree). followed (written_in r.0) (λ (w : Written). f w r.1))
-    (λ (r : Tree × Tree). followed (written_in r.0) (λ (w : Written). g w r.1)) (gives_itself (read_in t))
-    (λ (r : Tree × Tree). followed_gives (written_in r.0) (written_in r.0) (λ (w : Written). f w r.1) (λ (w : Written). g w r.1)
-    (gives_itself (written_in r.0)) (λ (w : Written). later w r.1))
-
 -- what theories add of a line that doesn't read all facts they add on the other branch
 adds_there : (sorts : Sorts) (facts others : List BranchFact) (line : CertificateLine) → IsFalse (reads_all line) → Replaces facts others →
     Gives (adds sorts facts line) (adds sorts others line)
@@ -158,14 +145,14 @@ adds_there sorts facts others (Tight n) few same k h =
     at_number (λ (o : Option BranchFact).
     or_other (followed (followed o form_in) (λ (f : Linear Tree). Some (Sum (tightened f)))) None) facts others n same refl refl k h
 adds_there sorts facts others (Hit t n) few same k h =
-    reading t (λ (w : Written) (j : Tree). formula_if (says_equal (equation_at facts n) w.index j) (Eq Num t w.element))
+    read_gives t (λ (w : Written) (j : Tree). formula_if (says_equal (equation_at facts n) w.index j) (Eq Num t w.element))
     (λ (w : Written) (j : Tree). formula_if (says_equal (equation_at others n) w.index j) (Eq Num t w.element))
     (λ (w : Written) (j : Tree).
     formula_if_moves (says_equal (equation_at facts n) w.index j) (says_equal (equation_at others n) w.index j) (Eq Num t w.element)
     (says_moves (equation_at facts n) (equation_at others n) w.index j (equations facts others n same)))
     k h
 adds_there sorts facts others (Miss t u n) few same k h =
-    reading t
+    read_gives t
     (λ (w : Written) (j : Tree).
     formula_if (says_equal (contrary_at facts n) w.index j && same_tree u (Read w.before j)) (Eq Num t u))
     (λ (w : Written) (j : Tree).
@@ -177,16 +164,6 @@ adds_there sorts facts others (Miss t u n) few same k h =
     (says_moves (contrary_at facts n) (contrary_at others n) w.index j (contraries facts others n same))))
     k h
 adds_there sorts facts others line few same k h = absurd cc
-
--- what is added
-adding_there : (o p : Option BranchFact) → Gives o p → Gives (adding o) (adding p)
-adding_there None p now to h = absurd cc
-adding_there (Some k) p now to h = subst (λ (q : Option BranchFact). adding q ≡ Some to) (sym (now k refl)) h
-
--- a branch that is closed where a test is passed
-closing_there : (test other : Bool) → (test ≡ true → other ≡ true) → Gives (closing_if test) (closing_if other)
-closing_there true other passes to h = rw (passes refl) h
-closing_there false other passes to h = absurd cc
 
 -- the ways in which the other branch goes on are the same
 ways_there : (sorts : Sorts) (facts others : List BranchFact) (added other : Option BranchFact) (line : CertificateLine) →
@@ -205,10 +182,10 @@ ways_there sorts facts others added other (Clash i j) same now to h =
     (λ (s : Sides). closing_if (says_equal (contrary_at facts j) s.left s.right))
     (λ (s : Sides). closing_if (says_equal (contrary_at others j) s.left s.right)) (equations facts others i same)
     (λ (s : Sides).
-    closing_there (says_equal (contrary_at facts j) s.left s.right) (says_equal (contrary_at others j) s.left s.right)
+    closing_gives (says_equal (contrary_at facts j) s.left s.right) (says_equal (contrary_at others j) s.left s.right)
     (says_moves (contrary_at facts j) (contrary_at others j) s.left s.right (contraries facts others j same)))
     to h
-ways_there sorts facts others added other line same now to h = adding_there added other now to h
+ways_there sorts facts others added other line same now to h = adding_gives added other now to h
 
 -- facts behind both
 replaces_more : (facts others way : List BranchFact) → Replaces facts others → Replaces (facts ++ way) (others ++ way)
@@ -250,16 +227,6 @@ two_there (Some (way ∷ [])) w n next after same later e = absurd cc
 two_there (Some (way ∷ other ∷ [])) w n next after same later e =
     subst (λ (u : Ways). in_two_ways u n after ≡ None) (sym (same (way ∷ other ∷ []) refl)) (later way other e)
 two_there (Some (way ∷ other ∷ third ∷ rest)) w n next after same later e = absurd cc
-
--- no line of two parts is bad
-both_none : (o p : Option ℕ) → o ≡ None → p ≡ None → or_other o p ≡ None
-both_none None p e f = f
-both_none (Some n) p e f = absurd cc
-
--- the parts have no bad line
-parts_none : (o p : Option ℕ) → or_other o p ≡ None → (o ≡ None) × (p ≡ None)
-parts_none None p e = (refl, e)
-parts_none (Some n) p e = absurd cc
 
 -- a certificate without a bad line has none there
 first_there : (sorts : Sorts) (facts others : List BranchFact) (n : ℕ) (c : Certificate) → NamesWhatItReads c → Replaces facts others →

@@ -1,21 +1,19 @@
 -- What is given to the walk of an obligation, and what its end says under other numbers.
-use Rattle.std.proofs.Common.{◌≡◌, ℕ, zero, suc, ◌+◌, ◌<◌, nat_lt, Bool, true, false, List, [], ◌∷◌, ◌++◌, length, take}
-use Rattle.std.proofs.Common.{get_or}
-use Rattle.std.proofs.Common.{refl, sym, ap, subst, ◌∙◌, arith}
+use Rattle.std.proofs.Common.{◌≡◌, ℕ, ◌+◌, ◌<◌, nat_lt, Bool, true, false, List, [], ◌∷◌, ◌++◌, length, take, get_or, refl, sym, ap, subst, ◌∙◌, arith}
 use Rattle.std.proofs.lemmas.Bool.{ltb-true}
 use Rattle.std.proofs.lemmas.List.{map-append, take_more}
 use Rattle.sm_syntax.specs.text.Sorts.{Sorts}
-use Rattle.sm_term.specs.declared.formula.Formula.{Formula}
 use Rattle.sm_term.specs.Terms.{Tree}
 use Rattle.sm_term.specs.Assertions.{Assertion, negate}
 use Rattle.sm_term.specs.Sorted.{IsFormSorted, AreFormsSorted}
-use Rattle.sm_term.specs.Formulas.{NumberedFormula, Yes, No, Eq, Ne, Le, Lt, And, Or, numbered, contrary, assertion_in, IsFormulaWithin}
+use Rattle.sm_term.specs.Formulas.{NumberedFormula, numbered, contrary, assertion_in, IsFormulaWithin}
+use Rattle.sm_term.specs.declared.formula.Formula.{Formula}
 use Rattle.sm_term.proofs.FormulasLemmas.{contrary_negates}
 use Rattle.sm_theory.specs.Facts.{as_facts}
 use Rattle.sm_theory.specs.Ways.{adds}
-use Rattle.sm_cert.specs.declared.tree.CertTree.{CertTree}
 use Rattle.sm_cert.specs.Certificates.{Certificate, bad_line, splits_above}
 use Rattle.sm_cert.specs.Views.{certificate_in, lines_of, AreLinesWithin}
+use Rattle.sm_cert.specs.declared.tree.CertTree.{CertTree}
 use Rattle.sm_cert.proofs.TreeLemmas.{refused_flat}
 use Rattle.sm_solve.specs.declared.solving.Answer.{Answer}
 use Rattle.sm_solve.specs.declared.solving.Answer.TheVariants as answer
@@ -23,11 +21,12 @@ use Rattle.sm_solve.specs.Answers.{Certifies}
 use Rattle.sm_list.specs.Branches.{with_parts, terms_of}
 use Rattle.sm_certify.specs.Refutes.{Refutes}
 use Rattle.sm_list.specs.Parts.{all_numbered, assertions_in, AreFormulasWithin}
-use Rattle.sm_solve.specs.declared.reach.Reach.{Reach}
-use Rattle.sm_solve.specs.Walk.{walk_from}
+use Rattle.sm_solve.specs.Walk.{walk_from, Reach}
 use Rattle.sm_solve.specs.Walking.{ClosesIn, Shows}
 use Rattle.sm_list.proofs.PartsLemmas.{within-append}
-use Rattle.sm_solve.proofs.SortedLemmas.{sorted-append, sorted_with, sorted_contrary}
+use Rattle.sm_solve.proofs.SortedLemmas.{sorted_with}
+use Rattle.sm_term.proofs.FormsLemmas.{contrary_within}
+use Rattle.sm_term.proofs.SortedForms.{forms_append, negate_sorted}
 
 -- the facts and the contrary of the target
 pub given_is : (sorts : Sorts) (trees : List Tree) (facts list all : List Formula) (target other : Formula) →
@@ -44,16 +43,6 @@ given_is sorts trees facts list all target other are same against =
     ∙ map-append says (all_numbered facts) (contrary goal ∷ [])
     ∙ ap (λ (f : Assertion). assertions_in sorts trees (all_numbered facts) ++ f ∷ []) (contrary_negates sorts trees goal)
 
-pub within_contrary : (count : ℕ) (f : NumberedFormula) → IsFormulaWithin count f → IsFormulaWithin count (contrary f)
-within_contrary count Yes h = tt
-within_contrary count No h = tt
-within_contrary count (Eq t u) h = h
-within_contrary count (Ne t u) h = h
-within_contrary count (Le t u) h = (h.1, h.0)
-within_contrary count (Lt t u) h = (h.1, h.0)
-within_contrary count (And p q) h = (within_contrary count p h.0, within_contrary count q h.1)
-within_contrary count (Or p q) h = (within_contrary count p h.0, within_contrary count q h.1)
-
 pub given_within : (count : ℕ) (facts list all : List Formula) (target other : Formula) →
     all ≡ list ++ other ∷ [] → all_numbered list ≡ all_numbered facts → numbered other ≡ contrary (numbered target) →
     AreFormulasWithin count (all_numbered facts) → IsFormulaWithin count (numbered target) → AreFormulasWithin count (all_numbered all)
@@ -63,13 +52,13 @@ given_within count facts list all target other are same against within one =
     ∙ ap (λ (fs : List NumberedFormula). fs ++ numbered other ∷ []) same
     ∙ ap (λ (f : NumberedFormula). all_numbered facts ++ f ∷ []) against in
     subst (AreFormulasWithin count) (sym whole)
-    (within-append count (all_numbered facts) (contrary (numbered target) ∷ []) within (within_contrary count (numbered target) one, tt))
+    (within-append count (all_numbered facts) (contrary (numbered target) ∷ []) within (contrary_within count (numbered target) one, tt))
 
 -- they are sorted with all their parts
 pub given_sorted : (sorts : Sorts) (facts : List Assertion) (goal : Assertion) → AreFormsSorted sorts facts → IsFormSorted sorts goal →
     AreFormsSorted sorts (with_parts (facts ++ negate goal ∷ []))
 given_sorted sorts facts goal h k =
-    sorted_with sorts (facts ++ negate goal ∷ []) (sorted-append sorts facts (negate goal ∷ []) h (sorted_contrary sorts goal k, tt))
+    sorted_with sorts (facts ++ negate goal ∷ []) (forms_append sorts facts (negate goal ∷ []) h (negate_sorted sorts goal k, tt))
 
 -- the walk over the terms of the facts alone
 pub walk_own : (sorts own : Sorts) (trees : List Tree) (reach : Reach) (facts all given : List Assertion) → own ≡ sorts → trees ≡ terms_of all →
@@ -107,13 +96,6 @@ shows_certify sorts trees facts goal (answer.Closed tree) shows =
 shows_certify sorts trees facts goal (answer.Open leaf) shows = tt
 shows_certify sorts trees facts goal answer.Steps shows = tt
 shows_certify sorts trees facts goal (answer.Coefficient op y z) shows = tt
-
--- a formula at a place is within
-pub item_within : (count : ℕ) (facts : List Formula) (n : ℕ) (f : Formula) → n < length facts → f ≡ get_or facts n f →
-    AreFormulasWithin count (all_numbered facts) → IsFormulaWithin count (numbered f)
-item_within count [] n f less is all = absurd (omega arith)
-item_within count (g ∷ fs) zero f less is all = subst (λ (h : Formula). IsFormulaWithin count (numbered h)) (sym is) all.0
-item_within count (g ∷ fs) (suc n) f less is all = item_within count fs n f (omega arith) is all.1
 
 -- one formula more under other numbers
 pub renumbered_more : (sorts : Sorts) (trees others : List Tree) (facts list now : List Formula) (n : ℕ) (f g : Formula) →

@@ -2,7 +2,7 @@
 use Rattle.std.proofs.Common.{◌≡◌, ℕ, zero, suc, Option, Some, None, List, [], ◌∷◌, ◌++◌, map, length}
 use Rattle.sm_syntax.specs.text.Sorts.{Sorts}
 use Rattle.sm_term.specs.Terms.{Tree}
-use Rattle.sm_term.specs.Assertions.{Assertion, Yes, No, Eq, Ne, Le, Lt, And, Or, negate}
+use Rattle.sm_term.specs.Assertions.{Assertion, Yes, No, Eq, Ne, Le, Lt, And, Or}
 use Rattle.sm_term.specs.Formulas.{numbered, assertion_in}
 use Rattle.sm_term.specs.Sorted.{IsFormSorted, AreFormsSorted}
 use Rattle.sm_term.specs.TableLaws.{AreTreesSorted}
@@ -17,12 +17,8 @@ use Rattle.sm_cert.proofs.CheckLemmas.{line_sorted}
 use Rattle.sm_judge.specs.declared.closing.BranchSplit.{BranchSplit}
 use Rattle.sm_list.specs.Branches.{greatest_of, depth_of, parts_of, parts_of_all, taken_apart, with_parts}
 use Rattle.sm_judge.specs.Splits.{IsToldWithin, SplitsBranch}
-
--- formulas with others
-pub sorted-append : (sorts : Sorts) (fs gs : List Assertion) → AreFormsSorted sorts fs → AreFormsSorted sorts gs →
-    AreFormsSorted sorts (fs ++ gs)
-sorted-append sorts [] gs h k = k
-sorted-append sorts (f ∷ fs) gs h k = (h.0, sorted-append sorts fs gs h.1 k)
+use Rattle.sm_term.proofs.SortedForms.{forms_append}
+use Rattle.sm_theory.proofs.SortedFacts.{as_facts_sorted}
 
 sorted_part : (sorts : Sorts) (f : Assertion) → IsFormSorted sorts f → AreFormsSorted sorts (parts_of f)
 sorted_part sorts (And p q) h = (h.0, (h.1, tt))
@@ -36,11 +32,11 @@ sorted_part sorts (Or p q) h = tt
 
 sorted_parts : (sorts : Sorts) (fs : List Assertion) → AreFormsSorted sorts fs → AreFormsSorted sorts (parts_of_all fs)
 sorted_parts sorts [] h = tt
-sorted_parts sorts (f ∷ fs) h = sorted-append sorts (parts_of f) (parts_of_all fs) (sorted_part sorts f h.0) (sorted_parts sorts fs h.1)
+sorted_parts sorts (f ∷ fs) h = forms_append sorts (parts_of f) (parts_of_all fs) (sorted_part sorts f h.0) (sorted_parts sorts fs h.1)
 
 sorted_apart : (sorts : Sorts) (n : ℕ) (fs : List Assertion) → AreFormsSorted sorts fs → AreFormsSorted sorts (taken_apart n fs)
 sorted_apart sorts zero fs h = h
-sorted_apart sorts (suc n) fs h = sorted-append sorts fs (taken_apart n (parts_of_all fs)) h
+sorted_apart sorts (suc n) fs h = forms_append sorts fs (taken_apart n (parts_of_all fs)) h
     (sorted_apart sorts n (parts_of_all fs) (sorted_parts sorts fs h))
 
 pub sorted_with : (sorts : Sorts) (fs : List Assertion) → AreFormsSorted sorts fs → AreFormsSorted sorts (with_parts fs)
@@ -49,23 +45,7 @@ sorted_with sorts fs h = sorted_apart sorts (greatest_of (map depth_of fs)) fs h
 -- with one more formula and its parts
 pub sorted_more : (sorts : Sorts) (fs : List Assertion) (f : Assertion) → AreFormsSorted sorts fs → IsFormSorted sorts f →
     AreFormsSorted sorts (fs ++ with_parts (f ∷ []))
-sorted_more sorts fs f h k = sorted-append sorts fs (with_parts (f ∷ [])) h (sorted_with sorts (f ∷ []) (k, tt))
-
--- the contrary of a formula
-pub sorted_contrary : (sorts : Sorts) (f : Assertion) → IsFormSorted sorts f → IsFormSorted sorts (negate f)
-sorted_contrary sorts Yes h = tt
-sorted_contrary sorts No h = tt
-sorted_contrary sorts (Eq sort t u) h = h
-sorted_contrary sorts (Ne sort t u) h = h
-sorted_contrary sorts (Le t u) h = (h.1, h.0)
-sorted_contrary sorts (Lt t u) h = (h.1, h.0)
-sorted_contrary sorts (And p q) h = (sorted_contrary sorts p h.0, sorted_contrary sorts q h.1)
-sorted_contrary sorts (Or p q) h = (sorted_contrary sorts p h.0, sorted_contrary sorts q h.1)
-
--- formulas as facts
-facts_sorted : (sorts : Sorts) (fs : List Assertion) → AreFormsSorted sorts fs → AreFactsSorted sorts (as_facts fs)
-facts_sorted sorts [] h = tt
-facts_sorted sorts (f ∷ fs) h = (h.0, facts_sorted sorts fs h.1)
+sorted_more sorts fs f h k = forms_append sorts fs (with_parts (f ∷ [])) h (sorted_with sorts (f ∷ []) (k, tt))
 
 -- the ways of a split
 abbrev two : Assertion → Assertion → List (List BranchFact)
@@ -103,4 +83,4 @@ pub told_sorted : (sorts : Sorts) (trees : List Tree) (facts : List Assertion) (
 told_sorted sorts trees facts split terms within splits all =
     split_sorted sorts (as_facts facts) (adds sorts (as_facts facts) (line_in trees split.line)) (line_in trees split.line)
     (assertion_in sorts trees (numbered split.first)) (assertion_in sorts trees (numbered split.second))
-    (facts_sorted sorts facts all) (line_sorted sorts trees split.line terms within.0) splits
+    (as_facts_sorted sorts facts all) (line_sorted sorts trees split.line terms within.0) splits

@@ -1,22 +1,21 @@
 -- The walk from a branch, by its visits and its parts.
-use Rattle.std.proofs.Common.{◌≡◌, ℕ, zero, suc, ◌+◌, ◌-◌, ◌<◌, max, Bool, true, false, if◌then◌else◌, Option, Some, None}
-use Rattle.std.proofs.Common.{List, [], ◌∷◌, ◌++◌, length, take, drop, refl, sym, ap, subst, ◌∙◌, arith}
+use Rattle.std.proofs.Common.{◌≡◌, ℕ, zero, suc, ◌+◌, ◌-◌, ◌<◌, max, Bool, true, false, if◌then◌else◌, Option, Some, None, List, [], ◌∷◌, ◌++◌, length, take, drop, refl, sym, ap, subst, ◌∙◌, arith}
 use Rattle.std.proofs.lemmas.Bool.{lt-ltb}
-use Rattle.std.proofs.lemmas.List.{length-map, drop-map}
+use Rattle.std.proofs.lemmas.List.{drop-map}
 use Rattle.sm_syntax.specs.text.Sorts.{Sorts}
-use Rattle.sm_term.specs.declared.formula.Formula.{Formula}
 use Rattle.sm_term.specs.Terms.{Tree}
 use Rattle.sm_term.specs.Assertions.{Assertion}
 use Rattle.sm_term.specs.Formulas.{numbered, assertion_in}
-use Rattle.sm_theory.specs.declared.line.CertLine.{CertLine}
+use Rattle.sm_term.specs.declared.formula.Formula.{Formula}
 use Rattle.sm_theory.specs.Facts.{as_facts}
 use Rattle.sm_theory.specs.Views.{line_in}
+use Rattle.sm_theory.specs.declared.line.CertLine.{CertLine}
 use Rattle.sm_theory.specs.Ways.{ways, splitting}
 use Rattle.sm_pairs.specs.Longer.{IsLonger}
-use Rattle.sm_cert.specs.declared.tree.CertTree.{CertTree}
 use Rattle.sm_cert.specs.Certificates as tree
 use Rattle.sm_cert.specs.Certificates.{splits_above}
 use Rattle.sm_cert.specs.Views.{certificate_in, lines_of, AreLinesWithin}
+use Rattle.sm_cert.specs.declared.tree.CertTree.{CertTree}
 use Rattle.sm_judge.specs.declared.closing.BranchSplit.{BranchSplit}
 use Rattle.sm_list.specs.Branches.{with_parts}
 use Rattle.sm_certify.specs.Refutes.{Refutes}
@@ -25,9 +24,7 @@ use Rattle.sm_certify.specs.Given.{seen_by}
 use Rattle.sm_solve.specs.Leading.{both_lines, led_by}
 use Rattle.sm_list.specs.Parts.{all_numbered, assertions_in}
 use Rattle.sm_judge.specs.Forms.{Walked, Closes, TooFar, counted, by_forms, forms_of}
-use Rattle.sm_solve.specs.declared.reach.Reach.{Reach}
-use Rattle.sm_solve.specs.Walk.{by_classes, by_no_split, by_parts}
-use Rattle.sm_solve.specs.Walk.{walk_from}
+use Rattle.sm_solve.specs.Walk.{by_classes, by_no_split, by_parts, walk_from, Reach}
 use Rattle.sm_judge.specs.Splits.{split_told}
 use Rattle.sm_solve.specs.Walking.{ClosesIn, by_split}
 use Rattle.sm_solve.proofs.LeadingLemmas.{both_refutes, split_refutes, led_splits}
@@ -147,7 +144,3 @@ module _ (go : ℕ → List Assertion → Walked) (reach : Reach) (all : List As
     (o : Option BranchSplit) (seen : s ≡ seen_by sorts trees all) (is : o ≡ None) (told : split_told sorts trees o ≡ split_of s) where
   abbrev here : Seen
   here = seen_by sorts trees all
-
--- as many formulas
-pub as_many : (sorts : Sorts) (trees : List Tree) (fs : List Formula) → length (assertions_in sorts trees (all_numbered fs)) ≡ length fs
-as_many sorts trees fs = length-map (all_numbered fs) (assertion_in sorts trees) ∙ length-map fs numbered

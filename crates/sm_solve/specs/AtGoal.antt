@@ -3,11 +3,11 @@ use Rattle.std.specs.Prelude.{◌≡◌, ◌⊎◌, ◌+◌, ◌<◌, IfSome, Li
 use Rattle.std.specs.List.{range_with_len}
 use Rattle.sm_term.specs.declared.formula.Formula.{Formula}
 use Rattle.sm_term.specs.declared.formula.Formula.TheVariants as tree
-use Rattle.sm_term.specs.declared.term.TermId.{TermId}
 use Rattle.sm_term.specs.Assertions.{Assertion, Yes}
 use Rattle.sm_term.specs.Sorted.{AreFormsSorted, IsFormSorted}
 use Rattle.sm_term.specs.Terms.{Tree}
 use Rattle.sm_term.specs.Tables.{TableValue, trees_in, sorts_in, codes_in}
+use Rattle.sm_term.specs.declared.term.TermId.{TermId}
 use Rattle.sm_solve.specs.declared.fact_base.FactBase.{FactBase}
 use Rattle.sm_judge.specs.AllForms.{AreAllForms}
 use Rattle.sm_certify.specs.Bases.{IsFrom}

@@ -1,16 +1,15 @@
 -- Cited by public clauses: the facts of a node, whose terms and classes its goals share.
 use Rattle.std.specs.Prelude.{◌≡◌, IfSome, List, [], ◌∷◌, ◌++◌, length}
 use Rattle.std.specs.List.{range_with_len}
-use Rattle.sm_term.specs.declared.term.TermId.{TermId}
 use Rattle.sm_term.specs.Assertions.{Assertion, Yes}
 use Rattle.sm_term.specs.Sorted.{AreFormsSorted}
 use Rattle.sm_term.specs.Tables.{TableValue, trees_in, sorts_in, codes_in}
+use Rattle.sm_term.specs.declared.term.TermId.{TermId}
 use Rattle.sm_solve.specs.declared.fact_base.FactBase.{FactBase}
 use Rattle.sm_judge.specs.AllForms.{AreAllForms}
 use Rattle.sm_certify.specs.Bases.{IsFrom}
 use Rattle.sm_theory.specs.TermsOfFormulas.{with_formulas}
-use Rattle.sm_list.specs.Branches.{with_parts}
-use Rattle.sm_list.specs.Branches.{terms_of}
+use Rattle.sm_list.specs.Branches.{with_parts, terms_of}
 use Rattle.sm_certify.specs.Given.{IsWhole, classes_by}
 use Rattle.sm_terms.specs.Listing.{numbers_of}
 use Rattle.sm_list.specs.Parts.{all_numbered, assertions_in, AreFormulasWithin}

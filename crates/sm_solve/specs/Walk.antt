@@ -1,7 +1,5 @@
 -- Cited by public clauses: the walk over the branches of an obligation, with what it counts.
-use Rattle.std.specs.Prelude.{ℕ, zero, suc, ◌+◌, ◌-◌, min}
-use Rattle.std.specs.Prelude.{if◌then◌else◌}
-use Rattle.std.specs.Prelude.{Option, Some, None, List, [], ◌∷◌, ◌++◌, length}
+use Rattle.std.specs.Prelude.{ℕ, zero, suc, ◌+◌, ◌-◌, min, if◌then◌else◌, Option, Some, None, List, [], ◌∷◌, ◌++◌, length}
 use Rattle.sm_syntax.specs.text.Sorts.{Sorts}
 use Rattle.sm_num.specs.Forms.{Linear}
 use Rattle.sm_num.specs.Combining.{Outcome, Fits, Leaves}
@@ -13,9 +11,8 @@ use Rattle.sm_term.specs.Assertions.{Assertion, negate}
 use Rattle.sm_list.specs.Branches.{with_parts, terms_of}
 use Rattle.sm_judge.specs.Holding.{Seen, is_closed, Split, split_of}
 use Rattle.sm_certify.specs.Given.{seen_by}
-use Rattle.sm_judge.specs.Forms.{Walked, Closes, Opens, TooFar, GoesOut, forms_of, counted}
-use Rattle.sm_judge.specs.Forms.{by_forms}
-use Rattle.sm_solve.specs.declared.reach.Reach.{Reach}
+use Rattle.sm_judge.specs.Forms.{Walked, Closes, Opens, TooFar, GoesOut, forms_of, counted, by_forms}
+pub use Rattle.sm_solve.specs.declared.reach.Reach.{Reach}
 
 -- the walk goes on where it closes
 abbrev pub then_walk : Walked → (ℕ → Walked) → Walked

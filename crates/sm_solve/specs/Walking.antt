@@ -4,9 +4,9 @@ use Rattle.sm_syntax.specs.text.Sorts.{Sorts}
 use Rattle.sm_term.specs.Terms.{Tree}
 use Rattle.sm_term.specs.Assertions.{Assertion}
 use Rattle.sm_theory.specs.Facts.{as_facts}
-use Rattle.sm_cert.specs.declared.tree.CertTree.{CertTree}
 use Rattle.sm_cert.specs.Certificates.{splits_above}
 use Rattle.sm_cert.specs.Views.{certificate_in, lines_of, AreLinesWithin}
+use Rattle.sm_cert.specs.declared.tree.CertTree.{CertTree}
 use Rattle.sm_solve.specs.declared.visiting.Visit.{Visit}
 use Rattle.sm_solve.specs.declared.visiting.Visit.TheVariants as visit
 use Rattle.sm_solve.specs.declared.ending.WalkEnd.{WalkEnd}

@@ -1,6 +1,5 @@
 // The goals of a node, which share the terms and the classes of its facts.
-ghost use Rattle.std.specs.Prelude.{◌≡◌, true, false, List, length};
-ghost use Rattle.std.specs.Prelude.{IfOk, OnErr, IfSome, IfNone};
+ghost use Rattle.std.specs.Prelude.{◌≡◌, true, false, List, length, IfOk, OnErr, IfSome, IfNone};
 ghost use Rattle.sm_syntax.specs.text.Sorts.{Sorts};
 ghost use Rattle.sm_term.specs.Assertions.{Assertion};
 ghost use Rattle.sm_term.specs.Formulas.{numbered, assertion_in, IsFormulaWithin};

@@ -1,6 +1,5 @@
 // Whether the forms of a branch are those that are known.
-ghost use Rattle.std.specs.Prelude.{◌≡◌, ◌<◌, true, length};
-ghost use Rattle.std.specs.Prelude.{IfOk};
+ghost use Rattle.std.specs.Prelude.{◌≡◌, ◌<◌, true, length, IfOk};
 ghost use Rattle.sm_num.specs.Combining.{Fits};
 ghost use Rattle.sm_term.specs.Tables.{trees_in, sorts_in};
 ghost use Rattle.sm_pairs.specs.Pairs.{Pairs};

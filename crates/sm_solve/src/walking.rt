@@ -14,8 +14,7 @@ ghost use Rattle.sm_judge.specs.Splits.{split_told, IsToldWithin, SplitsBranch};
 ghost use Rattle.sm_judge.specs.Forms.{Walked};
 ghost use Rattle.sm_solve.specs.Naming.{AreNamed, NamesNoMore, NameNoMore};
 ghost use Rattle.sm_solve.specs.Walk.{walk_from};
-ghost use Rattle.sm_solve.specs.Walking.{by_split, TellsVisit, ShowsVisit, IsVisitCounted};
-ghost use Rattle.sm_solve.specs.Walking.{TellsEnd, ShowsEnd, IsEndCounted};
+ghost use Rattle.sm_solve.specs.Walking.{by_split, TellsVisit, ShowsVisit, IsVisitCounted, TellsEnd, ShowsEnd, IsEndCounted};
 
 use crate::branching::copy_facts;
 use crate::context::WalkContext;

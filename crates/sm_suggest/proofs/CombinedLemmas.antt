@@ -9,8 +9,8 @@ use Rattle.sm_syntax.specs.text.Conditions.{holes_of}
 use Rattle.sm_syntax.specs.text.Parts.{Parts}
 use Rattle.sm_syntax.specs.trees.Programs.{fillings_of}
 use Rattle.sm_syntax.specs.trees.Views.{condition_of, code_of}
-use Rattle.sm_text.specs.declared.task.Task.{Task}
 use Rattle.sm_text.specs.Tasks.{ProgramParts, program_parts, lists_of, parts_of}
+use Rattle.sm_text.specs.declared.task.Task.{Task}
 use Rattle.sm_suggest.specs.Combinations.{choices, chosen, hole_count, combination}
 
 -- a filling, as what it stands for

@@ -5,8 +5,8 @@ use Rattle.std.specs.Borrow.{Bor}
 use Rattle.std.specs.Fn.{Shared}
 use Rattle.std.specs.declared.alloc.AllocError.{AllocError}
 use Rattle.sm_syntax.specs.text.Parts.{Parts}
-use Rattle.sm_text.specs.declared.task.Task.{Task}
 use Rattle.sm_text.specs.Tasks.{parts_of}
+use Rattle.sm_text.specs.declared.task.Task.{Task}
 use Rattle.sm_suggest.specs.First.{MayAnswer}
 
 -- what a call gave is what the decision may answer

@@ -1,6 +1,5 @@
 -- Each combination of a task that is fit is fit.
-use Rattle.std.proofs.Common.{◌≡◌, ◌⊎◌, inl, inr, ℕ, ◌==◌, Bool, true, false, if◌then◌else◌, Option, Some, None}
-use Rattle.std.proofs.Common.{List, [], ◌∷◌, refl, sym, ap, subst, arith}
+use Rattle.std.proofs.Common.{◌≡◌, ◌⊎◌, inl, inr, ℕ, ◌==◌, Bool, true, false, if◌then◌else◌, Option, Some, None, List, [], ◌∷◌, refl, sym, ap, subst, arith}
 use Rattle.std.proofs.lemmas.Bool.Decides.{nat_tests}
 use Rattle.std.specs.List.{AllByRecursion}
 use Rattle.std.specs.Option.{option_or}
@@ -8,17 +7,18 @@ use Rattle.sm_syntax.proofs.EachUse.{well_sorted_is_all}
 use Rattle.sm_syntax.specs.claim.ConflictFree.{Copy, O, A, B, M, program_of}
 use Rattle.sm_syntax.specs.claim.Fill.{Fillings, filling, fill}
 use Rattle.sm_syntax.specs.claim.Syntax.{Code, End, Skip, Assign, Write, If, While, Hole, append}
-use Rattle.sm_syntax.specs.declared.tree.Sort.{Sort}
-use Rattle.sm_syntax.specs.declared.tree.Sort.TheVariants.{Num, Arr}
-use Rattle.sm_syntax.specs.text.Conditions.{Refusal, first_of_lists, first_sort_fault, sort_refusal, holes_of}
+use Rattle.sm_syntax.specs.text.Conditions.{Refusal, first_sort_fault, sort_refusal, holes_of}
 use Rattle.sm_syntax.specs.text.Parts.{Parts, sort_of, task_of}
 use Rattle.sm_syntax.specs.text.Sorts.{Sorts, IsAsDeclared, IsWellSorted}
+use Rattle.sm_syntax.specs.declared.tree.Sort.{Sort}
+use Rattle.sm_syntax.specs.declared.tree.Sort.TheVariants.{Num, Arr}
 use Rattle.sm_syntax.specs.text.Uses.{names_used, EachUsed}
 use Rattle.sm_replay.specs.Sorted.{names_assumed, sort_fault}
 use Rattle.sm_moves.specs.CodeShapes.{has_hole}
 use Rattle.sm_suggest.specs.Combinations.{choices, chosen, hole_count, combination}
 use Rattle.sm_suggest.specs.Fit.{IsFit}
 use Rattle.sm_suggest.specs.Laws.{CombinationsAreFit}
+use Rattle.sm_syntax.proofs.Refusals.{none_of_lists}
 
 -- for each hole a list has what some copy has for it, or nothing
 abbrev IsMix : (Copy → Fillings) → Fillings → Type 0
@@ -121,10 +121,6 @@ none_refused sorts (u ∷ uses) all = rw (all.0, not_refused u.1 u.0) (none_refu
 code_free : (sorts : Sorts) (c : Code) → IsWellSorted sorts c → first_sort_fault sorts (names_used c) ≡ None
 code_free sorts c sorted = none_refused sorts (names_used c) ((well_sorted_is_all sorts c).0 sorted)
 
--- no fault of the four copies where each has none
-none_each : (f : Copy → Option Refusal) → ((c : Copy) → f c ≡ None) → first_of_lists f ≡ None
-none_each f none = rw (none O, none A, none B, none M)
-
 -- the first of two faults is none
 first_none : (a b : Option Refusal) → option_or a b ≡ None → a ≡ None
 first_none None b none = refl
@@ -143,7 +139,7 @@ runs_by_parts t assumed sorted =
     let names = λ (c : Copy). first_sort_fault (sort_of t.declared) (names_used (program_of (task_of t) c)) in
     let each : (c : Copy) → names c ≡ None =
     λ (c : Copy). code_free (sort_of t.declared) (program_of (task_of t) c) (sorted c) in
-    rw (assumed, none_each names each)
+    rw (assumed, none_of_lists names each)
 
 -- the programs of a combination are well sorted
 programs_sorted : (t : Parts) (k : ℕ) → IsFit t → (c : Copy)

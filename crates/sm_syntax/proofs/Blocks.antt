@@ -3,11 +3,9 @@ use Rattle.std.proofs.Common.{◌≡◌, ℕ, ◌+◌, ◌<◌, ◌≤◌, List,
 use Rattle.std.proofs.Math.ListN.{drop_of_length-le}
 use Rattle.std.proofs.lemmas.List.{get_or-map, length-map}
 use Rattle.std.proofs.Math.Path.{fun_ext}
-use Rattle.sm_syntax.specs.declared.tree.Block.{Block, fold_out-Block}
-use Rattle.sm_syntax.specs.declared.tree.Stmt.{Stmt, Stmt-F, fold_out-Stmt}
 use Rattle.sm_syntax.specs.declared.tree.Stmt.TheOpen as layer
 use Rattle.sm_syntax.specs.claim.Syntax.{Code, End, Skip, Assign, Write, If, While, Hole, append}
-use Rattle.sm_syntax.specs.trees.Views.{sequence, statement_of, code_of, statement_layer, block_layer}
+use Rattle.sm_syntax.specs.trees.Views.{sequence, statement_of, code_of, statement_layer, block_layer, Stmt, Stmt-F, fold_out-Stmt, Block, fold_out-Block}
 use Rattle.sm_syntax.proofs.Appends.{append_assoc}
 
 -- the code of a block is its statements one after the other

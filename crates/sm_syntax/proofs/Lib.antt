@@ -10,3 +10,6 @@ pub mod Repeats
 pub mod Kept
 pub mod Numbering
 pub mod EachUse
+pub mod Assumed
+pub mod Refusals
+pub mod EachCopy

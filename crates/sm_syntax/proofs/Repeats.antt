@@ -5,10 +5,9 @@ use Rattle.std.proofs.lemmas.Grind.{common_steps}
 use Rattle.std.specs.Map.{lookup}
 use Rattle.std.specs.Option.{option_or}
 use Rattle.sm_syntax.specs.declared.tree.Name.{Name}
-use Rattle.sm_syntax.specs.declared.tree.Sort.{Sort}
 use Rattle.sm_syntax.specs.text.Conditions.{Refusal, is_in, first_repeated, first_output_fault, output_refusal, DoubleName}
 use Rattle.sm_syntax.specs.text.Parts.{sort_of}
-use Rattle.sm_syntax.specs.text.Sorts.{Sorts}
+use Rattle.sm_syntax.specs.text.Sorts.{Sorts, Sort}
 
 -- declarations and names, as numbers
 abbrev pub sorted_numbers : List (Name × Sort) → List (ℕ × Sort)

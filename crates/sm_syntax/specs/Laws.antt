@@ -1,13 +1,12 @@
 -- Laws of runs and of merges, each for all programs and stores. Public clauses cite them.
 use Rattle.std.specs.Prelude.{◌≡◌, ◌≢◌, ◌≤◌, ◌↔◌, ℕ, ℤ, false, Some}
 use Rattle.std.specs.List.{AllByRecursion}
-use Rattle.sm_syntax.specs.declared.tree.Sort.{Sort}
 use Rattle.sm_syntax.specs.claim.Syntax.{Code, append}
 use Rattle.sm_syntax.specs.claim.Stores.{Store}
 use Rattle.sm_syntax.specs.claim.Meaning.{and_then, run}
 use Rattle.sm_syntax.specs.Assigns.{assigns}
 use Rattle.sm_syntax.specs.claim.Keeps.{Keeps}
-use Rattle.sm_syntax.specs.text.Sorts.{Sorts, IsAsDeclared, IsWellSorted}
+use Rattle.sm_syntax.specs.text.Sorts.{Sorts, IsAsDeclared, IsWellSorted, Sort}
 use Rattle.sm_syntax.specs.text.Uses.{names_used}
 
 -- a run that ends under a bound on turns ends in the same store under each greater bound

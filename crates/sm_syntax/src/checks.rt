@@ -1,8 +1,7 @@
 // Whether a program and a condition are well formed.
 ghost use Rattle.std.specs.Prelude.{◌≡◌, ◌++◌, [], ◌∷◌, nat_eq, IfOk, IfErr};
 ghost use Rattle.std.specs.HashMap.{get};
-ghost use Rattle.sm_syntax.specs.text.Conditions.{double_name, first_output_fault, size_fault};
-ghost use Rattle.sm_syntax.specs.text.Conditions.{program_fault, ill_assumed, first_sort_fault};
+ghost use Rattle.sm_syntax.specs.text.Conditions.{double_name, first_output_fault, size_fault, program_fault, ill_assumed, first_sort_fault};
 ghost use Rattle.sm_syntax.specs.text.Uses.{names_in, names_tested, names_used};
 ghost use Rattle.sm_syntax.specs.trees.Faults.{Reports};
 ghost use Rattle.sm_syntax.specs.text.Parts.{sort_of};

@@ -1,6 +1,5 @@
 // Laws of runs and of merges, as contracts.
-ghost use Rattle.sm_syntax.specs.Laws.{MoreTurns, RunOfAppended, UnassignedStays, KeepsExactly};
-ghost use Rattle.sm_syntax.specs.Laws.{WellSortedIsAll};
+ghost use Rattle.sm_syntax.specs.Laws.{MoreTurns, RunOfAppended, UnassignedStays, KeepsExactly, WellSortedIsAll};
 
 /// A greater bound on the turns of loops changes no end.
 #[tactic(auto, using(crate::proofs::Turns::more_turns))]

@@ -1,7 +1,6 @@
 // How large and how deep programs are. Each count stops at the greatest `u64`.
 ghost use Rattle.std.specs.Prelude.{◌≡◌, ◌+◌, ◌-◌, ◌^◌, max, min};
-ghost use Rattle.sm_syntax.specs.text.Conditions.{expression_nodes, condition_nodes, code_nodes};
-ghost use Rattle.sm_syntax.specs.text.Conditions.{expression_depth, condition_depth, code_depth};
+ghost use Rattle.sm_syntax.specs.text.Conditions.{expression_nodes, condition_nodes, code_nodes, expression_depth, condition_depth, code_depth};
 ghost use Rattle.sm_syntax.specs.claim.Syntax.{End};
 ghost use Rattle.sm_syntax.specs.trees.Views.{expression_of, condition_of, statement_of, code_of};
 

@@ -1,6 +1,5 @@
 // The table of names.
-ghost use Rattle.std.specs.Prelude.{◌≡◌, ◌<◌, ◌-◌, ◌^◌, length, is_some, slice_get, take, Some, []};
-ghost use Rattle.std.specs.Prelude.{List, ℕ, IfOk, IfSome, OnOk, OnErr};
+ghost use Rattle.std.specs.Prelude.{◌≡◌, ◌<◌, ◌-◌, ◌^◌, length, is_some, slice_get, take, Some, [], List, ℕ, IfOk, IfSome, OnOk, OnErr};
 ghost use Rattle.std.specs.List.{position_or_len};
 ghost use Rattle.std.specs.Str.{bytes_eq};
 ghost use Rattle.sm_syntax.specs.text.Symbols.{is_among, with_text};

@@ -4,14 +4,13 @@ use Rattle.std.specs.Prelude.{◌≢◌, IfErr}
 use Rattle.sm_syntax.specs.text.Conditions.{Refusal, first_refusal}
 use Rattle.sm_syntax.specs.text.Parts.{Parts}
 use Rattle.sm_syntax.specs.text.Spells.{IsInGrammar}
-use Rattle.sm_text.specs.declared.error.TextError.{TextError}
 use Rattle.sm_text.specs.declared.error.TextError.TheVariants as text
 use Rattle.sm_text.specs.parsing.Places.{AreTasks, IsFirstFault, IsRefusal}
+use Rattle.sm_text.specs.declared.error.TextError.{TextError}
 use Rattle.sm_text.specs.parsing.Places.Sources.{whole_text}
-use Rattle.sm_task.specs.declared.error.TaskError.{TaskError}
 use Rattle.sm_task.specs.declared.error.TaskError.TheVariants as error
 use Rattle.sm_text.specs.declared.task.Task.{Task}
-use Rattle.sm_task.specs.Errors.{error_of, from_text, IsRefusedBy, IsRefusedWith, IsReadAs, IsRefusedAs}
+use Rattle.sm_task.specs.Errors.{error_of, from_text, IsRefusedBy, IsRefusedWith, IsReadAs, IsRefusedAs, TaskError}
 
 -- an error of the conditions is that of the first that fails
 abbrev pub Names : Option Refusal → TaskError → Type 0
@@ -72,7 +71,7 @@ refused-fails t u r result e p same some n =
     rw (p.1, p.2) (λ (other : e ≢ error.Memory). some_error (error_of r) e
     (sym (ap (option_map error_of) (ap first_refusal same ∙ some)) ∙ n other))
 
-none_refusal : (r : Refusal) → (let o : Option Refusal = None in o) ≡ Some r → ⊥
+pub none_refusal : (r : Refusal) → (let o : Option Refusal = None in o) ≡ Some r → ⊥
 none_refusal r e = cc
 
 -- where all conditions were met, none fails

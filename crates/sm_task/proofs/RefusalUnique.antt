@@ -1,5 +1,5 @@
 -- A text is refused with at most one error, and with none where it spells a task.
-use Rattle.std.proofs.Common.{◌≡◌, inl, inr, sym, ap, ◌∙◌, Option, Some, None}
+use Rattle.std.proofs.Common.{◌≡◌, inl, inr, sym, ap, ◌∙◌, Some}
 use Rattle.sm_syntax.specs.text.Conditions.{Refusal, first_refusal}
 use Rattle.sm_text.proofs.Complete.Tasks as text
 use Rattle.sm_text.proofs.FirstFault.Faultless.{no_fault_in_grammar}
@@ -8,12 +8,10 @@ use Rattle.sm_text.specs.parsing.Places.{AreTasks}
 use Rattle.sm_text.specs.parsing.Places.Sources.{whole_text}
 use Rattle.sm_task.specs.Errors.{error_of, from_text}
 use Rattle.sm_task.specs.Laws.{OneCondition, FaultOrCondition, OneRefusal, TaskOrRefusal}
+use Rattle.sm_task.proofs.Parsing.{none_refusal}
 
 same_refusal : (r s : Refusal) → Some r ≡ Some s → r ≡ s
 same_refusal r s e = cc
-
-none_some : (r : Refusal) → (let o : Option Refusal = None in o) ≡ Some r → ⊥
-none_some r e = cc
 
 pub one_condition : OneCondition
 one_condition bytes r s (t, g, e) (u, h, f) =
@@ -32,4 +30,4 @@ one_refusal bytes e f (inr (r, refused, p)) (inr (s, other, q)) = p ∙ ap error
 pub task_or_refusal : TaskOrRefusal
 task_or_refusal bytes t e spells (inl (x, first, p)) = no_fault_in_grammar bytes t x spells.text first.stands
 task_or_refusal bytes t e spells (inr (r, (u, g, f), p)) =
-    none_some r (sym spells.valid ∙ ap first_refusal (text.one_parse bytes t u spells.text g) ∙ f)
+    none_refusal r (sym spells.valid ∙ ap first_refusal (text.one_parse bytes t u spells.text g) ∙ f)

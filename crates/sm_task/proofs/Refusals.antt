@@ -5,9 +5,8 @@ use Rattle.sm_syntax.specs.text.Conditions.{ListOf, Refusal}
 use Rattle.sm_syntax.specs.claim.ConflictFree.{Copy, O, A, B, M}
 use Rattle.sm_syntax.specs.trees.Copies.{number_of}
 use Rattle.sm_syntax.proofs.Uses.{option_or-None}
-use Rattle.sm_task.specs.declared.error.TaskError.{TaskError}
 use Rattle.sm_task.specs.Checks.{ReportsRefusal, section_of}
-use Rattle.sm_task.specs.Errors.{section_number}
+use Rattle.sm_task.specs.Errors.{section_number, TaskError}
 
 -- an error is the first refusal, whatever stands after it
 pub reports_or : (e : TaskError) (a b : Option Refusal) → ReportsRefusal (Err e) a → ReportsRefusal (Err e) (option_or a b)

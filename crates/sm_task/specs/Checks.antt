@@ -1,11 +1,8 @@
 -- What a check of conditions answers. No public clause cites it.
-use Rattle.std.specs.Prelude.{◌≡◌, ◌≢◌, ℕ, zero, suc, Option, Some, None, option_map}
-use Rattle.std.specs.Prelude.{Result, MatchResult}
+use Rattle.std.specs.Prelude.{◌≡◌, ◌≢◌, ℕ, zero, suc, Option, Some, None, option_map, Result, MatchResult}
 use Rattle.sm_syntax.specs.text.Conditions.{Section, Shared, ListOf, Refusal}
 use Rattle.sm_syntax.specs.claim.ConflictFree.{O, A, B, M}
-use Rattle.sm_task.specs.declared.error.TaskError.{TaskError}
-use Rattle.sm_task.specs.declared.error.TaskError.TheVariants.{Memory}
-use Rattle.sm_task.specs.Errors.{error_of}
+use Rattle.sm_task.specs.Errors.{error_of, TaskError, Memory}
 
 -- the section with a number
 abbrev pub section_of : ℕ → Section

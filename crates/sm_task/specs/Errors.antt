@@ -1,6 +1,5 @@
 -- Which fault of its text, or which condition, an error of a task names. Public clauses cite it.
-use Rattle.std.specs.Prelude.{◌≡◌, ◌≢◌, ◌⊎◌, ℕ, Some}
-use Rattle.std.specs.Prelude.{Result, MatchResult, List}
+use Rattle.std.specs.Prelude.{◌≡◌, ◌≢◌, ◌⊎◌, ℕ, Some, Result, MatchResult, List}
 use Rattle.sm_syntax.specs.declared.error.SyntaxError.{SyntaxError}
 use Rattle.sm_syntax.specs.declared.error.SyntaxError.TheVariants as fault
 use Rattle.sm_syntax.specs.trees.Copies.{number_of}
@@ -8,14 +7,15 @@ use Rattle.sm_syntax.specs.text.Conditions as refusal
 use Rattle.sm_syntax.specs.text.Conditions.{Section, Shared, ListOf, Refusal, first_refusal}
 use Rattle.sm_syntax.specs.text.Parts.{Parts}
 use Rattle.sm_syntax.specs.text.Spells.{IsInGrammar}
-use Rattle.sm_text.specs.declared.error.TextError.{TextError}
 use Rattle.sm_text.specs.declared.error.TextError.TheVariants as text
 use Rattle.sm_text.specs.parsing.Places.{AreTasks, IsFirstFault}
+use Rattle.sm_text.specs.declared.error.TextError.{TextError}
 use Rattle.sm_text.specs.parsing.Places.Sources.{whole_text}
-use Rattle.sm_task.specs.declared.error.TaskError.{TaskError}
+pub use Rattle.sm_task.specs.declared.error.TaskError.{TaskError}
 use Rattle.sm_task.specs.declared.error.TaskError.TheVariants as error
-use Rattle.sm_text.specs.declared.task.Task.{Task}
 use Rattle.sm_text.specs.Tasks.{parts_of}
+use Rattle.sm_text.specs.declared.task.Task.{Task}
+pub use Rattle.sm_task.specs.declared.error.TaskError.TheVariants.{Memory}
 
 -- the number of a section: a list has its copy's, and 4 alone is the shared program
 abbrev pub section_number : Section → ℕ

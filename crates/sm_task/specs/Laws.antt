@@ -3,11 +3,10 @@ use Rattle.std.specs.Prelude.{◌≡◌, ℕ, List}
 use Rattle.sm_syntax.specs.text.Conditions.{Refusal}
 use Rattle.sm_syntax.specs.text.Parts.{Parts}
 use Rattle.sm_syntax.specs.text.Spells.{Spells}
-use Rattle.sm_text.specs.declared.error.TextError.{TextError}
 use Rattle.sm_text.specs.parsing.Places.{AreTasks, IsFault}
+use Rattle.sm_text.specs.declared.error.TextError.{TextError}
 use Rattle.sm_text.specs.parsing.Places.Sources.{whole_text}
-use Rattle.sm_task.specs.declared.error.TaskError.{TaskError}
-use Rattle.sm_task.specs.Errors.{IsRefusedBy, IsRefusedWith}
+use Rattle.sm_task.specs.Errors.{IsRefusedBy, IsRefusedWith, TaskError}
 
 -- a text spells at most one task
 abbrev pub OneTask : Type 0

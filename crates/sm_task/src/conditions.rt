@@ -1,11 +1,7 @@
 // The conditions on a task, in order.
 ghost use Rattle.std.specs.Prelude.{◌≡◌, ◌≤◌, [], length};
-ghost use Rattle.sm_syntax.specs.text.Conditions.{DoubleHole, HoleInFilling, UnknownHole};
-ghost use Rattle.sm_syntax.specs.text.Conditions.{MissingFilling, ListOf, at_hole, holes_of};
-ghost use Rattle.sm_syntax.specs.text.Conditions.{holes_inside, filled_holes, first_repeated};
-ghost use Rattle.sm_syntax.specs.text.Conditions.{first_outside, double_hole, hole_in_filling};
-ghost use Rattle.sm_syntax.specs.text.Conditions.{unknown_hole, missing_filling, program_fault};
-ghost use Rattle.sm_syntax.specs.text.Conditions.{ill_formed, ill_assumed, first_refusal};
+ghost use Rattle.sm_syntax.specs.text.Conditions.{DoubleHole, HoleInFilling, UnknownHole, MissingFilling, ListOf, at_hole, holes_of, holes_inside, filled_holes, first_repeated, first_outside, double_hole, hole_in_filling, unknown_hole};
+ghost use Rattle.sm_syntax.specs.text.Conditions.{missing_filling, program_fault, ill_formed, ill_assumed, first_refusal};
 ghost use Rattle.sm_syntax.specs.claim.ConflictFree.{program_of};
 ghost use Rattle.sm_syntax.specs.trees.Copies.{copy_named};
 ghost use Rattle.sm_syntax.specs.text.Parts.{task_of};

@@ -1,8 +1,7 @@
 // The numbers of holes, in the order of the text.
 ghost use Rattle.std.specs.Prelude.{◌≡◌, ◌++◌, [], ℕ, nat_eq, OnOk, IfOk};
 ghost use Rattle.std.specs.HashSet.{contains};
-ghost use Rattle.sm_syntax.specs.text.Conditions.{holes_of, holes_inside, filled_holes};
-ghost use Rattle.sm_syntax.specs.text.Conditions.{first_repeated, first_outside, is_in};
+ghost use Rattle.sm_syntax.specs.text.Conditions.{holes_of, holes_inside, filled_holes, first_repeated, first_outside, is_in};
 ghost use Rattle.sm_syntax.specs.trees.Programs.{fillings_of};
 ghost use Rattle.sm_syntax.specs.claim.Syntax.{End};
 ghost use Rattle.sm_syntax.specs.trees.Views.{statement_of, code_of};

@@ -1,6 +1,5 @@
 // Laws of tasks and of their refusals, as contracts.
-ghost use Rattle.sm_task.specs.Laws.{FaultOrCondition, OneCondition, OneRefusal, OneTask};
-ghost use Rattle.sm_task.specs.Laws.{TaskOrRefusal};
+ghost use Rattle.sm_task.specs.Laws.{FaultOrCondition, OneCondition, OneRefusal, OneTask, TaskOrRefusal};
 
 /// A text spells at most one task, with the same parts and the same names.
 pub fn one_task()

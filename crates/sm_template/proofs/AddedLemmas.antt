@@ -1,18 +1,16 @@
 -- Formulas that are put behind others while a table grows.
 use Rattle.std.proofs.Common.{List, [], ◌∷◌, ◌++◌, sym, ap, ◌∙◌, subst}
 use Rattle.std.proofs.lemmas.List.{append-nil, append_assoc, map-append}
-use Rattle.sm_syntax.specs.text.Sorts.{Sorts}
-use Rattle.sm_term.specs.declared.formula.Formula.{Formula}
 use Rattle.sm_term.specs.Assertions.{Assertion}
 use Rattle.sm_term.specs.Formulas.{numbered, assertion_in}
+use Rattle.sm_term.specs.declared.formula.Formula.{Formula}
 use Rattle.sm_term.specs.Sorted.{IsFormSorted}
 use Rattle.sm_term.specs.Tables.{TableValue, trees_in, sorts_in}
 use Rattle.sm_term.specs.TableLaws.{AddsTerms}
-use Rattle.sm_term.specs.Terms.{Tree}
-use Rattle.sm_plan.specs.ReadyStates.{IsFormReady, AreFormsReady}
 use Rattle.sm_plan.specs.Views.{forms_in}
 use Rattle.sm_plan.proofs.FillingForms.{forms_ready, forms_more, ready_within}
 use Rattle.sm_template.specs.AddedForms.{IsFormMade, AddsForms}
+use Rattle.sm_plan.proofs.TurnedLemmas.{ready_push}
 
 -- nothing is put there
 pub added_none : (v : TableValue) (fs : List Formula) → AddsForms v v fs fs []
@@ -27,12 +25,6 @@ added_then u v w fs gs hs first second one other ready =
       there.0,
       there.1 ∙ ap (λ (l : List Assertion). l ++ second) here.1 ∙ append_assoc (forms_in (sorts_in u) (trees_in u) fs) first second,
     )
-
--- a formula behind others that are ready
-ready_push : (sorts : Sorts) (trees : List Tree) (fs : List Formula) (f : Formula) → AreFormsReady sorts trees fs →
-    IsFormReady sorts trees f → AreFormsReady sorts trees (fs ++ f ∷ [])
-ready_push sorts trees [] f ready new = (new, tt)
-ready_push sorts trees (g ∷ fs) f ready new = (ready.0, ready_push sorts trees fs f ready.1 new)
 
 -- one is put there
 pub added_one : (v w : TableValue) → AddsTerms v w → (fs : List Formula) (f : Formula) (a : Assertion) → IsFormMade w f a →

@@ -4,10 +4,10 @@ use Rattle.std.specs.Prelude.{fold}
 use Rattle.std.specs.List.{list_any, flat_map}
 use Rattle.std.proofs.lemmas.List.{append-nil, append_assoc}
 use Rattle.std.proofs.lemmas.List.Sums.{fold-append}
-use Rattle.sm_syntax.specs.declared.tree.Cmp.{Cmp}
 use Rattle.sm_syntax.specs.declared.tree.Cmp.TheVariants as cmp
 use Rattle.sm_syntax.specs.declared.tree.Sort.{Sort}
 use Rattle.sm_syntax.specs.claim.Syntax.{Condition, Yes, No, Compare, Not, And, Or}
+use Rattle.sm_syntax.specs.declared.tree.Cmp.{Cmp}
 use Rattle.sm_syntax.specs.claim.ConflictFree.{Copy}
 use Rattle.sm_term.specs.Assertions as plain
 use Rattle.sm_term.specs.Assertions.{Assertion}

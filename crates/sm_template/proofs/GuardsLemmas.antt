@@ -1,25 +1,23 @@
 -- Terms of well-sorted expressions over places, and what comparisons of them suggest.
-use Rattle.std.proofs.Common.{◌≡◌, ℕ, ◌<◌, Bool, true, false, if◌then◌else◌, Option, Some}
-use Rattle.std.proofs.Common.{None, is_some, List, [], ◌∷◌, ◌++◌, cond, length}
-use Rattle.std.proofs.Common.{slice_get, refl, sym, ap, ◌∙◌, subst}
+use Rattle.std.proofs.Common.{◌≡◌, ℕ, ◌<◌, Bool, true, false, if◌then◌else◌, Option, Some, None, is_some, List, [], ◌∷◌, ◌++◌, cond, length, slice_get, refl, sym, ap, ◌∙◌, subst}
 use Rattle.std.specs.List.{filter, flat_map}
 use Rattle.sm_syntax.specs.claim.Syntax as syntax
 use Rattle.sm_syntax.specs.claim.Syntax.{Expression}
-use Rattle.sm_syntax.specs.claim.ConflictFree.{Copy, O, A, B, M}
 use Rattle.sm_syntax.specs.declared.tree.Cmp.{Cmp}
+use Rattle.sm_syntax.specs.claim.ConflictFree.{Copy, O, A, B, M}
+use Rattle.sm_syntax.specs.text.Sorts.{Sorts, IsWellSortedExpression}
 use Rattle.sm_syntax.specs.declared.tree.Sort.{Sort}
 use Rattle.sm_syntax.specs.declared.tree.Sort.TheVariants.{Num, Arr}
-use Rattle.sm_syntax.specs.text.Sorts.{Sorts, IsWellSortedExpression}
-use Rattle.sm_term.specs.declared.symbolic.SymStore.{SymStore}
 use Rattle.sm_term.specs.Assertions.{Assertion}
 use Rattle.sm_term.specs.Sorted.{HasSort, IsStoreSorted}
 use Rattle.sm_term.specs.Symbolic.{SymbolicStore, term_of}
 use Rattle.sm_term.specs.SymStores.{store_in, IsStoreWithin}
+use Rattle.sm_term.specs.declared.symbolic.SymStore.{SymStore}
 use Rattle.sm_term.specs.Tables.{TableValue, trees_in, sorts_in, tree_at}
 use Rattle.sm_term.specs.TableLaws.{AddsTerms}
 use Rattle.sm_term.specs.Terms.{Start, Slot, Read, Neg, Add, Sub, Mul}
-use Rattle.sm_term.proofs.ExpressionLemmas.{store-more, stays_got, tree_got, there}
-use Rattle.sm_plan.proofs.SortedTerms.{declared_with, sort_is, term_sorted}
+use Rattle.sm_term.proofs.ExpressionLemmas.{store-more, stays_got, tree_got, there, named_declared}
+use Rattle.sm_plan.proofs.SortedTerms.{sort_is, term_sorted}
 use Rattle.sm_plan.specs.Copies.{Copies, copies, has}
 use Rattle.sm_moves.specs.CopySets.{members}
 use Rattle.sm_template.specs.Bounds.{AddsBounds, places_of}
@@ -28,7 +26,7 @@ use Rattle.sm_template.proofs.BoundsMade.{bounds_none, bounds_then}
 
 -- the place of a declared name
 place_is : (sorts : Sorts) (c : Copy) (x : ℕ) (sort : Sort) → sorts x ≡ Some sort → places_of sorts c x ≡ Slot c x
-place_is sorts c x sort known = ap (λ (b : Bool). if b then Slot c x else Start x) (declared_with sorts x sort known)
+place_is sorts c x sort known = ap (λ (b : Bool). if b then Slot c x else Start x) (named_declared sorts x sort known)
 
 -- the term of an expression
 pub places_term : (sorts : Sorts) (c : Copy) (e : Expression) → IsWellSortedExpression sorts e →
@@ -46,7 +44,7 @@ pub places_sorted : (sorts : Sorts) (c : Copy) → IsStoreSorted sorts (places_o
 places_sorted sorts c = record {
   declared = λ (x : ℕ) (sort : Sort) (known : sorts x ≡ Some sort).
       subst (HasSort sorts sort) (sym (place_is sorts c x sort known))
-      (declared_with sorts x sort known, sort_is sorts x sort known);
+      (named_declared sorts x sort known, sort_is sorts x sort known);
   other = λ (x : ℕ) (none : sorts x ≡ None). ap (λ (o : Option Sort). if is_some o then Slot c x else Start x) none;
 }
 

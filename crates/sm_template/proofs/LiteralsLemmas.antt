@@ -1,22 +1,19 @@
 -- The first literals, taken one by one, and the literals of statements one after the other.
-use Rattle.std.proofs.Common.{◌≡◌, ℕ, zero, suc, ℤ, pos, int_lt, nat_lt, ◌+◌, ◌<◌, ◌≤◌, Bool, true, false}
-use Rattle.std.proofs.Common.{cond, not, ◌&&◌, if◌then◌else◌, List, [], ◌∷◌, ◌++◌}
-use Rattle.std.proofs.Common.{length, take, map, drop, get_or, refl, sym, ap, ◌∙◌, arith}
+use Rattle.std.proofs.Common.{◌≡◌, ℕ, zero, suc, ℤ, pos, int_lt, nat_lt, ◌+◌, ◌<◌, ◌≤◌, Bool, true, false, cond, not, ◌&&◌, if◌then◌else◌, List, [], ◌∷◌, ◌++◌, length, take, map, drop, get_or, refl, sym, ap, ◌∙◌, arith}
 use Rattle.std.specs.Prelude.{fold}
 use Rattle.std.specs.List.{filter, list_any, flat_map}
 use Rattle.std.specs.Ordering.{int_eq}
 use Rattle.std.proofs.lemmas.Bool.{ltb-true, ltb-false}
-use Rattle.std.proofs.lemmas.Bool.Decides.{Decides-int_eq}
 use Rattle.std.proofs.lemmas.List.{append-nil, append_assoc, length-append, map_more}
 use Rattle.std.proofs.lemmas.Grind.{flat_map-append}
 use Rattle.std.proofs.lemmas.List.Sums.{fold-append}
 use Rattle.sm_syntax.specs.declared.program.Filling.{Filling}
-use Rattle.sm_syntax.specs.declared.tree.Stmt.{Stmt}
 use Rattle.sm_syntax.specs.claim.Fill.{Fillings}
 use Rattle.sm_syntax.specs.claim.ConflictFree.{Copy, O, A, B, M}
 use Rattle.sm_syntax.specs.claim.Syntax.{Code, End, Skip, Assign, Write, If, While, Hole, append}
 use Rattle.sm_syntax.specs.text.Parts.{Parts}
 use Rattle.sm_syntax.specs.trees.Views.{sequence, statement_of, code_of}
+use Rattle.sm_syntax.specs.declared.tree.Stmt.{Stmt}
 use Rattle.sm_syntax.proofs.Blocks.{statement_is, sequence-drop, sequence-drop-end}
 use Rattle.sm_plan.specs.Copies.{copies}
 use Rattle.sm_template.specs.Distinct.{with_new, distinct}
@@ -94,20 +91,6 @@ long_take zero [] h = refl
 long_take zero (x ∷ xs) h = refl
 long_take (suc n) [] h = absurd (omega arith)
 long_take (suc n) (x ∷ xs) h = ap suc (long_take n xs (omega arith))
-
--- which of two whole numbers stands first doesn't matter to whether they are equal
-turned : (y z : ℤ) → int_eq y z ≡ int_eq z y
-turned y z = by (int_eq y z) (int_eq z y) refl refl
-  where
-    by : (a b : Bool) → int_eq y z ≡ a → int_eq z y ≡ b → a ≡ b
-    by true true e f = refl
-    by false false e f = refl
-    by true false e f =
-        absurd (let one : int_eq z y ≡ true = (Decides-int_eq z y).1 (sym ((Decides-int_eq y z).0 e)) in
-        let other : true ≡ false = sym one ∙ f in cc)
-    by false true e f =
-        absurd (let one : int_eq y z ≡ true = (Decides-int_eq y z).1 (sym ((Decides-int_eq z y).0 f)) in
-        let other : true ≡ false = sym one ∙ e in cc)
 
 -- a literal above 0 is taken of some
 abbrev taken_of : ℤ → List ℤ → List ℤ

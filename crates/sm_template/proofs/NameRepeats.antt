@@ -1,11 +1,9 @@
 -- No template of names stands twice.
-use Rattle.std.proofs.Common.{◌≡◌, ℕ, zero, suc, ℤ, ◌+◌, ◌<◌, ◌==◌, Bool, true, false, ◌&&◌, ◌||◌, List, []}
-use Rattle.std.proofs.Common.{◌∷◌, map, length, refl, sym, ap, ◌∙◌}
-use Rattle.std.proofs.Common.{subst, arith}
+use Rattle.std.proofs.Common.{◌≡◌, ℕ, zero, suc, ℤ, ◌+◌, ◌<◌, ◌==◌, Bool, true, false, ◌&&◌, ◌||◌, List, [], ◌∷◌, map, length, refl, sym, ap, ◌∙◌, subst, arith}
 use Rattle.std.specs.Prelude.{pos, int_lt}
 use Rattle.std.specs.List.{list_any, filter, flat_map, range_with_len}
 use Rattle.std.specs.Ordering.{int_eq}
-use Rattle.std.proofs.lemmas.Bool.{and_parts, and_from, eq-eqb, ne_eqb}
+use Rattle.std.proofs.lemmas.Bool.{and_parts, and_from, eq-eqb, ne_eqb, or_parts}
 use Rattle.sm_syntax.specs.declared.copies.CopyName.{CopyName}
 use Rattle.sm_syntax.specs.declared.copies.CopyName.TheVariants as copy
 use Rattle.sm_syntax.specs.declared.tree.Sort.{Sort}
@@ -31,24 +29,14 @@ use Rattle.sm_template.specs.SameFormulas.{same_formula}
 use Rattle.sm_template.specs.Templates.{name_templates}
 use Rattle.sm_template.specs.Written.{is_written, names_written}
 use Rattle.sm_template.proofs.NameShapesLemmas.{name_forms}
-use Rattle.sm_template.proofs.RepeatsLemmas.{IsNew, AreNew, HasNoRepeats, new_of_any, all_append, no_repeats_append}
-use Rattle.sm_template.proofs.RepeatsLemmas.{no_repeats_distinct, no_repeats_take, no_repeats_by_test, no_repeats_map, no_repeats_lists}
-use Rattle.sm_template.proofs.RepeatsLemmas.{no_repeats_unmap, no_repeats_filter, lists_apart, all_apart}
-
--- parts of tests that fail
-or_halves : (a b : Bool) → (a || b) ≡ false → (a ≡ false) × (b ≡ false)
-or_halves true b h = absurd cc
-or_halves false b h = (refl, h)
+use Rattle.sm_template.proofs.RepeatsLemmas.{IsNew, AreNew, HasNoRepeats, new_of_any, all_append, no_repeats_append, no_repeats_distinct, no_repeats_take, no_repeats_by_test, no_repeats_map, no_repeats_lists, no_repeats_unmap}
+use Rattle.sm_template.proofs.RepeatsLemmas.{no_repeats_filter, lists_apart, all_apart}
 
 and_turned : (a b : Bool) → (a && b) ≡ false → (b && a) ≡ false
 and_turned true true h = absurd cc
 and_turned true false h = refl
 and_turned false true h = refl
 and_turned false false h = refl
-
--- formulas that their test finds the same are equal; two tests are passed where each is
-both : (p q : Bool) → p ≡ true → q ≡ true → (p && q) ≡ true
-both p q h g = and_from p q h g
 
 formula_gives : (f g : Assertion) → same_formula f g ≡ true → f ≡ g
 formula_gives Yes Yes h = refl
@@ -75,15 +63,15 @@ formula_itself : (f : Assertion) → same_formula f f ≡ true
 formula_itself Yes = refl
 formula_itself No = refl
 formula_itself (Eq s t u) =
-    both (same_sort s s) (same_tree t t && same_tree u u) ((same_sort_is s s).1 refl)
-    (both (same_tree t t) (same_tree u u) ((same_tree_is t t).1 refl) ((same_tree_is u u).1 refl))
+    and_from (same_sort s s) (same_tree t t && same_tree u u) ((same_sort_is s s).1 refl)
+    (and_from (same_tree t t) (same_tree u u) ((same_tree_is t t).1 refl) ((same_tree_is u u).1 refl))
 formula_itself (Ne s t u) =
-    both (same_sort s s) (same_tree t t && same_tree u u) ((same_sort_is s s).1 refl)
-    (both (same_tree t t) (same_tree u u) ((same_tree_is t t).1 refl) ((same_tree_is u u).1 refl))
-formula_itself (Le t u) = both (same_tree t t) (same_tree u u) ((same_tree_is t t).1 refl) ((same_tree_is u u).1 refl)
-formula_itself (Lt t u) = both (same_tree t t) (same_tree u u) ((same_tree_is t t).1 refl) ((same_tree_is u u).1 refl)
-formula_itself (And p q) = both (same_formula p p) (same_formula q q) (formula_itself p) (formula_itself q)
-formula_itself (Or p q) = both (same_formula p p) (same_formula q q) (formula_itself p) (formula_itself q)
+    and_from (same_sort s s) (same_tree t t && same_tree u u) ((same_sort_is s s).1 refl)
+    (and_from (same_tree t t) (same_tree u u) ((same_tree_is t t).1 refl) ((same_tree_is u u).1 refl))
+formula_itself (Le t u) = and_from (same_tree t t) (same_tree u u) ((same_tree_is t t).1 refl) ((same_tree_is u u).1 refl)
+formula_itself (Lt t u) = and_from (same_tree t t) (same_tree u u) ((same_tree_is t t).1 refl) ((same_tree_is u u).1 refl)
+formula_itself (And p q) = and_from (same_formula p p) (same_formula q q) (formula_itself p) (formula_itself q)
+formula_itself (Or p q) = and_from (same_formula p p) (same_formula q q) (formula_itself p) (formula_itself q)
 
 -- formulas of which something differs aren't the same
 pub not_same : (f g : Assertion) → (f ≡ g → ⊥) → same_formula f g ≡ false
@@ -221,7 +209,7 @@ no_repeats_above c d h literals once =
 -- those of two pairs have none in common
 module _ (p q : CopyName × CopyName) (h : same_pair q p ≡ false) where
   halves : (ends q.0 q.1 p.0 p.1 ≡ false) × (ends q.0 q.1 p.1 p.0 ≡ false)
-  halves = or_halves (ends q.0 q.1 p.0 p.1) (ends q.0 q.1 p.1 p.0) h
+  halves = or_parts (ends q.0 q.1 p.0 p.1) (ends q.0 q.1 p.1 p.0) h
 
   turned_ends : (ends q.1 q.0 p.1 p.0 ≡ false) × (ends q.1 q.0 p.0 p.1 ≡ false)
   turned_ends = (

@@ -3,24 +3,23 @@ use Rattle.std.proofs.Common.{◌≡◌, ℕ, ℤ, Some, List, [], ◌∷◌, �
 use Rattle.std.specs.List.{flat_map}
 use Rattle.std.proofs.lemmas.List.{map-append}
 use Rattle.sm_syntax.specs.declared.copies.CopyName.{CopyName}
-use Rattle.sm_syntax.specs.declared.tree.Sort.{Sort}
-use Rattle.sm_syntax.specs.declared.tree.Sort.TheVariants.{Num, Arr}
 use Rattle.sm_syntax.specs.claim.ConflictFree.{Copy, O, A, B, M}
 use Rattle.sm_syntax.specs.text.Sorts.{Sorts}
+use Rattle.sm_syntax.specs.declared.tree.Sort.{Sort}
+use Rattle.sm_syntax.specs.declared.tree.Sort.TheVariants.{Num, Arr}
 use Rattle.sm_syntax.specs.trees.Copies.{copy_named}
 use Rattle.sm_term.specs.Assertions.{Assertion}
 use Rattle.sm_term.specs.Sorted.{HasSort, IsFormSorted}
 use Rattle.sm_term.specs.Terms.{Cell, Read}
 use Rattle.sm_plan.proofs.SortedStates.{place_sorted}
-use Rattle.sm_plan.proofs.SortedTerms.{declared_with, sort_is}
+use Rattle.sm_plan.proofs.SortedTerms.{sort_is}
 use Rattle.sm_template.specs.declared.shapes.Shape.{Shape}
 use Rattle.sm_template.specs.declared.shapes.Shape.TheVariants as shape
 use Rattle.sm_template.specs.declared.shapes.Side.{Side}
 use Rattle.sm_template.specs.declared.shapes.Side.TheVariants as side
-use Rattle.sm_template.specs.NameShapes.{side_tree, shape_form, FitsSide, FitsShape, AreShapesFit, named_pairs, above_by, above_any}
-use Rattle.sm_template.specs.NameShapes.{of_pairs, of_goals, number_at_start, array_at_start, named_copies}
-use Rattle.sm_template.specs.NameShapes.{number_shapes, shapes_of}
+use Rattle.sm_template.specs.NameShapes.{side_tree, shape_form, FitsSide, FitsShape, AreShapesFit, named_pairs, above_by, above_any, of_pairs, of_goals, number_at_start, array_at_start, named_copies, number_shapes, shapes_of}
 use Rattle.sm_template.specs.Templates.{apart_by, name_templates}
+use Rattle.sm_term.proofs.ExpressionLemmas.{named_declared}
 
 -- what is made of each of several lists
 map-lists : {T U V : Type 0} (f : U → V) (g : T → List U) (h : T → List V) → ((x : T) → map f (g x) ≡ h x) → (xs : List T) →
@@ -94,10 +93,10 @@ shapes_fit literals Arr =
 
 -- a side has the sort of its name
 pub side_sorted : (sorts : Sorts) (x : ℕ) (sort : Sort) → sorts x ≡ Some sort → (s : Side) → FitsSide sort s → HasSort sorts sort (side_tree x s)
-side_sorted sorts x sort known (side.Slot c) fits = (declared_with sorts x sort known, sort_is sorts x sort known)
-side_sorted sorts x sort known side.Start fits = (declared_with sorts x sort known, sort_is sorts x sort known)
+side_sorted sorts x sort known (side.Slot c) fits = (named_declared sorts x sort known, sort_is sorts x sort known)
+side_sorted sorts x sort known side.Start fits = (named_declared sorts x sort known, sort_is sorts x sort known)
 side_sorted sorts x sort known (side.Above c v) fits =
-    ((declared_with sorts x sort known, sort_is sorts x sort known ∙ fits, tt, refl), sym fits)
+    ((named_declared sorts x sort known, sort_is sorts x sort known ∙ fits, tt, refl), sym fits)
 
 -- its cell is a number
 pub cell_sorted : (sorts : Sorts) (x : ℕ) (sort : Sort) → sorts x ≡ Some sort → sort ≡ Arr → (s : Side) → FitsSide sort s →

@@ -2,10 +2,10 @@
 use Rattle.std.proofs.Common.{ℕ, zero, suc, Bool, true, false, if◌then◌else◌, ℤ, List, [], ◌∷◌, ◌++◌, map, take, drop}
 use Rattle.std.specs.Prelude.{fold}
 use Rattle.std.specs.List.{list_any, flat_map}
-use Rattle.sm_syntax.specs.declared.tree.Cmp.{Cmp}
 use Rattle.sm_syntax.specs.declared.tree.Sort.{Sort}
 use Rattle.sm_syntax.specs.declared.tree.Sort.TheVariants.{Num, Arr}
 use Rattle.sm_syntax.specs.claim.Syntax.{Expression, Condition, Yes, No, Compare, Not, And, Or, Code}
+use Rattle.sm_syntax.specs.declared.tree.Cmp.{Cmp}
 use Rattle.sm_syntax.specs.claim.ConflictFree.{Copy}
 use Rattle.sm_syntax.specs.text.Parts.{Parts}
 use Rattle.sm_term.specs.Terms.{Lit, Start, Slot, Add}
@@ -20,8 +20,7 @@ use Rattle.sm_template.specs.Distinct.{with_new, distinct}
 use Rattle.sm_template.specs.Guards.{slots, weaker, guard_templates}
 use Rattle.sm_template.specs.Literals.{literals_of}
 use Rattle.sm_template.specs.SameFormulas.{same_formula}
-use Rattle.sm_template.specs.Templates.{equal_cells, equal_copies, unchanged, apart_by, shifted, name_templates, written_templates}
-use Rattle.sm_template.specs.Templates.{block_templates, loop_templates}
+use Rattle.sm_template.specs.Templates.{equal_cells, equal_copies, unchanged, apart_by, shifted, name_templates, written_templates, block_templates, loop_templates}
 use Rattle.sm_template.specs.Written.{names_written}
 
 -- what holds of all things holds of each of a list

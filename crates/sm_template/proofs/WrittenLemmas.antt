@@ -1,6 +1,5 @@
 -- Names that some copy's code writes, and the declared ones among them.
-use Rattle.std.proofs.Common.{◌≡◌, ℕ, ◌+◌, ◌<◌, ◌==◌, Bool, true, false, cond, ◌||◌, List, [], ◌∷◌, ◌++◌, map}
-use Rattle.std.proofs.Common.{take, length, get_or, refl, sym, ap, ◌∙◌}
+use Rattle.std.proofs.Common.{◌≡◌, ℕ, ◌+◌, ◌<◌, ◌==◌, Bool, true, false, cond, ◌||◌, List, [], ◌∷◌, ◌++◌, map, take, length, get_or, refl, sym, ap, ◌∙◌}
 use Rattle.std.specs.BTreeSet.{BTreeSet, contains}
 use Rattle.std.specs.List.{filter}
 use Rattle.std.specs.Ordering.{nat_cmp}
@@ -17,10 +16,11 @@ use Rattle.sm_syntax.specs.declared.tree.Sort.{Sort}
 use Rattle.sm_syntax.specs.text.Conditions.{is_in}
 use Rattle.sm_syntax.specs.trees.Programs.{outputs_of}
 use Rattle.sm_deps.specs.Members.{members, only, either}
-use Rattle.sm_deps.proofs.MembersLemmas.{none, or-false, or_assoc, either-either}
+use Rattle.sm_deps.proofs.MembersLemmas.{none, either-either}
 use Rattle.sm_template.specs.Sites.{AreWrites}
 use Rattle.sm_template.specs.Written.{is_written}
 use Rattle.sm_template.proofs.TemplatesMade.{names_of}
+use Rattle.sm_lemmas.proofs.Tests.{or_false, or_assoc}
 
 -- names by number
 abbrev pub numbers_of : List Name → List ℕ
@@ -32,7 +32,7 @@ unfolding either only
 is_in_push l x = fun_ext (λ (q : ℕ). by q l)
   where
     by : (q : ℕ) (m : List ℕ) → (is_in m q || (q == x)) ≡ is_in (m ++ x ∷ []) q
-    by q [] = sym (or-false (q == x))
+    by q [] = sym (or_false (q == x))
     by q (y ∷ m) = or_assoc (q == y) (is_in m q) (q == x) ∙ ap (λ (b : Bool). (q == y) || b) (by q m)
 
 -- a set with one name of a list more

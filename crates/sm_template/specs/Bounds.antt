@@ -1,9 +1,9 @@
 -- Private: inequalities that guards suggest, each once. A pair of numbers says that the first term
 -- is at most the second.
 use Rattle.std.specs.Prelude.{◌≡◌, ℕ, ◌<◌, List, [], ◌∷◌, map, fold, length, is_some, if◌then◌else◌}
-use Rattle.sm_syntax.specs.declared.tree.Sort.TheVariants.{Num}
 use Rattle.sm_syntax.specs.claim.ConflictFree.{Copy}
 use Rattle.sm_syntax.specs.text.Sorts.{Sorts}
+use Rattle.sm_syntax.specs.declared.tree.Sort.TheVariants.{Num}
 use Rattle.sm_term.specs.Assertions.{Assertion, Le}
 use Rattle.sm_term.specs.Sorted.{HasSort}
 use Rattle.sm_term.specs.Symbolic.{SymbolicStore}

@@ -1,6 +1,5 @@
 -- Private: literals that are taken one by one.
-use Rattle.std.specs.Prelude.{ℤ, pos, int_lt, nat_lt, Bool, not, ◌&&◌, if◌then◌else◌}
-use Rattle.std.specs.Prelude.{List, [], ◌∷◌, ◌++◌, length, fold}
+use Rattle.std.specs.Prelude.{ℤ, pos, int_lt, nat_lt, Bool, not, ◌&&◌, if◌then◌else◌, List, [], ◌∷◌, ◌++◌, length, fold}
 use Rattle.std.specs.List.{list_any}
 use Rattle.std.specs.Ordering.{int_eq}
 

@@ -1,9 +1,9 @@
 -- Cited by public clauses: what the guard of a loop suggests to keep. A comparison that a turn may
 -- break by one step is kept in its weaker form.
 use Rattle.std.specs.Prelude.{pos, List, [], ◌∷◌, ◌++◌}
-use Rattle.sm_syntax.specs.declared.tree.Cmp.{Cmp}
 use Rattle.sm_syntax.specs.declared.tree.Cmp.TheVariants as cmp
 use Rattle.sm_syntax.specs.claim.Syntax.{Condition, Yes, No, Compare, Not, And, Or}
+use Rattle.sm_syntax.specs.declared.tree.Cmp.{Cmp}
 use Rattle.sm_syntax.specs.claim.ConflictFree.{Copy}
 use Rattle.sm_term.specs.Terms.{Tree, Lit, Slot, Add}
 use Rattle.sm_term.specs.Assertions.{Assertion, Le}

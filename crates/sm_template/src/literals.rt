@@ -7,8 +7,7 @@ ghost use Rattle.sm_syntax.specs.trees.Copies.{of_copy};
 ghost use Rattle.sm_syntax.specs.trees.Programs.{fillings_of};
 ghost use Rattle.sm_syntax.specs.trees.Views.{expression_of, condition_of, statement_of, code_of};
 ghost use Rattle.sm_template.specs.FirstLiterals.{with_literal, with_literals};
-ghost use Rattle.sm_template.specs.Literals.{literals_in, literals_tested, literals_used};
-ghost use Rattle.sm_template.specs.Literals.{literals_filled};
+ghost use Rattle.sm_template.specs.Literals.{literals_in, literals_tested, literals_used, literals_filled};
 ghost use Rattle.sm_template.specs.Literals as plain;
 
 use sm_syntax::{Block, Cond, Expr, Fillings, PerCopy, Stmt};

@@ -1,8 +1,7 @@
 // The kinds of templates that a name has, and the terms and formulas that they are made of.
 ghost use Rattle.std.specs.Prelude.{◌≡◌, ◌++◌, flat_map, IfOk, OnOk};
 ghost use Rattle.sm_syntax.specs.declared.tree.Sort.TheVariants.{Arr};
-ghost use Rattle.sm_template.specs.NameShapes.{number_shapes, array_shapes, named_pairs};
-ghost use Rattle.sm_template.specs.NameShapes.{above_by, above_any};
+ghost use Rattle.sm_template.specs.NameShapes.{number_shapes, array_shapes, named_pairs, above_by, above_any};
 ghost use Rattle.sm_template.specs.NameShapes as shapes;
 
 use sm_syntax::{CopyName, Sort};

@@ -11,8 +11,7 @@ ghost use Rattle.sm_term.specs.Tables.{trees_in, sorts_in, codes_in, tree_in, Is
 ghost use Rattle.sm_term.specs.TableLaws.{AddsTerms};
 ghost use Rattle.sm_plan.specs.States as state;
 ghost use Rattle.sm_template.specs.AddedForms.{IsFormMade};
-ghost use Rattle.sm_template.specs.NameShapes.{side_tree, keeps_change, adds_nothing, shape_form};
-ghost use Rattle.sm_template.specs.NameShapes.{FitsSide, FitsShape};
+ghost use Rattle.sm_template.specs.NameShapes.{side_tree, keeps_change, adds_nothing, shape_form, FitsSide, FitsShape};
 
 use crate::shapes::{Shape, Side};
 use sm_syntax::{CopyName, Name, Sort};

@@ -6,22 +6,20 @@ use Rattle.std.proofs.lemmas.List.{append-nil, append_assoc, map-append, take_mo
 use Rattle.std.proofs.Math.Seq.{take-append_seam}
 use Rattle.std.proofs.lemmas.Bool.{ltb-true, ltb-false}
 use Rattle.std.proofs.lemmas.Option.{slice_get-get_or, get_or_from_slice_get, slice_get_within}
-use Rattle.sm_syntax.specs.declared.tree.Block.{Block}
 use Rattle.sm_syntax.specs.claim.Syntax.{Code, End}
 use Rattle.sm_syntax.specs.text.Parts.{sort_of}
 use Rattle.sm_syntax.specs.text.Sorts.{Sorts}
 use Rattle.sm_syntax.specs.trees.Views.{code_of}
+use Rattle.sm_syntax.specs.declared.tree.Block.{Block}
 use Rattle.sm_term.specs.declared.body.Body.{Body}
-use Rattle.sm_term.specs.declared.term.TermId.{TermId}
 use Rattle.sm_term.specs.declared.term.BodyId.{BodyId}
-use Rattle.sm_term.specs.declared.term.Term.{Term}
 use Rattle.sm_term.specs.declared.term.Term.TheVariants as row
 use Rattle.sm_term.specs.Terms.{Tree}
 use Rattle.sm_term.specs.Terms as tree
 use Rattle.sm_term.specs.Bodies.{block_of, same_body}
 use Rattle.sm_term.specs.Rows.{parts_in_list}
 use Rattle.sm_term.specs.RowLaws.{contents_of}
-use Rattle.sm_term.specs.Tables.{TableValue, trees_in, codes_in, tree_at, code_at, tree_in, trees_behind, IsTermWithin}
+use Rattle.sm_term.specs.Tables.{TableValue, trees_in, codes_in, tree_at, code_at, tree_in, trees_behind, IsTermWithin, TermId, Term}
 use Rattle.sm_term.specs.Fitting.{term_fits}
 use Rattle.sm_term.specs.TableLaws.{AreTermsSound, with_tree, with_code, with_trees, with_codes, ExtendsTable}
 use Rattle.sm_term.specs.Tails.{trees_numbered}

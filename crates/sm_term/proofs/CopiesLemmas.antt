@@ -8,13 +8,12 @@ use Rattle.sm_syntax.specs.trees.Views.{code_of}
 use Rattle.sm_term.specs.declared.body.Body.{Body}
 use Rattle.sm_term.specs.Bodies.{block_of}
 use Rattle.sm_syntax.specs.text.Sorts.{Sorts}
-use Rattle.sm_term.specs.declared.term.Term.{Term}
 use Rattle.sm_term.specs.declared.term.Term.TheVariants as row
 use Rattle.sm_term.specs.Terms.{Tree}
 use Rattle.sm_term.specs.Terms as tree
 use Rattle.sm_term.specs.SameTerms.{same_code, same_tree}
 use Rattle.sm_term.specs.RowLaws.{contents_of}
-use Rattle.sm_term.specs.Tables.{code_at, tree_in, trees_behind, IsTermWithin}
+use Rattle.sm_term.specs.Tables.{code_at, tree_in, trees_behind, IsTermWithin, Term}
 use Rattle.sm_term.specs.Fitting.{term_fits}
 use Rattle.sm_term.specs.TableLaws.{AreCodesApart, IsTable, with_tree, with_code}
 use Rattle.sm_term.proofs.SameTermsLemmas.{same_code_is, same_tree_is}

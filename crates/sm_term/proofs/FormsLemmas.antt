@@ -4,10 +4,9 @@ use Rattle.std.proofs.lemmas.List.{length-append}
 use Rattle.sm_syntax.specs.claim.Syntax.{Condition}
 use Rattle.sm_syntax.specs.text.Sorts.{Sorts, IsWellSortedCondition}
 use Rattle.sm_term.specs.Formulas as form
-use Rattle.sm_term.specs.declared.symbolic.SymStore.{SymStore}
 use Rattle.sm_term.specs.Terms.{Tree}
 use Rattle.sm_term.specs.Symbolic.{form_of}
-use Rattle.sm_term.specs.SymStores.{store_in, IsStoreWithin}
+use Rattle.sm_term.specs.SymStores.{store_in, IsStoreWithin, SymStore}
 use Rattle.sm_term.specs.Formulas.{NumberedFormula, contrary, assertion_in, IsFormulaWithin}
 use Rattle.sm_term.specs.Tables.{TableValue, trees_in, sorts_in}
 use Rattle.sm_term.specs.TableLaws.{AddsTerms}
@@ -36,7 +35,7 @@ assertion-more v w grows f within =
     ∙ assertion-trees (sorts_in v) (trees_in v) grows.trees.0 f within
 
 -- numbers below a count are below a greater one
-form-later : (m n : ℕ) → m ≤ n → (f : NumberedFormula) → IsFormulaWithin m f → IsFormulaWithin n f
+pub form-later : (m n : ℕ) → m ≤ n → (f : NumberedFormula) → IsFormulaWithin m f → IsFormulaWithin n f
 form-later m n h form.Yes w = tt
 form-later m n h form.No w = tt
 form-later m n h (form.Eq t u) w = (omega arith, omega arith)

@@ -15,3 +15,4 @@ pub mod TailsLemmas
 pub mod MovesLemmas
 pub mod AdoptionLemmas
 pub mod PairsLemmas
+pub mod SortedForms

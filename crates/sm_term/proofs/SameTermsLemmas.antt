@@ -13,14 +13,14 @@ pub use Rattle.sm_term.specs.SameTestLaws.{same_comparison_is, same_expression_i
 pub use Rattle.sm_term.specs.SameCodeLaws.{same_code_is}
 
 -- copies
-copy_gives : (c d : Copy) → is_copy c d ≡ true → c ≡ d
+pub copy_gives : (c d : Copy) → is_copy c d ≡ true → c ≡ d
 copy_gives O O h = refl
 copy_gives A A h = refl
 copy_gives B B h = refl
 copy_gives M M h = refl
 copy_gives c d h = absurd cc
 
-copy_itself : (c : Copy) → is_copy c c ≡ true
+pub copy_itself : (c : Copy) → is_copy c c ≡ true
 copy_itself O = refl
 copy_itself A = refl
 copy_itself B = refl
@@ -36,7 +36,7 @@ sort_gives Num Num h = refl
 sort_gives Arr Arr h = refl
 sort_gives s r h = absurd cc
 
-sort_itself : (s : Sort) → same_sort s s ≡ true
+pub sort_itself : (s : Sort) → same_sort s s ≡ true
 sort_itself Num = refl
 sort_itself Arr = refl
 

@@ -8,7 +8,6 @@ use Rattle.std.proofs.lemmas.List.{get_or_append_left, length-append, append_ass
 use Rattle.std.proofs.lemmas.Option.{slice_get-get_or, get_or_from_slice_get, slice_get_within}
 use Rattle.sm_syntax.specs.claim.Syntax.{Code, End}
 use Rattle.sm_syntax.specs.text.Sorts.{Sorts, IsWellSorted}
-use Rattle.sm_term.specs.declared.term.Term.{Term}
 use Rattle.sm_term.specs.declared.term.Term.TheVariants as row
 use Rattle.sm_term.specs.Terms.{Tree}
 use Rattle.sm_term.specs.Terms as tree
@@ -19,12 +18,13 @@ use Rattle.sm_term.specs.Bodies.{block_of, body_code, same_body, same_body-Decid
 use Rattle.sm_term.specs.Rows.{same_term}
 use Rattle.sm_term.specs.RowLaws.{same_term-Decides}
 use Rattle.sm_term.specs.Sorted.{IsSorted}
-use Rattle.sm_term.specs.Tables.{TableValue, trees_in, sorts_in, codes_in, tree_at, code_at, tree_in, trees_behind, IsTermWithin}
+use Rattle.sm_term.specs.Tables.{TableValue, trees_in, sorts_in, codes_in, tree_at, code_at, tree_in, trees_behind, IsTermWithin, Term}
 use Rattle.sm_term.specs.Fitting.{term_fits}
 use Rattle.sm_term.specs.TableLaws.{AreTermsSound, AreApart, AreCodesApart, AreTreesSorted, AreCodesSorted, IsTable, with_tree, with_code, AddsTerms}
 use Rattle.sm_term.proofs.SameTermsLemmas.{same_code_is, same_tree_is}
 use Rattle.sm_term.proofs.TermsLemmas.{alike, unlike, term_sorted}
 use Rattle.sm_term.proofs.TreesLemmas.{length-trees, take-trees, trees-push, tree_at-more, tree_in-more, fits-more, within-later, trees-codes, sound-codes, sound-take, sound-push}
+use Rattle.sm_lemmas.proofs.Tests.{same_tests}
 
 -- the term at a place, over all trees: its tree, and what is so of it
 pub record StandsAt (sorts : Sorts) (codes : List Code) (trees : List Tree) (i : ℕ) (t : Term) : Type 0 where
@@ -79,12 +79,6 @@ any_where p (x ∷ xs) d h = by (p x) refl (any_where p xs d)
     by : (b : Bool) → p x ≡ b → (list_any p xs ≡ true → (i : ℕ) × (i < length xs) × (p (get_or xs i d) ≡ true)) → (i : ℕ) × (i < length (x ∷ xs)) × (p (get_or (x ∷ xs) i d) ≡ true)
     by true e rest = (0, omega arith, e)
     by false e rest = let found = rest (sym (ap (λ b. b || list_any p xs) e) ∙ h) in (suc found.0, omega (arith, found.1), found.2)
-
--- tests that are passed together are equal
-same_tests : (a b : Bool) → (a ≡ true → b ≡ true) → (b ≡ true → a ≡ true) → a ≡ b
-same_tests true b there back = sym (there refl)
-same_tests false true there back = back refl
-same_tests false false there back = refl
 
 module _ (sorts : Sorts) (codes : List Code) (terms : List Term) (table : IsTable sorts codes terms) (t : Term) where
   abbrev all : List Tree

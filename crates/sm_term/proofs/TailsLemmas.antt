@@ -3,13 +3,12 @@ use Rattle.std.proofs.Common.{◌≡◌, ℕ, zero, suc, List, [], ◌∷◌, �
 use Rattle.std.proofs.lemmas.List.{append_assoc, append-nil}
 use Rattle.sm_syntax.specs.claim.Syntax.{Code}
 use Rattle.sm_syntax.specs.text.Sorts.{Sorts}
-use Rattle.sm_term.specs.declared.term.Term.{Term}
 use Rattle.sm_term.specs.Terms.{Tree}
 use Rattle.sm_syntax.specs.trees.Views.{code_of}
 use Rattle.sm_term.specs.declared.body.Body.{Body}
 use Rattle.sm_term.specs.Bodies.{block_of, body_code}
 use Rattle.sm_term.specs.RowLaws.{contents_of}
-use Rattle.sm_term.specs.Tables.{tree_in, trees_behind}
+use Rattle.sm_term.specs.Tables.{tree_in, trees_behind, Term}
 use Rattle.sm_term.specs.TableLaws.{AreTermsSound}
 use Rattle.sm_term.proofs.TermsLemmas.{alike, within_alike, fits_alike}
 

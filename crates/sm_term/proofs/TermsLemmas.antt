@@ -2,22 +2,20 @@
 use Rattle.std.proofs.Common.{◌≡◌, ℕ, zero, suc, ◌+◌, ◌<◌, ◌≤◌, Bool, true, false, ◌&&◌, IsTrue, List, [], ◌∷◌, length, drop, slice_get, refl, sym, ap, ◌∙◌, subst, arith, Option, Some, None, is_some, unwrap_or}
 use Rattle.std.proofs.lemmas.Bool.{and_parts}
 use Rattle.std.proofs.lemmas.List.{drop_all}
-use Rattle.sm_syntax.specs.declared.tree.Sort.{Sort}
-use Rattle.sm_syntax.specs.declared.tree.Sort.TheVariants.{Num, Arr}
 use Rattle.sm_syntax.specs.declared.tree.Name.{Name}
 use Rattle.sm_syntax.specs.claim.Syntax.{Code}
 use Rattle.sm_syntax.specs.claim.ConflictFree.{copy_of}
 use Rattle.sm_syntax.specs.text.Sorts.{Sorts}
+use Rattle.sm_syntax.specs.declared.tree.Sort.{Sort}
+use Rattle.sm_syntax.specs.declared.tree.Sort.TheVariants.{Num, Arr}
 use Rattle.sm_syntax.specs.trees.Copies.{number_of}
-use Rattle.sm_term.specs.declared.term.TermId.{TermId}
-use Rattle.sm_term.specs.declared.term.Term.{Term}
 use Rattle.sm_term.specs.declared.term.Term.TheVariants as row
 use Rattle.sm_term.specs.Terms.{Tree, Arguments, Over, Given}
 use Rattle.sm_term.specs.Terms as tree
 use Rattle.sm_term.specs.Rows.{kind_numbers, term_numbers, names_of_term, parts_of_term, names_in_list, parts_in_list}
 use Rattle.sm_term.specs.RowLaws.{Contents, contents_of}
 use Rattle.sm_term.specs.Sorted.{sort_named, tree_sort, IsSorted, AreArgumentsSorted, IsDeclaredIn}
-use Rattle.sm_term.specs.Tables.{tree_at, code_at, arguments_in, tree_in, IsTermWithin, AreBefore, AreNamesDeclared}
+use Rattle.sm_term.specs.Tables.{tree_at, code_at, arguments_in, tree_in, IsTermWithin, AreBefore, AreNamesDeclared, TermId, Term}
 use Rattle.sm_term.specs.Fitting.{has_sort, arguments_fit, term_fits}
 use Rattle.sm_term.specs.TableLaws.{AreApart, AreCodesApart, AreCodesSorted, AreTreesSorted}
 use Rattle.sm_term.proofs.SameTermsLemmas.{same_sort_is}
@@ -130,7 +128,7 @@ unlike sorts codes trees bodies apart (row.Fun b x from args) (row.Fun c y names
 unlike sorts codes trees bodies apart t u v w f g e = absurd cc
 
 -- the sort of a declared name
-named : (sorts : Sorts) (x : ℕ) → IsDeclaredIn sorts x → sorts x ≡ Some (sort_named sorts x)
+pub named : (sorts : Sorts) (x : ℕ) → IsDeclaredIn sorts x → sorts x ≡ Some (sort_named sorts x)
 named sorts x d = by (sorts x) d
   where
     by : (o : Option Sort) → IsTrue (is_some o) → o ≡ Some (unwrap_or o Num)

@@ -4,12 +4,10 @@ use Rattle.std.proofs.lemmas.List.{get_or_append_left, length-append, append_ass
 use Rattle.sm_syntax.specs.declared.tree.Name.{Name}
 use Rattle.sm_syntax.specs.claim.Syntax.{Code, End}
 use Rattle.sm_syntax.specs.text.Sorts.{Sorts}
-use Rattle.sm_term.specs.declared.term.TermId.{TermId}
-use Rattle.sm_term.specs.declared.term.Term.{Term}
 use Rattle.sm_term.specs.declared.term.Term.TheVariants as row
 use Rattle.sm_term.specs.Terms.{Tree, Arguments, Given}
 use Rattle.sm_term.specs.Terms as tree
-use Rattle.sm_term.specs.Tables.{tree_at, arguments_in, tree_in, trees_behind, IsTermWithin, AreBefore}
+use Rattle.sm_term.specs.Tables.{tree_at, arguments_in, tree_in, trees_behind, IsTermWithin, AreBefore, TermId, Term}
 use Rattle.sm_term.specs.Fitting.{arguments_fit, term_fits}
 use Rattle.sm_term.specs.TableLaws.{AreTermsSound}
 

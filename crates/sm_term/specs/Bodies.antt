@@ -3,10 +3,10 @@ use Rattle.std.specs.Prelude.{◌≡◌, ℕ, true, Bool, List, min, ◌-◌, �
 use Rattle.std.proofs.Common.{ap, Decides}
 use Rattle.std.specs.Hash as fed
 use Rattle.std.specs.Cmp.{IsEquivalence}
-use Rattle.sm_syntax.specs.declared.tree.Block.{Block}
 use Rattle.sm_syntax.specs.claim.Syntax.{Code}
 use Rattle.sm_syntax.specs.text.Conditions.{code_nodes}
 use Rattle.sm_syntax.specs.trees.Views.{code_of}
+use Rattle.sm_syntax.specs.declared.tree.Block.{Block}
 use Rattle.sm_term.specs.declared.body.Body.{Body}
 use Rattle.sm_term.specs.SameTerms.{same_code}
 use Rattle.sm_term.specs.RowLaws.{equivalence_by}

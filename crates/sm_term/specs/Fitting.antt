@@ -1,17 +1,14 @@
 -- Cited by public clauses: whether the arguments of a term have the sorts that it needs.
 use Rattle.std.specs.Prelude.{Bool, true, false, ◌&&◌, List, [], ◌∷◌}
-use Rattle.sm_syntax.specs.declared.tree.Sort.TheVariants.{Num, Arr}
 use Rattle.sm_syntax.specs.declared.tree.Name.{Name}
-use Rattle.sm_syntax.specs.declared.tree.Sort.{Sort}
 use Rattle.sm_syntax.specs.text.Sorts.{Sorts}
-use Rattle.sm_term.specs.declared.term.TermId.{TermId}
-use Rattle.sm_term.specs.declared.term.Term.{Term}
-use Rattle.sm_term.specs.declared.term.Term.TheVariants.{Lit, Start, Havoc, Slot, Cell, Read, Write}
-use Rattle.sm_term.specs.declared.term.Term.TheVariants.{Neg, Add, Sub, Mul, Fun}
+use Rattle.sm_syntax.specs.declared.tree.Sort.TheVariants.{Num, Arr}
+use Rattle.sm_syntax.specs.declared.tree.Sort.{Sort}
+use Rattle.sm_term.specs.declared.term.Term.TheVariants.{Lit, Start, Havoc, Slot, Cell, Read, Write, Neg, Add, Sub, Mul, Fun}
 use Rattle.sm_term.specs.Terms.{Tree}
 use Rattle.sm_term.specs.SameTerms.{same_sort}
 use Rattle.sm_term.specs.Sorted.{sort_named, tree_sort}
-use Rattle.sm_term.specs.Tables.{tree_at}
+use Rattle.sm_term.specs.Tables.{tree_at, TermId, Term}
 
 -- whether the term with a number has a sort
 abbrev pub has_sort : Sorts → List Tree → TermId → Sort → Bool

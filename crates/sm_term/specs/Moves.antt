@@ -1,16 +1,13 @@
 -- Cited by public clauses: a row of one table as a term of another, and tables that keep their rows.
-use Rattle.std.specs.Prelude.{◌≡◌, ℕ, ◌-◌, nat_lt, if◌then◌else◌, Option, List, ◌++◌, map, get_or}
-use Rattle.std.specs.Prelude.{slice_get}
+use Rattle.std.specs.Prelude.{◌≡◌, ℕ, ◌-◌, nat_lt, if◌then◌else◌, Option, List, ◌++◌, map, get_or, slice_get}
 use Rattle.sm_syntax.specs.declared.tree.Block.{Block}
 use Rattle.sm_syntax.specs.claim.Syntax.{Code}
 use Rattle.sm_term.specs.declared.term.BodyId.{BodyId}
 use Rattle.sm_term.specs.declared.term.Numbers.{Numbers}
-use Rattle.sm_term.specs.declared.term.Term.{Term}
-use Rattle.sm_term.specs.declared.term.Term.TheVariants.{Lit, Start, Havoc, Slot, Cell, Read, Write}
-use Rattle.sm_term.specs.declared.term.Term.TheVariants.{Neg, Add, Sub, Mul, Fun}
+use Rattle.sm_term.specs.declared.term.Term.TheVariants.{Lit, Start, Havoc, Slot, Cell, Read, Write, Neg, Add, Sub, Mul, Fun}
 use Rattle.sm_term.specs.Rows.{kind_numbers, term_numbers, names_of_term, parts_of_term}
 use Rattle.sm_term.specs.RowLaws.{Contents}
-use Rattle.sm_term.specs.Tables.{TableValue}
+use Rattle.sm_term.specs.Tables.{TableValue, Term}
 
 -- the number here of a row's part: the same before a place, and behind it that of the row there
 abbrev pub moved_part : ℕ → List ℕ → ℕ → ℕ

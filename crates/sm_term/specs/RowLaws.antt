@@ -3,13 +3,11 @@ use Rattle.std.specs.Prelude.{◌≡◌, ℕ, true, Bool, ◌++◌, List}
 use Rattle.std.proofs.Common.{refl, sym, ap, ◌∙◌, Decides}
 use Rattle.std.specs.Hash as fed
 use Rattle.std.specs.Cmp.{IsEquivalence}
-use Rattle.std.proofs.lemmas.Bool.Decides.{Decides-and, Decides-eqb, Decides-int_eq}
-use Rattle.std.proofs.lemmas.Bool.Decides.{same_from_decides}
+use Rattle.std.proofs.lemmas.Bool.Decides.{Decides-and, Decides-eqb, Decides-int_eq, same_from_decides}
 use Rattle.std.proofs.lemmas.Slice.Eq.{bytes_eq-Decides}
 use Rattle.sm_term.specs.declared.term.Numbers.{Numbers}
 use Rattle.sm_term.specs.declared.term.Term.{Term}
-use Rattle.sm_term.specs.Rows.{term_numbers, names_of_term, parts_of_term, same_numbers, same_term}
-use Rattle.sm_term.specs.Rows.{hashed}
+use Rattle.sm_term.specs.Rows.{term_numbers, names_of_term, parts_of_term, same_numbers, same_term, hashed}
 
 -- a test that decides whether a function has one value at both is an equivalence
 pub equivalence_by :

@@ -8,8 +8,7 @@ use Rattle.sm_syntax.specs.declared.tree.Name.{Name}
 use Rattle.sm_term.specs.declared.term.TermId.{TermId}
 use Rattle.sm_term.specs.declared.term.Numbers.{Numbers}
 use Rattle.sm_term.specs.declared.term.Term.{Term}
-use Rattle.sm_term.specs.declared.term.Term.TheVariants.{Lit, Start, Havoc, Slot, Cell, Read, Write}
-use Rattle.sm_term.specs.declared.term.Term.TheVariants.{Neg, Add, Sub, Mul, Fun}
+use Rattle.sm_term.specs.declared.term.Term.TheVariants.{Lit, Start, Havoc, Slot, Cell, Read, Write, Neg, Add, Sub, Mul, Fun}
 
 -- a kind with three numbers
 abbrev pub kind_numbers : ℕ → ℕ → ℕ → ℕ → Numbers

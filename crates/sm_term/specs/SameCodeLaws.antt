@@ -5,8 +5,7 @@ use Rattle.std.proofs.lemmas.Bool.{eqb-true, and_parts}
 use Rattle.sm_syntax.specs.claim.Syntax as syntax
 use Rattle.sm_syntax.specs.claim.Syntax.{Code}
 use Rattle.sm_term.specs.SameTerms.{same_expression, same_condition, same_code}
-use Rattle.sm_term.specs.SameTestLaws.{both, three, four, says, same_number, expression_gives}
-use Rattle.sm_term.specs.SameTestLaws.{expression_itself, condition_gives, condition_itself}
+use Rattle.sm_term.specs.SameTestLaws.{both, three, four, says, same_number, expression_gives, expression_itself, condition_gives, condition_itself}
 
 -- code
 pub code_gives : (c d : Code) → same_code c d ≡ true → c ≡ d

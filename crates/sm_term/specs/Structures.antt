@@ -1,13 +1,10 @@
 -- Cited by public clauses: what terms mean. A structure gives each symbol a value, and all
 -- summaries one bound on turns.
-use Rattle.std.specs.Prelude.{ℕ, ◌==◌, if◌then◌else◌, Option, Some, None}
-use Rattle.std.specs.Prelude.{ℤ, ◌+ℤ◌, ◌-ℤ◌, ◌*ℤ◌, neg_ℤ}
-use Rattle.sm_syntax.specs.claim.Stores.{Value, Number, Array, number, array, zero_value}
-use Rattle.sm_syntax.specs.claim.Stores.{Store, put, with_element}
+use Rattle.std.specs.Prelude.{ℕ, ◌==◌, if◌then◌else◌, Option, Some, None, ℤ, ◌+ℤ◌, ◌-ℤ◌, ◌*ℤ◌, neg_ℤ}
+use Rattle.sm_syntax.specs.claim.Stores.{Value, Number, Array, number, array, zero_value, Store, put, with_element}
 use Rattle.sm_syntax.specs.claim.Meaning.{run}
 use Rattle.sm_syntax.specs.claim.ConflictFree.{Copy}
-use Rattle.sm_term.specs.Terms.{Tree, Lit, Start, Havoc, Slot, Cell, Read, Write}
-use Rattle.sm_term.specs.Terms.{Neg, Add, Sub, Mul, Fun, Arguments, Over, Given}
+use Rattle.sm_term.specs.Terms.{Tree, Lit, Start, Havoc, Slot, Cell, Read, Write, Neg, Add, Sub, Mul, Fun, Arguments, Over, Given}
 
 -- a bound on turns, a value for each symbol, and the index of the cell
 pub record Structure : Type 0 where

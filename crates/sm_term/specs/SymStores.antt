@@ -1,10 +1,9 @@
 -- Cited by public clauses: the symbolic store that a list of terms stands for.
 use Rattle.std.specs.Prelude.{ℕ, Option, Some, None, List, slice_get}
-use Rattle.sm_term.specs.declared.symbolic.SymStore.{SymStore}
-use Rattle.sm_term.specs.declared.term.TermId.{TermId}
+pub use Rattle.sm_term.specs.declared.symbolic.SymStore.{SymStore}
 use Rattle.sm_term.specs.Terms.{Tree, Start}
 use Rattle.sm_term.specs.Symbolic.{SymbolicStore}
-use Rattle.sm_term.specs.Tables.{tree_at, AreBefore}
+use Rattle.sm_term.specs.Tables.{tree_at, AreBefore, TermId}
 
 -- the tree of a number, or else the start of a name
 abbrev pub tree_or_start : List Tree → ℕ → Option TermId → Tree

@@ -1,11 +1,11 @@
 -- Cited by public clauses: symbolic stores, which have a term for each name, and what expressions
 -- and conditions are in them.
 use Rattle.std.specs.Prelude.{ℕ, ◌==◌, if◌then◌else◌}
-use Rattle.sm_syntax.specs.declared.tree.Cmp.{Cmp}
 use Rattle.sm_syntax.specs.declared.tree.Cmp.TheVariants as cmp
 use Rattle.sm_syntax.specs.declared.tree.Sort.TheVariants.{Num}
 use Rattle.sm_syntax.specs.claim.Syntax as syntax
 use Rattle.sm_syntax.specs.claim.Syntax.{Expression, Condition}
+use Rattle.sm_syntax.specs.declared.tree.Cmp.{Cmp}
 use Rattle.sm_syntax.specs.claim.Stores.{Store}
 use Rattle.sm_term.specs.Terms.{Tree, Lit, Read, Neg, Add, Sub, Mul}
 use Rattle.sm_term.specs.Structures.{Structure, meaning}

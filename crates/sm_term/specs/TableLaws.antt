@@ -3,12 +3,10 @@ use Rattle.std.specs.Prelude.{◌≡◌, ℕ, ◌<◌, IsTrue, List, [], ◌∷�
 use Rattle.std.specs.List.{list_any}
 use Rattle.sm_syntax.specs.claim.Syntax.{Code}
 use Rattle.sm_syntax.specs.text.Sorts.{Sorts, IsWellSorted}
-use Rattle.sm_term.specs.declared.term.Term.{Term}
 use Rattle.sm_term.specs.Terms.{Tree}
 use Rattle.sm_term.specs.SameTerms.{same_tree, same_code}
 use Rattle.sm_term.specs.Sorted.{IsSorted}
-use Rattle.sm_term.specs.Tables.{TableValue, tree_at, code_at, tree_in, trees_behind, trees_in}
-use Rattle.sm_term.specs.Tables.{codes_in, sorts_in, IsTermWithin}
+use Rattle.sm_term.specs.Tables.{TableValue, tree_at, code_at, tree_in, trees_behind, trees_in, codes_in, sorts_in, IsTermWithin, Term}
 use Rattle.sm_term.specs.Fitting.{term_fits}
 
 -- each term stands behind its parts, and its arguments have the sorts that it needs

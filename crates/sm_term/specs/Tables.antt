@@ -1,20 +1,18 @@
 -- Cited by public clauses: what a table of terms stands for. The tree of each number is made of the
 -- trees before it, front to back; a summary's body is a number too.
-use Rattle.std.specs.Prelude.{ℕ, pos, ◌<◌}
-use Rattle.std.specs.Prelude.{List, [], ◌∷◌, ◌++◌, map, get_or}
-use Rattle.sm_syntax.specs.declared.tree.Sort.{Sort}
+use Rattle.std.specs.Prelude.{ℕ, pos, ◌<◌, List, [], ◌∷◌, ◌++◌, map, get_or}
 use Rattle.sm_syntax.specs.declared.tree.Name.{Name}
-use Rattle.sm_syntax.specs.declared.tree.Block.{Block}
 use Rattle.sm_syntax.specs.claim.Syntax.{Code, End}
 use Rattle.sm_syntax.specs.claim.ConflictFree.{copy_of}
 use Rattle.sm_syntax.specs.text.Parts.{sort_of}
 use Rattle.sm_syntax.specs.text.Sorts.{Sorts}
+use Rattle.sm_syntax.specs.declared.tree.Sort.{Sort}
 use Rattle.sm_syntax.specs.trees.Views.{code_of}
-use Rattle.sm_term.specs.declared.term.TermId.{TermId}
-use Rattle.sm_term.specs.declared.term.Term.{Term}
+use Rattle.sm_syntax.specs.declared.tree.Block.{Block}
+pub use Rattle.sm_term.specs.declared.term.TermId.{TermId}
+pub use Rattle.sm_term.specs.declared.term.Term.{Term}
 use Rattle.sm_term.specs.declared.term.Term.TheVariants as row
-use Rattle.sm_term.specs.Terms.{Tree, Lit, Start, Havoc, Slot, Cell, Read, Write}
-use Rattle.sm_term.specs.Terms.{Neg, Add, Sub, Mul, Fun, Arguments, Over, Given}
+use Rattle.sm_term.specs.Terms.{Tree, Lit, Start, Havoc, Slot, Cell, Read, Write, Neg, Add, Sub, Mul, Fun, Arguments, Over, Given}
 use Rattle.sm_term.specs.Sorted.{IsDeclaredIn}
 
 -- the tree with a number

@@ -4,10 +4,9 @@ use Rattle.std.specs.Prelude.{Option, List, map, slice_get}
 use Rattle.sm_syntax.specs.claim.Syntax.{Code}
 use Rattle.sm_syntax.specs.text.Sorts.{Sorts}
 use Rattle.sm_syntax.specs.trees.Views.{code_of}
-use Rattle.sm_term.specs.declared.term.TermId.{TermId}
 use Rattle.sm_term.specs.declared.tails.TermRows.{TermRows}
 use Rattle.sm_term.specs.Terms.{Tree}
-use Rattle.sm_term.specs.Tables.{trees_behind}
+use Rattle.sm_term.specs.Tables.{trees_behind, TermId}
 use Rattle.sm_term.specs.TableLaws.{AreTermsSound, AreCodesSorted}
 
 -- the code of each body of rows, by number

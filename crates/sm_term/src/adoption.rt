@@ -2,8 +2,7 @@
 ghost use Rattle.std.specs.Prelude.{◌≡◌, ◌≤◌, Some, map, take, length, IfOk, OnOk, OnErr};
 ghost use Rattle.sm_syntax.specs.trees.Views.{code_of};
 ghost use Rattle.sm_term.specs.Tables.{trees_in, sorts_in, codes_in};
-ghost use Rattle.sm_term.specs.TableLaws.{AreCodesSorted, IsTable, ExtendsTable};
-ghost use Rattle.sm_term.specs.TableLaws.{with_trees, with_codes};
+ghost use Rattle.sm_term.specs.TableLaws.{AreCodesSorted, IsTable, ExtendsTable, with_trees, with_codes};
 ghost use Rattle.sm_term.specs.Tails.{row_codes, row_trees, AreRowsSound, trees_numbered};
 ghost use Rattle.sm_term.specs.Moves.{codes_numbered, KeepsRows};
 

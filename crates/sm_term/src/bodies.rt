@@ -1,7 +1,6 @@
 // When two bodies are equal.
 ghost use Rattle.std.specs.Cmp.{partial_equiv_from_equiv};
-ghost use Rattle.sm_term.specs.Bodies.{same_body, hashed_body};
-ghost use Rattle.sm_term.specs.Bodies.{same_body-equiv, same_body-hashed};
+ghost use Rattle.sm_term.specs.Bodies.{same_body, hashed_body, same_body-equiv, same_body-hashed};
 
 use crate::body::Body;
 use sm_syntax::same_block;

@@ -1,6 +1,5 @@
 // Putting terms and bodies into a table.
-ghost use Rattle.std.specs.Prelude.{◌≡◌, ◌≢◌, ◌<◌, length, true, false, Some, slice_get};
-ghost use Rattle.std.specs.Prelude.{IsTrue, IfOk, IfErr, OnOk, OnErr};
+ghost use Rattle.std.specs.Prelude.{◌≡◌, ◌≢◌, ◌<◌, length, true, false, Some, slice_get, IsTrue, IfOk, IfErr, OnOk, OnErr};
 ghost use Rattle.sm_syntax.specs.text.Sorts.{IsWellSorted};
 ghost use Rattle.sm_syntax.specs.trees.Views.{code_of};
 ghost use Rattle.sm_term.specs.declared.body.Body.{Body};
@@ -9,8 +8,7 @@ ghost use Rattle.sm_term.specs.Bodies.{same_body};
 ghost use Rattle.sm_term.specs.Rows.{same_term};
 ghost use Rattle.sm_numbering.specs.Numbers.{with_value};
 ghost use Rattle.sm_term.specs.Fitting.{has_sort, arguments_fit, term_fits};
-ghost use Rattle.sm_term.specs.Tables.{trees_in, sorts_in, codes_in, tree_in};
-ghost use Rattle.sm_term.specs.Tables.{IsTermWithin, AreBefore};
+ghost use Rattle.sm_term.specs.Tables.{trees_in, sorts_in, codes_in, tree_in, IsTermWithin, AreBefore};
 ghost use Rattle.sm_term.specs.TableLaws.{with_tree, with_code, AddsTerms};
 ghost use Rattle.sm_term.specs.Moves.{KeepsRows};
 

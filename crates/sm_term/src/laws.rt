@@ -1,7 +1,5 @@
 // Laws of terms and formulas, as contracts.
-ghost use Rattle.sm_term.specs.Laws.{TermMeansValue, FormMeansTruth, NegateIsContrary};
-ghost use Rattle.sm_term.specs.Laws.{ConjHolds, RefutedIsValid, RefutedHere, AtStoresHolds};
-ghost use Rattle.sm_term.specs.Laws.{HoldsIsStable, FreshHolds};
+ghost use Rattle.sm_term.specs.Laws.{TermMeansValue, FormMeansTruth, NegateIsContrary, ConjHolds, RefutedIsValid, RefutedHere, AtStoresHolds, HoldsIsStable, FreshHolds};
 
 use crate::formula::Formula;
 use crate::symbolic::SymStore;

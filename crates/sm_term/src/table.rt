@@ -4,8 +4,7 @@ ghost use Rattle.std.specs.HashMap.{get};
 ghost use Rattle.sm_syntax.specs.text.Parts.{sort_of};
 ghost use Rattle.sm_syntax.specs.trees.Programs.{declared_of};
 ghost use Rattle.sm_term.specs.Sorted.{sort_named, tree_sort};
-ghost use Rattle.sm_term.specs.Tables.{trees_in, sorts_in, codes_in, tree_at, tree_in};
-ghost use Rattle.sm_term.specs.Tables.{IsTermWithin};
+ghost use Rattle.sm_term.specs.Tables.{trees_in, sorts_in, codes_in, tree_at, tree_in, IsTermWithin};
 ghost use Rattle.sm_term.specs.TableLaws.{AreApart, AreTreesSorted, AreCodesApart, AreCodesSorted};
 ghost use Rattle.sm_term.specs.Fitting.{term_fits};
 

@@ -2,9 +2,7 @@
 ghost use Rattle.std.specs.Prelude.{◌≡◌, nat_eq, IfOk};
 ghost use Rattle.std.specs.Cmp.{partial_equiv_from_equiv};
 ghost use Rattle.std.specs.Cmp.Lexicographic.{pointwise};
-ghost use Rattle.sm_term.specs.Rows.{kind_numbers, term_numbers, names_of_term};
-ghost use Rattle.sm_term.specs.Rows.{parts_of_term, same_term};
-ghost use Rattle.sm_term.specs.Rows.{names_in_list, parts_in_list, same_numbers, hashed};
+ghost use Rattle.sm_term.specs.Rows.{kind_numbers, term_numbers, names_of_term, parts_of_term, same_term, names_in_list, parts_in_list, same_numbers, hashed};
 ghost use Rattle.sm_term.specs.RowLaws.{contents_of, same_term-equiv, same_term-hashed};
 
 use sm_syntax::{Name, Outputs, copy_outputs};

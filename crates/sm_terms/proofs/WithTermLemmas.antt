@@ -2,14 +2,14 @@
 -- each term are there.
 use Rattle.std.proofs.Common.{◌≡◌, Bool, true, false, ◌||◌, if◌then◌else◌, ◌⊎◌, inl, inr, List, [], ◌∷◌, ◌++◌, refl, sym, ap, ◌∙◌, subst}
 use Rattle.std.specs.List.{list_any}
-use Rattle.sm_term.specs.Terms.{Tree, Lit, Start, Havoc, Slot, Cell, Read, Write}
-use Rattle.sm_term.specs.Terms.{Neg, Add, Sub, Mul, Fun, Arguments, Over, Given}
+use Rattle.sm_term.specs.Terms.{Tree, Lit, Start, Havoc, Slot, Cell, Read, Write, Neg, Add, Sub, Mul, Fun, Arguments, Over, Given}
 use Rattle.sm_term.specs.Assertions.{Assertion, Yes, No, Eq, Ne, Le, Lt, And, Or}
 use Rattle.sm_term.specs.SameTerms.{same_tree}
 use Rattle.sm_term.specs.Heads.{arguments_of, terms_given}
 use Rattle.sm_term.proofs.SameTermsLemmas.{same_tree_is}
 use Rattle.sm_theory.specs.TermsOfFormulas.{put, with_term, with_arguments, with_formula, with_formulas, is_among}
 use Rattle.sm_terms.specs.Listing.{AllAmong, IsClosed}
+use Rattle.sm_lemmas.proofs.Tests.{or_true}
 
 -- each of a list of terms has something
 abbrev pub AllOf : (Tree → Type 0) → List Tree → Type 0
@@ -64,10 +64,6 @@ with_term_is (Fun c x args) seen = ap (put (Fun c x args)) (given_are_terms args
 -- a term is the same as itself
 pub same_itself : (t : Tree) → same_tree t t ≡ true
 same_itself t = (same_tree_is t t).1 refl
-
-or_true : (b : Bool) → (b || true) ≡ true
-or_true true = refl
-or_true false = refl
 
 -- what is among terms is among more
 pub among-left : (ts us : List Tree) (t : Tree) → is_among ts t ≡ true → is_among (ts ++ us) t ≡ true

@@ -1,10 +1,9 @@
 -- Cited by public clauses: terms that are listed by their numbers, each after its arguments. The
 -- steps that are left stand on a stack, of which the last is the next one.
 use Rattle.std.specs.Prelude.{◌≡◌, ℕ, ◌<◌, ◌+◌, IsTrue, List, [], ◌∷◌, ◌++◌, map, length}
-use Rattle.sm_term.specs.declared.term.TermId.{TermId}
-use Rattle.sm_term.specs.Terms.{Tree, Lit, Start, Havoc, Slot, Cell, Read, Write}
-use Rattle.sm_term.specs.Terms.{Neg, Add, Sub, Mul, Fun, Arguments, Over, Given}
+use Rattle.sm_term.specs.Terms.{Tree, Lit, Start, Havoc, Slot, Cell, Read, Write, Neg, Add, Sub, Mul, Fun, Arguments, Over, Given}
 use Rattle.sm_term.specs.Tables.{tree_at}
+use Rattle.sm_term.specs.declared.term.TermId.{TermId}
 use Rattle.sm_term.specs.Heads.{arguments_of}
 use Rattle.sm_theory.specs.TermsOfFormulas.{put, with_term, is_among}
 use Rattle.sm_terms.specs.declared.listing.Step.{Step}

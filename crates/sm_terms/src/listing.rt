@@ -6,8 +6,7 @@ ghost use Rattle.sm_term.specs.Tables.{trees_in, sorts_in, tree_at};
 ghost use Rattle.sm_term.specs.Formulas.{numbered, assertion_in, IsFormulaWithin};
 ghost use Rattle.sm_euf.specs.Arguments.{argument_numbers};
 ghost use Rattle.sm_theory.specs.TermsOfFormulas.{with_term, with_formula};
-ghost use Rattle.sm_terms.specs.Listing.{trees_at, AreBelow, IsClosed, IsStepWithin, Leads};
-ghost use Rattle.sm_terms.specs.Listing.{visits, cost_of_step, cost_of_steps};
+ghost use Rattle.sm_terms.specs.Listing.{trees_at, AreBelow, IsClosed, IsStepWithin, Leads, visits, cost_of_step, cost_of_steps};
 
 use sm_numbering::Numbering;
 use sm_term::{Formula, Term, TermId, TermTable};

@@ -2,16 +2,14 @@
 -- Laws of reading.
 use Rattle.std.specs.Prelude.{◌≡◌, ◌↔◌, ℕ, Option, List, length, map}
 use Rattle.std.specs.List.{range_with_len}
-use Rattle.sm_syntax.specs.declared.token.LexFault.{LexFault}
-use Rattle.sm_syntax.specs.declared.token.Token.{Token}
 use Rattle.sm_syntax.specs.declared.tree.Sort.{Sort}
 use Rattle.sm_syntax.specs.text.Parts.{Parts}
 use Rattle.sm_syntax.specs.text.Spells.{IsInGrammar, Spells}
 use Rattle.sm_syntax.specs.text.Tokens.{lexed}
-use Rattle.sm_text.specs.declared.error.TextError.{TextError}
+use Rattle.sm_syntax.specs.declared.token.Token.{Token}
+use Rattle.sm_syntax.specs.declared.token.LexFault.{LexFault}
 use Rattle.sm_text.specs.lexing.Cutting.{IsCutInto}
-use Rattle.sm_text.specs.parsing.Places.{Grammar, Source, AreTasks, IsFault}
-use Rattle.sm_text.specs.parsing.Places.{IsFirstFault, whole_text}
+use Rattle.sm_text.specs.parsing.Places.{Grammar, Source, AreTasks, IsFault, IsFirstFault, whole_text, TextError}
 
 -- a text is in the grammar by at most one task
 abbrev pub OneParse : Type 0

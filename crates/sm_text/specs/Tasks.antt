@@ -1,19 +1,19 @@
 -- Public clauses cite this file.
 -- What the trees of a program, of a head and of a task carry. A head is the front of a task.
 use Rattle.std.specs.Prelude.{ℕ, Option, option_map, List}
-use Rattle.sm_syntax.specs.declared.copies.PerCopy.{PerCopy}
 use Rattle.sm_syntax.specs.declared.program.Fillings as tree
 use Rattle.sm_syntax.specs.declared.program.Program.{Program}
-use Rattle.sm_syntax.specs.declared.tree.Cond.{Cond}
 use Rattle.sm_syntax.specs.declared.tree.Sort.{Sort}
 use Rattle.sm_syntax.specs.claim.ConflictFree.{Copy}
 use Rattle.sm_syntax.specs.claim.Fill.{Fillings}
 use Rattle.sm_syntax.specs.claim.Syntax.{Condition, Code}
 use Rattle.sm_syntax.specs.text.Parts.{Parts}
 use Rattle.sm_syntax.specs.trees.Copies.{of_copy}
+use Rattle.sm_syntax.specs.declared.copies.PerCopy.{PerCopy}
 use Rattle.sm_syntax.specs.trees.Programs.{declared_of, outputs_of, fillings_of}
 use Rattle.sm_syntax.specs.trees.Views.{condition_of, code_of}
-use Rattle.sm_text.specs.declared.task.Task.{Task}
+use Rattle.sm_syntax.specs.declared.tree.Cond.{Cond}
+pub use Rattle.sm_text.specs.declared.task.Task.{Task}
 
 -- the parts of a program, and the text of each name by its number
 pub record ProgramParts : Type 0 where

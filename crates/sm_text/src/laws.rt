@@ -1,6 +1,5 @@
 // Laws of reading, as contracts.
-ghost use Rattle.sm_text.specs.Laws.{DeclaredInOrder, NoFaultInGrammar, OneFirstFault};
-ghost use Rattle.sm_text.specs.Laws.{OneParse, TokensAreCut};
+ghost use Rattle.sm_text.specs.Laws.{DeclaredInOrder, NoFaultInGrammar, OneFirstFault, OneParse, TokensAreCut};
 ghost use Rattle.sm_text.specs.parsing.Places.{AreTasks, ArePrograms};
 
 /// A text spells the parts of at most one task, with the same names.

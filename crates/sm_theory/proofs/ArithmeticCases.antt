@@ -1,10 +1,10 @@
 -- Lines of arithmetic worked by hand: each once good, and once bad for each part of its condition.
 use Rattle.std.proofs.Common.{◌≡◌, ◌^◌, ◌-◌, ℕ, zero, suc, ℤ, pos, negsuc, Option, Some, None, List, [], ◌∷◌, refl}
-use Rattle.sm_syntax.specs.declared.tree.Sort.TheVariants.{Num, Arr}
 use Rattle.sm_syntax.specs.text.Sorts.{Sorts}
-use Rattle.sm_num.specs.declared.kind.Kind.{Kind}
+use Rattle.sm_syntax.specs.declared.tree.Sort.TheVariants.{Num, Arr}
 use Rattle.sm_num.specs.declared.kind.Kind.TheVariants as kind
 use Rattle.sm_num.specs.Forms.{Linear}
+use Rattle.sm_num.specs.declared.kind.Kind.{Kind}
 use Rattle.sm_num.specs.Combining.{Fits, combination}
 use Rattle.sm_num.specs.Eliminating.{gcd, floor_of, ceiling_of}
 use Rattle.sm_term.specs.Terms.{Tree, Lit, Start, Neg, Add, Sub, Mul}

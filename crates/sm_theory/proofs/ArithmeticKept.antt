@@ -2,19 +2,18 @@
 -- too on which the facts stand.
 use Rattle.std.proofs.Common.{◌≡◌, ℕ, ℤ, pos, negsuc, Bool, true, false, not, if◌then◌else◌, Some, None, List, [], ◌∷◌, subst}
 use Rattle.std.specs.Ordering.{int_eq}
-use Rattle.sm_syntax.specs.declared.tree.Sort.TheVariants.{Num, Arr}
 use Rattle.sm_syntax.specs.text.Sorts.{Sorts}
+use Rattle.sm_syntax.specs.declared.tree.Sort.TheVariants.{Num, Arr}
 use Rattle.sm_num.specs.declared.op.Op.TheVariants as op
-use Rattle.sm_num.specs.declared.kind.Kind.{Kind}
 use Rattle.sm_num.specs.declared.kind.Kind.TheVariants as kind
 use Rattle.sm_num.specs.Forms.{Linear}
+use Rattle.sm_num.specs.declared.kind.Kind.{Kind}
 use Rattle.sm_num.specs.Combining.{Outcome, Fits, Leaves, then_with, computed}
 use Rattle.sm_num.specs.Eliminating.{can_cancel, elimination}
 use Rattle.sm_num.specs.Tightening.{tightened}
 use Rattle.sm_num.proofs.OutcomeLemmas.{Gives, gives_both, gives_more, gives_fits, then_gives}
 use Rattle.sm_num.proofs.SameAtomLemmas.{AreReduced}
-use Rattle.sm_num.proofs.ResultsReduced.{AreAmong, IsReduced, combination_reduced, combination_among, elimination_reduced}
-use Rattle.sm_num.proofs.ResultsReduced.{elimination_among, tightened_among}
+use Rattle.sm_num.proofs.ResultsReduced.{AreAmong, IsReduced, combination_reduced, combination_among, elimination_reduced, elimination_among, tightened_among}
 use Rattle.sm_term.specs.Terms.{Tree}
 use Rattle.sm_term.specs.Sorted.{HasSort, IsFormSorted, tree_sort}
 use Rattle.sm_term.specs.Fresh.{IsBelow, IsFormBelow}
@@ -24,16 +23,15 @@ use Rattle.sm_term.specs.Assertions.{Assertion, Yes, No, Eq, Ne, Le, Lt, And, Or
 use Rattle.sm_theory.specs.Facts.{BranchFact, Formal, Sum}
 use Rattle.sm_theory.specs.LinearTerms.{linear_of}
 use Rattle.sm_theory.specs.Lines.{CertificateLine, Same, Apart, Lin, Elim, Tight, followed, formula_at, form_at}
-use Rattle.sm_theory.specs.Arithmetic.{is_numeric, compared_forms, form_fact, with_constant, difference, one_more, form_of_comparison, cancelled}
-use Rattle.sm_theory.specs.Arithmetic.{arithmetic_adds}
+use Rattle.sm_theory.specs.Arithmetic.{is_numeric, compared_forms, form_fact, with_constant, difference, one_more, form_of_comparison, cancelled, arithmetic_adds}
 use Rattle.sm_theory.specs.SortedFacts.{EachAtom, IsFactSorted, AreFactsSorted, IsFactBelow, AreFactsBelow, IsLineSorted, IsLineBelow}
 use Rattle.sm_theory.specs.Moved.{moved_line, ReadsAlike}
-use Rattle.sm_theory.proofs.FactsLemmas.{fact_is_sorted, fact_is_below, followed_from, formula_stands, form_stands, followed_gives}
-use Rattle.sm_theory.proofs.FactsLemmas.{gives_itself, formula_moves, form_moves}
+use Rattle.sm_theory.proofs.FactsLemmas.{fact_is_sorted, fact_is_below, followed_from, formula_stands, form_stands, followed_gives, gives_itself, formula_moves, form_moves}
 use Rattle.sm_theory.proofs.LinearSameTree.{tree_sound, tree_reflexive}
 use Rattle.sm_theory.proofs.LinearTermsLemmas.{FormAtoms, IsInherited, linear_reduced, linear_atoms, sorted_inherited, below_inherited}
 use Rattle.sm_theory.proofs.LinearAlikeLemmas.{once_reduced, reduced_once, tightened_once}
-use Rattle.sm_theory.proofs.ArithmeticSound.{formula_if_is, form_fact_is, compared_passes}
+use Rattle.sm_theory.proofs.ArithmeticSound.{form_fact_is, compared_passes}
+use Rattle.sm_theory.proofs.EqualityLemmas.{formula_if_from}
 
 -- what is so of each atom, in the words of the definitions
 pub atoms_each : (P : Tree → Type 0) (ps : List (Tree × ℤ)) → AreAmong P ps → EachAtom P ps
@@ -145,11 +143,11 @@ some_is j k e = cc
 pub arithmetic_sorted : (sorts : Sorts) (facts : List BranchFact) (line : CertificateLine) (k : BranchFact) →
     AreFactsSorted sorts facts → IsLineSorted sorts line → arithmetic_adds sorts facts line ≡ Some k → IsFactSorted sorts k
 arithmetic_sorted sorts facts (Same t u) k sorted terms e =
-    let p = formula_if_is (compared_forms sorts t u int_eq) (Eq Num t u) k e in
+    let p = formula_if_from (compared_forms sorts t u int_eq) (Eq Num t u) k e in
     let passed = compared_passes sorts t u int_eq p.0 in
     subst (IsFactSorted sorts) p.1 ((terms.0, number_is sorts t passed.first), (terms.1, number_is sorts u passed.second))
 arithmetic_sorted sorts facts (Apart t u) k sorted terms e =
-    let p = formula_if_is (compared_forms sorts t u (λ (y z : ℤ). not (int_eq y z))) (Ne Num t u) k e in
+    let p = formula_if_from (compared_forms sorts t u (λ (y z : ℤ). not (int_eq y z))) (Ne Num t u) k e in
     let passed = compared_passes sorts t u (λ (y z : ℤ). not (int_eq y z)) p.0 in
     subst (IsFactSorted sorts) p.1 ((terms.0, number_is sorts t passed.first), (terms.1, number_is sorts u passed.second))
 arithmetic_sorted sorts facts (Lin n) k sorted terms e =
@@ -212,10 +210,10 @@ cancelled_below node t f g k first second e = by (can_cancel same_tree f g t) e
 pub arithmetic_below : (sorts : Sorts) (node : ℕ) (facts : List BranchFact) (line : CertificateLine) (k : BranchFact) →
     AreFactsBelow node facts → IsLineBelow node line → arithmetic_adds sorts facts line ≡ Some k → IsFactBelow node k
 arithmetic_below sorts node facts (Same t u) k below terms e =
-    let p = formula_if_is (compared_forms sorts t u int_eq) (Eq Num t u) k e in
+    let p = formula_if_from (compared_forms sorts t u int_eq) (Eq Num t u) k e in
     subst (IsFactBelow node) p.1 terms
 arithmetic_below sorts node facts (Apart t u) k below terms e =
-    let p = formula_if_is (compared_forms sorts t u (λ (y z : ℤ). not (int_eq y z))) (Ne Num t u) k e in
+    let p = formula_if_from (compared_forms sorts t u (λ (y z : ℤ). not (int_eq y z))) (Ne Num t u) k e in
     subst (IsFactBelow node) p.1 terms
 arithmetic_below sorts node facts (Lin n) k below terms e =
     let p = followed_from (formula_at facts n) form_of_comparison k e in

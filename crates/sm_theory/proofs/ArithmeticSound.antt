@@ -1,17 +1,16 @@
 -- What a line of arithmetic adds holds wherever the facts do.
-use Rattle.std.proofs.Common.{◌≡◌, ℤ, pos, negsuc, ◌+ℤ◌, ◌-ℤ◌, ◌*ℤ◌, Bool, true, false, ◌&&◌, not, if◌then◌else◌, IsTrue, Some, None, List}
-use Rattle.std.proofs.Common.{refl, sym, ap, subst, ◌∙◌, arith}
+use Rattle.std.proofs.Common.{◌≡◌, ℤ, pos, negsuc, ◌+ℤ◌, ◌-ℤ◌, ◌*ℤ◌, Bool, true, false, ◌&&◌, not, if◌then◌else◌, IsTrue, Some, None, List, refl, sym, ap, subst, ◌∙◌, arith}
 use Rattle.std.specs.Prelude.{◌≤ℤ◌, ◌<ℤ◌}
 use Rattle.std.specs.Ordering.{int_eq}
 use Rattle.std.proofs.lemmas.Bool.{and_parts}
 use Rattle.std.proofs.lemmas.Bool.Decides.{Decides-int_eq}
-use Rattle.sm_syntax.specs.declared.tree.Sort.TheVariants.{Num, Arr}
 use Rattle.sm_syntax.specs.text.Sorts.{Sorts}
+use Rattle.sm_syntax.specs.declared.tree.Sort.TheVariants.{Num, Arr}
 use Rattle.sm_num.specs.declared.op.Op.TheVariants as op
-use Rattle.sm_num.specs.declared.kind.Kind.{Kind}
 use Rattle.sm_num.specs.declared.kind.Kind.TheVariants as kind
 use Rattle.sm_num.specs.Range.{fits_form}
 use Rattle.sm_num.specs.Forms.{Linear, Satisfies, HoldsAt, sum_of_parts}
+use Rattle.sm_num.specs.declared.kind.Kind.{Kind}
 use Rattle.sm_num.specs.Combining.{Outcome, Fits, Leaves, then_with, computed, formed}
 use Rattle.sm_num.specs.Eliminating.{can_cancel, elimination}
 use Rattle.sm_num.specs.Tightening.{tightened, is_contradictory}
@@ -30,18 +29,13 @@ use Rattle.sm_theory.specs.Facts.{BranchFact, Formal, Sum, IsFact, AreFacts, num
 use Rattle.sm_theory.specs.LinearTerms.{linear_of}
 use Rattle.sm_theory.specs.Lines.{CertificateLine, Same, Apart, Lin, Elim, Tight, followed, formula_at, form_at}
 use Rattle.sm_theory.specs.Equality.{formula_if}
-use Rattle.sm_theory.specs.Arithmetic.{is_numeric, same_parts, compared_forms, form_fact, difference, one_more, form_of_comparison, cancelled}
-use Rattle.sm_theory.specs.Arithmetic.{arithmetic_adds}
+use Rattle.sm_theory.specs.Arithmetic.{is_numeric, same_parts, compared_forms, form_fact, difference, one_more, form_of_comparison, cancelled, arithmetic_adds}
 use Rattle.sm_theory.specs.SortedFacts.{AreFactsSorted, IsLineSorted}
 use Rattle.sm_theory.proofs.FactsLemmas.{fact_holds, fact_is_sorted, followed_from, formula_stands, form_stands}
 use Rattle.sm_theory.proofs.LinearTermsLemmas.{linear_reduced, linear_value}
 use Rattle.sm_theory.proofs.LinearSameTree.{tree_sound, tree_reflexive}
 use Rattle.sm_theory.proofs.LinearAlikeLemmas.{alike_sum, same_parts_alike, once_reduced}
-
--- a formula that was added passed its test
-pub formula_if_is : (test : Bool) (f : Assertion) (k : BranchFact) → formula_if test f ≡ Some k → (test ≡ true) × (Formal f ≡ k)
-formula_if_is true f k e = let same : Formal f ≡ k = cc in (refl, same)
-formula_if_is false f k e = absurd cc
+use Rattle.sm_theory.proofs.EqualityLemmas.{formula_if_from}
 
 -- a form that was added was computed
 pub form_fact_is : (outcome : Outcome (Linear Tree)) (k : BranchFact) → form_fact outcome ≡ Some k →
@@ -202,10 +196,10 @@ module _ (m : Structure) where
 pub arithmetic_holds : (sorts : Sorts) (m : Structure) (facts : List BranchFact) (line : CertificateLine) (k : BranchFact) →
     AreFactsSorted sorts facts → IsLineSorted sorts line → arithmetic_adds sorts facts line ≡ Some k → AreFacts m facts → IsFact m k
 arithmetic_holds sorts m facts (Same t u) k sorted terms e all =
-    let p = formula_if_is (compared_forms sorts t u int_eq) (Eq Num t u) k e in
+    let p = formula_if_from (compared_forms sorts t u int_eq) (Eq Num t u) k e in
     subst (IsFact m) p.1 (same_holds m sorts t u p.0)
 arithmetic_holds sorts m facts (Apart t u) k sorted terms e all =
-    let p = formula_if_is (compared_forms sorts t u (λ (y z : ℤ). not (int_eq y z))) (Ne Num t u) k e in
+    let p = formula_if_from (compared_forms sorts t u (λ (y z : ℤ). not (int_eq y z))) (Ne Num t u) k e in
     subst (IsFact m) p.1 (apart_holds m sorts t u p.0)
 arithmetic_holds sorts m facts (Lin n) k sorted terms e all =
     let p = followed_from (formula_at facts n) form_of_comparison k e in

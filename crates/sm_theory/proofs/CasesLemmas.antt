@@ -1,10 +1,10 @@
 -- Worked cases: each line that is no arithmetic where its condition is met, and where each part of the
 -- condition fails.
 use Rattle.std.proofs.Common.{◌≡◌, ℕ, zero, suc, pos, Some, None, List, [], ◌∷◌, refl}
-use Rattle.sm_syntax.specs.declared.tree.Sort.TheVariants.{Num, Arr}
 use Rattle.sm_syntax.specs.claim.Syntax as syntax
 use Rattle.sm_syntax.specs.claim.Syntax.{Code}
 use Rattle.sm_syntax.specs.text.Sorts.{Sorts}
+use Rattle.sm_syntax.specs.declared.tree.Sort.TheVariants.{Num, Arr}
 use Rattle.sm_num.specs.declared.kind.Kind.{Kind}
 use Rattle.sm_num.specs.declared.kind.Kind.TheVariants as kind
 use Rattle.sm_term.specs.Terms.{Tree, Start, Read, Write, Neg, Add, Sub, Mul, Fun, Over, Given}

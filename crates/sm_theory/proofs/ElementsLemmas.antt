@@ -4,10 +4,10 @@ use Rattle.std.proofs.Common.{◌≡◌, ℕ, ℤ, Bool, true, ◌&&◌, if◌th
 use Rattle.std.specs.Ordering.{int_eq}
 use Rattle.std.proofs.lemmas.Bool.{and_parts, and_from, false_from_ne_true}
 use Rattle.std.proofs.lemmas.Bool.Decides.{Decides-int_eq}
-use Rattle.sm_syntax.specs.declared.tree.Sort.{Sort}
-use Rattle.sm_syntax.specs.declared.tree.Sort.TheVariants.{Num}
 use Rattle.sm_syntax.specs.SameAs.{SameAs}
 use Rattle.sm_syntax.specs.text.Sorts.{Sorts}
+use Rattle.sm_syntax.specs.declared.tree.Sort.{Sort}
+use Rattle.sm_syntax.specs.declared.tree.Sort.TheVariants.{Num}
 use Rattle.sm_syntax.specs.claim.Stores.{number, array, with_element}
 use Rattle.sm_term.specs.Terms.{Tree, Read, Write}
 use Rattle.sm_term.specs.Structures.{Structure, meaning}
@@ -22,8 +22,7 @@ use Rattle.sm_theory.specs.Equality.{formula_if, says_equal}
 use Rattle.sm_theory.specs.Elements.{Written, written_in, read_in, read_of_written, element_adds}
 use Rattle.sm_theory.specs.SortedFacts.{IsFactSorted, AreFactsSorted, IsFactBelow}
 use Rattle.sm_theory.specs.Laws.{AddsWhatHolds, AddsWhatIsSorted, AddsWhatIsBelow, AddsAnywhere, arrays}
-use Rattle.sm_theory.proofs.FactsLemmas.{fact_holds, fact_is_sorted, contrary, contrary_stands, followed_from, Gives}
-use Rattle.sm_theory.proofs.FactsLemmas.{followed_gives, gives_itself, equation_moves, contrary_moves}
+use Rattle.sm_theory.proofs.FactsLemmas.{fact_holds, fact_is_sorted, contrary, contrary_stands, followed_from, Gives, followed_gives, gives_itself, equation_moves, contrary_moves}
 use Rattle.sm_theory.proofs.EqualityLemmas.{formula_if_from, formula_if_moves, says_from, says_moves}
 use Rattle.sm_theory.proofs.EqualitySound.{says_means}
 
@@ -148,7 +147,7 @@ arrays_below sorts node facts (Miss t u n) k all named h =
 arrays_below sorts node facts line k all named h = absurd cc
 
 -- what goes on from a read
-read_gives : (t : Tree) (next other : Written → Tree → Option BranchFact) → ((w : Written) (j : Tree) → Gives (next w j) (other w j)) →
+pub read_gives : (t : Tree) (next other : Written → Tree → Option BranchFact) → ((w : Written) (j : Tree) → Gives (next w j) (other w j)) →
     Gives (read_of_written t next) (read_of_written t other)
 read_gives t next other more =
     followed_gives (read_in t) (read_in t) (λ (r : Tree × Tree). followed (written_in r.0) (λ (w : Written). next w r.1))

@@ -1,9 +1,9 @@
 -- What equality adds holds wherever the facts do.
 use Rattle.std.proofs.Common.{◌≡◌, ℕ, slice_get, IsTrue, Some, List, [], ◌∷◌, ⊎_elim, subst, sym, ap, ◌∙◌}
 use Rattle.std.proofs.lemmas.Bool.{and_parts}
-use Rattle.sm_syntax.specs.declared.tree.Sort.{Sort}
 use Rattle.sm_syntax.specs.SameAs.{SameAs}
 use Rattle.sm_syntax.specs.text.Sorts.{Sorts}
+use Rattle.sm_syntax.specs.declared.tree.Sort.{Sort}
 use Rattle.sm_term.specs.Terms.{Tree}
 use Rattle.sm_term.specs.Structures.{Structure, meaning}
 use Rattle.sm_term.specs.Assertions.{Eq, Ne}

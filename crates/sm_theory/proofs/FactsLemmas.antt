@@ -8,8 +8,7 @@ use Rattle.sm_term.specs.Assertions.{Assertion, Eq, Ne}
 use Rattle.sm_num.specs.Forms.{Linear}
 use Rattle.sm_term.specs.Terms.{Tree}
 use Rattle.sm_theory.specs.Facts.{BranchFact, Formal, Sum, IsFact, AreFacts}
-use Rattle.sm_theory.specs.Lines.{CertificateLine, followed, formula_in, form_in, formula_at, form_at, Sides, equal_sides, unequal_sides}
-use Rattle.sm_theory.specs.Lines.{equation_at, contrary_at}
+use Rattle.sm_theory.specs.Lines.{CertificateLine, followed, formula_in, form_in, formula_at, form_at, Sides, equal_sides, unequal_sides, equation_at, contrary_at}
 use Rattle.sm_theory.specs.SortedFacts.{IsFactSorted, AreFactsSorted, IsFactBelow, AreFactsBelow}
 use Rattle.sm_theory.specs.Named.{facts_named, reads_all}
 use Rattle.sm_theory.specs.Moved.{StandsMoved, StandAmong, ReadsAlike}

@@ -1,7 +1,5 @@
 -- The form of a term is kept for what it should be where those of its parts are.
-use Rattle.std.proofs.Common.{◌≡◌, ◌<◌, ℕ, ℤ, pos, negsuc, if◌then◌else◌}
-use Rattle.std.proofs.Common.{length, List, refl}
-use Rattle.std.proofs.Common.{sym, subst, ◌∙◌}
+use Rattle.std.proofs.Common.{◌≡◌, ◌<◌, ℕ, ℤ, pos, negsuc, if◌then◌else◌, length, List, refl, sym, subst, ◌∙◌}
 use Rattle.std.proofs.lemmas.Option.{get_or_from_slice_get, slice_get-get_or, slice_get_within}
 use Rattle.sm_num.specs.Range.{fits_form}
 use Rattle.sm_num.specs.declared.kind.Kind.TheVariants as kind
@@ -10,10 +8,10 @@ use Rattle.sm_num.specs.Combining.{combined, combination}
 use Rattle.sm_term.specs.Terms.{Tree, Lit, Neg, Add, Sub, Mul}
 use Rattle.sm_term.specs.SameTerms.{same_tree}
 use Rattle.sm_syntax.specs.claim.Syntax.{Code}
-use Rattle.sm_term.specs.declared.term.TermId.{TermId}
-use Rattle.sm_term.specs.declared.term.Term.{Term}
 use Rattle.sm_term.specs.declared.term.Term.TheVariants as row
 use Rattle.sm_term.specs.Tables.{tree_at, tree_in}
+use Rattle.sm_term.specs.declared.term.TermId.{TermId}
+use Rattle.sm_term.specs.declared.term.Term.{Term}
 use Rattle.sm_term.specs.TableLaws.{AreApart}
 use Rattle.sm_theory.specs.LinearTerms.{constant_form, atom_form, or_atom, scaled_form, product_form, linear_of}
 use Rattle.sm_theory.specs.Standing.{StandsAt, HaveOnePlace, IsKeptFor}

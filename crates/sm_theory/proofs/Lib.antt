@@ -26,3 +26,5 @@ pub mod LinearLater
 pub mod SidesLemmas
 pub mod FormsOfTermsLemmas
 pub mod WalkLemmas
+pub mod OneMore
+pub mod SortedFacts

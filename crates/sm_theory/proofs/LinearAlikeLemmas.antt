@@ -1,15 +1,13 @@
 -- Reduced parts in which each atom has one coefficient have one sum, in whatever order they stand.
-use Rattle.std.proofs.Common.{◌≡◌, ◌⊎◌, ℕ, ◌%◌, ◌==◌, nat_abs, ℤ, pos, ◌+ℤ◌, ◌*ℤ◌, Bool, true, false, not, if◌then◌else◌, List, [], ◌∷◌}
-use Rattle.std.proofs.Common.{refl, sym, ap, subst, ◌∙◌, ⊎_elim, inl, inr}
+use Rattle.std.proofs.Common.{◌≡◌, ◌⊎◌, ℕ, ◌%◌, ◌==◌, nat_abs, ℤ, pos, ◌+ℤ◌, ◌*ℤ◌, Bool, true, false, not, if◌then◌else◌, List, [], ◌∷◌, refl, sym, ap, subst, ◌∙◌, ⊎_elim, inl, inr}
 use Rattle.std.specs.Ordering.{int_eq}
 use Rattle.std.proofs.lemmas.Bool.{cases_Bool, and_parts}
 use Rattle.std.proofs.lemmas.Bool.Decides.{Decides-int_eq}
 use Rattle.sm_num.specs.Forms.{Linear, sum_of_parts, coefficient, parts_without}
-use Rattle.sm_num.proofs.OutcomeLemmas.{Each}
-use Rattle.sm_num.proofs.SameAtomLemmas.{IsSound, IsReflexive, IsApart, AreReduced, not_both, apart_zero, coefficient_past, coefficient_one}
-use Rattle.sm_num.proofs.SameAtomLemmas.{coefficient_filter, reduced_filter}
-use Rattle.sm_num.proofs.FormValues.{sum_without}
 use Rattle.sm_num.specs.declared.kind.Kind.{Kind}
+use Rattle.sm_num.proofs.OutcomeLemmas.{Each}
+use Rattle.sm_num.proofs.SameAtomLemmas.{IsSound, IsReflexive, IsApart, AreReduced, not_both, apart_zero, coefficient_past, coefficient_one, coefficient_filter, reduced_filter}
+use Rattle.sm_num.proofs.FormValues.{sum_without}
 use Rattle.sm_num.specs.declared.kind.Kind.TheVariants as kind
 use Rattle.sm_num.specs.Eliminating.{floor_of, divisor_of_parts, divided_parts}
 use Rattle.sm_num.specs.Tightening.{has_no_part, one_is_zero, tightened_by, tightened}

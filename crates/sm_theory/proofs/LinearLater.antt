@@ -1,6 +1,5 @@
 -- Kept forms compared, with 1 more, and where more terms have places.
-use Rattle.std.proofs.Common.{◌≡◌, ◌↔◌, ◌<◌, ℕ, suc, nat_lt, ℤ, pos, ◌+ℤ◌, true, false, IsTrue, slice_get, Some, None, List, [], ◌∷◌, refl}
-use Rattle.std.proofs.Common.{sym, ap, subst, ◌∙◌, ⊎_elim, arith}
+use Rattle.std.proofs.Common.{◌≡◌, ◌↔◌, ◌<◌, ℕ, suc, nat_lt, ℤ, pos, ◌+ℤ◌, true, false, IsTrue, slice_get, Some, None, List, [], ◌∷◌, refl, sym, ap, subst, ◌∙◌, ⊎_elim, arith}
 use Rattle.std.specs.Ordering.{int_eq}
 use Rattle.std.proofs.lemmas.Bool.{cases_Bool, and_from, ltb-true, ltb-false}
 use Rattle.std.proofs.lemmas.Bool.Decides.{Decides-int_eq}

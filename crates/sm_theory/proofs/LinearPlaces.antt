@@ -1,17 +1,16 @@
 -- A form over numbers stands for a form over terms exactly where, put over the terms at its numbers,
 -- it is alike.
-use Rattle.std.proofs.Common.{◌≡◌, ◌⊎◌, ℕ, zero, suc, ℤ, pos, true, false, IsTrue, slice_get, Option, Some, None, List, [], ◌∷◌, refl, sym}
-use Rattle.std.proofs.Common.{ap, subst, ◌∙◌, ⊎_elim, inl, inr, arith}
+use Rattle.std.proofs.Common.{◌≡◌, ◌⊎◌, ℕ, zero, suc, ℤ, pos, true, false, IsTrue, slice_get, Option, Some, None, List, [], ◌∷◌, refl, sym, ap, subst, ◌∙◌, ⊎_elim, inl, inr}
 use Rattle.std.specs.Prelude.{unwrap_or}
 use Rattle.std.proofs.lemmas.Bool.{cases_Bool}
 use Rattle.sm_num.specs.Range.{fits_form}
-use Rattle.sm_num.specs.Forms.{Linear, coefficient, renamed_form, AreParts, IsKept}
+use Rattle.sm_num.specs.Forms.{Linear, coefficient, renamed_form, IsKept}
 use Rattle.sm_num.specs.FormLaws.{same_atom, AreAlike}
 use Rattle.sm_num.proofs.OutcomeLemmas.{Each}
-use Rattle.sm_num.proofs.SameAtomLemmas.{same_atom_sound, same_atom_reflexive, not_both, coefficient_one, coefficient_past}
+use Rattle.sm_num.proofs.SameAtomLemmas.{same_atom_sound, same_atom_reflexive, not_both, coefficient_past}
 use Rattle.sm_num.proofs.RenamingLemmas.{renamed_parts, renamed_coefficient, Renames}
 use Rattle.sm_num.proofs.ResultsReduced.{AreAmong, AreInside, reduced_some}
-use Rattle.sm_num.proofs.KeptLemmas.{parts_apart, parts_reduced}
+use Rattle.sm_num.proofs.KeptLemmas.{parts_reduced}
 use Rattle.sm_num.proofs.OverOtherAtoms as over
 use Rattle.sm_term.specs.Terms.{Tree, Cell}
 use Rattle.sm_term.specs.SameTerms.{same_tree}
@@ -19,6 +18,7 @@ use Rattle.sm_term.proofs.SameTermsLemmas.{same_tree_is}
 use Rattle.sm_theory.specs.Standing.{StandsAt, HaveOnePlace, StandsFor, IsKeptFor}
 use Rattle.sm_theory.proofs.LinearSameTree.{tree_sound, tree_reflexive}
 use Rattle.sm_theory.proofs.LinearAlikeLemmas.{once_reduced, reduced_once, own_coefficients}
+use Rattle.sm_num.proofs.KeptForms.{coefficient_fits}
 
 -- two things in one place are one
 pub one_thing : (trees : List Tree) (n : ℕ) (t u : Tree) → StandsAt trees n t → StandsAt trees n u → t ≡ u
@@ -159,18 +159,6 @@ module _ (trees : List Tree) where
             (place_or_not trees p.0),
         each ps some.1,
       )
-
--- a coefficient of ascending parts is in the range
-coefficient_fits : (n least : ℕ) (ps : List (ℕ × ℤ)) → AreParts least ps → IsTrue (fits_form (coefficient same_atom n ps))
-coefficient_fits n least [] parts = refl
-coefficient_fits n least (p ∷ ps) parts =
-    ⊎_elim
-    (λ (e : same_atom n p.0 ≡ true).
-    let apart = parts_apart p.0 (suc p.0) ps (omega arith) parts.3 in
-    subst (λ (z : ℤ). IsTrue (fits_form z)) (sym (coefficient_one same_atom n p ps same_atom_sound apart e)) parts.1)
-    (λ (e : same_atom n p.0 ≡ false).
-    subst (λ (z : ℤ). IsTrue (fits_form z)) (sym (coefficient_past same_atom n p ps e)) (coefficient_fits n (suc p.0) ps parts.3))
-    (cases_Bool (same_atom n p.0))
 
 module _ (trees : List Tree) (distinct : HaveOnePlace trees) where
   -- numbers of terms stand for the terms

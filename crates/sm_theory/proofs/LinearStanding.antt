@@ -1,8 +1,8 @@
 -- What is computed of forms over numbers is kept for what is computed of the forms over terms for which
 -- they are kept.
 use Rattle.std.proofs.Common.{◌≡◌, ℕ, ℤ, List, refl, subst}
-use Rattle.sm_num.specs.declared.kind.Kind.{Kind}
 use Rattle.sm_num.specs.Forms.{Linear, IsKept}
+use Rattle.sm_num.specs.declared.kind.Kind.{Kind}
 use Rattle.sm_num.specs.Combining.{Outcome, Fits, Leaves, combined, combination}
 use Rattle.sm_num.specs.Eliminating.{can_cancel, eliminated, elimination}
 use Rattle.sm_num.specs.Tightening.{tightened, is_contradictory}

@@ -8,9 +8,8 @@ use Rattle.sm_term.specs.Tables.{tree_at}
 use Rattle.sm_term.specs.TableLaws.{AreApart}
 use Rattle.sm_term.specs.SameTerms.{same_tree}
 use Rattle.sm_term.proofs.SameTermsLemmas.{same_tree_is}
-use Rattle.sm_theory.specs.declared.fact.Fact.{Fact}
 use Rattle.sm_theory.specs.Facts.{BranchFact}
-use Rattle.sm_theory.specs.Views.{FactStands, AllStand}
+use Rattle.sm_theory.specs.Views.{FactStands, AllStand, Fact}
 use Rattle.sm_theory.specs.Sides.{OptionStands}
 
 -- the fact with a number stands for the fact with it

@@ -7,8 +7,7 @@ use Rattle.sm_theory.specs.Arithmetic.{arithmetic_adds}
 use Rattle.sm_theory.specs.ExactLine.{with_exact}
 use Rattle.sm_theory.specs.Ways.{adds}
 use Rattle.sm_theory.specs.Moved.{moved_line}
-use Rattle.sm_theory.specs.Laws.{TheoryAdds, AddsWhatHolds, AddsWhatIsSorted, AddsWhatIsBelow, AddsAnywhere, SomeWayHolds}
-use Rattle.sm_theory.specs.Laws.{WaysAreSorted, WaysAreBelow, WaysAddSoMany, WaysMove, arithmetic, equality, arrays}
+use Rattle.sm_theory.specs.Laws.{TheoryAdds, AddsWhatHolds, AddsWhatIsSorted, AddsWhatIsBelow, AddsAnywhere, SomeWayHolds, WaysAreSorted, WaysAreBelow, WaysAddSoMany, WaysMove, arithmetic, equality, arrays}
 use Rattle.sm_theory.proofs.FactsLemmas.{Gives}
 use Rattle.sm_theory.proofs.EqualityLemmas.{or_else_from, equality_sorted, equality_below, equality_anywhere}
 use Rattle.sm_theory.proofs.EqualitySound.{equality_holds}
@@ -64,7 +63,7 @@ adds_below law =
     (one_of_below (with_exact arithmetic) arrays (with_exact_below arithmetic law) arrays_below)
 
 -- what only the first can add
-first_alone : (o p : Option BranchFact) → Gives o p → Gives (or_other o None) (or_other p None)
+pub first_alone : (o p : Option BranchFact) → Gives o p → Gives (or_other o None) (or_other p None)
 first_alone None p now k h = absurd cc
 first_alone (Some f) p now k h = subst (λ (q : Option BranchFact). or_other q None ≡ Some k) (sym (now f refl)) h
 

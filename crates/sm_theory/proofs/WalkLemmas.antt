@@ -1,11 +1,9 @@
 -- A walk over the terms under a term: its way descends, and each form that is made is one fewer that is missing.
-use Rattle.std.proofs.Common.{◌≡◌, ◌≢◌, ◌<◌, ◌≤◌, ◌+◌, ◌*◌, ℕ, zero, suc, true, false, if◌then◌else◌, nat_eq, Option, Some, None}
-use Rattle.std.proofs.Common.{List, [], ◌∷◌, ◌++◌, refl, sym, ap, subst, ◌∙◌, ⊎_elim, arith}
+use Rattle.std.proofs.Common.{◌≡◌, ◌≢◌, ◌<◌, ◌≤◌, ◌+◌, ℕ, zero, suc, true, false, if◌then◌else◌, nat_eq, Option, Some, None, List, [], ◌∷◌, ◌++◌, refl, sym, ap, subst, ◌∙◌, ⊎_elim, arith}
 use Rattle.std.specs.Prelude.{is_some, unwrap_or}
 use Rattle.std.specs.Map.{update}
 use Rattle.std.proofs.lemmas.Map.{update_here, update_apart}
 use Rattle.std.proofs.lemmas.Bool.{cases_Bool}
-use Rattle.std.proofs.Math.Nat.{mul-le-mul_left}
 use Rattle.std.proofs.lemmas.Bool.Decides.{Decides-eqb}
 use Rattle.sm_num.specs.Forms.{Linear}
 use Rattle.sm_term.specs.Terms.{Tree}
@@ -119,15 +117,6 @@ module _ (f g : ℕ → Option (Linear ℕ)) (k : ℕ) (made : Linear ℕ) (gain
       ap (λ (o : Option (Linear ℕ)). (if is_some o then 0 else 1) + missing_below g b) (apart b other) in
       omega arith)
       (cases_Bool (nat_eq b k))
-
--- fewer rounds are fewer, whatever is left of one
-pub rounds_less : (m n t x y : ℕ) → m + 1 ≡ n → x ≤ t → m * (t + 1) + x < n * (t + 1) + y
-rounds_less m n t x y e h =
-    let more : (t + 1) * (m + 1) ≤ (t + 1) * n = mul-le-mul_left (t + 1) (omega arith) in
-    grind (arith, more)
-
-pub step_less : (m p q : ℕ) → p < q → m + p < m + q
-step_less m p q h = omega arith
 
 -- a way without a number that waits is at its start
 pub way_start : (t : ℕ) (ns : List ℕ) (next : ℕ) → IsWay t ns next → ns ≡ [] → next ≡ t

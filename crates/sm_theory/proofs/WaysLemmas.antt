@@ -1,18 +1,16 @@
 -- Ways in which a branch goes on, where theories add what is told: from what they come, that they are
 -- sorted and below as the facts are, and that they are the same on another branch with the facts.
-use Rattle.std.proofs.Common.{◌≡◌, ℕ, Bool, true, false, ◌&&◌, if◌then◌else◌, slice_get, IsTrue, Option, Some, None}
-use Rattle.std.proofs.Common.{List, [], ◌∷◌, length, refl, subst, sym, ap, ◌∙◌}
+use Rattle.std.proofs.Common.{◌≡◌, ℕ, Bool, true, false, ◌&&◌, if◌then◌else◌, slice_get, IsTrue, Option, Some, None, List, [], ◌∷◌, length, refl, subst, sym, ap, ◌∙◌}
 use Rattle.std.proofs.lemmas.Bool.{and_parts}
-use Rattle.sm_syntax.specs.declared.tree.Sort.TheVariants.{Num}
 use Rattle.sm_syntax.specs.text.Sorts.{Sorts}
+use Rattle.sm_syntax.specs.declared.tree.Sort.TheVariants.{Num}
 use Rattle.sm_term.specs.Terms.{Tree}
 use Rattle.sm_term.specs.Assertions.{Assertion, Eq, Ne, Lt, And, Or}
 use Rattle.sm_term.specs.Sorted.{tree_sort, HasSort}
 use Rattle.sm_term.specs.SameTerms.{same_sort}
 use Rattle.sm_term.proofs.SameTermsLemmas.{same_sort_is}
 use Rattle.sm_theory.specs.Facts.{BranchFact, Formal}
-use Rattle.sm_theory.specs.Lines.{CertificateLine, Both, Either, Cases, Order, Close, Clash, followed, Sides}
-use Rattle.sm_theory.specs.Lines.{formula_at, equation_at, contrary_at}
+use Rattle.sm_theory.specs.Lines.{CertificateLine, Both, Either, Cases, Order, Close, Clash, followed, Sides, formula_at, equation_at, contrary_at}
 use Rattle.sm_theory.specs.Equality.{says_equal}
 use Rattle.sm_theory.specs.Arithmetic.{is_numeric}
 use Rattle.sm_theory.specs.Ways.{adding, splitting, closing_if, both_parts, either_part, ordered, cannot_hold, ways_with}
@@ -20,9 +18,7 @@ use Rattle.sm_theory.specs.SortedFacts.{IsFactSorted, AreFactsSorted, IsFactBelo
 use Rattle.sm_theory.specs.Moved.{moved_line, ReadsAlike}
 use Rattle.sm_theory.specs.Named.{facts_added}
 use Rattle.sm_theory.specs.Laws.{EachWay}
-use Rattle.sm_theory.proofs.FactsLemmas.{fact_is_sorted, fact_is_below, contrary, followed_from, formula_stands}
-use Rattle.sm_theory.proofs.FactsLemmas.{contrary_stands, Gives, followed_gives, gives_itself, formula_moves}
-use Rattle.sm_theory.proofs.FactsLemmas.{equation_moves, contrary_moves}
+use Rattle.sm_theory.proofs.FactsLemmas.{fact_is_sorted, fact_is_below, contrary, followed_from, formula_stands, contrary_stands, Gives, followed_gives, gives_itself, formula_moves, equation_moves, contrary_moves}
 use Rattle.sm_theory.proofs.EqualityLemmas.{says_moves}
 
 -- one way with one fact
@@ -187,12 +183,12 @@ ways_with_long sorts facts added (Clash i j) to h = subst (EachWay (IsSoLong (Cl
 ways_with_long sorts facts added line to h = subst (EachWay (IsSoLong line)) (adding_from added to h).2 (refl, tt)
 
 -- what is added on one branch and on another
-adding_gives : (added other : Option BranchFact) → Gives added other → Gives (adding added) (adding other)
+pub adding_gives : (added other : Option BranchFact) → Gives added other → Gives (adding added) (adding other)
 adding_gives None other now to h = absurd cc
 adding_gives (Some k) other now to h = subst (λ (o : Option BranchFact). adding o ≡ Some to) (sym (now k refl)) h
 
 -- a branch that is closed is closed where the test is passed too
-closing_gives : (test other : Bool) → (test ≡ true → other ≡ true) → Gives (closing_if test) (closing_if other)
+pub closing_gives : (test other : Bool) → (test ≡ true → other ≡ true) → Gives (closing_if test) (closing_if other)
 closing_gives true other passes to h = rw (passes refl) h
 closing_gives false other passes to h = absurd cc
 

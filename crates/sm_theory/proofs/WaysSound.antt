@@ -1,18 +1,18 @@
 -- Where the facts hold, not every way in which a branch goes on fails.
 use Rattle.std.proofs.Common.{◌≡◌, ℤ, pos, negsuc, ◌+ℤ◌, true, false, ◌&&◌, IsTrue, Option, Some, List, [], ◌∷◌, subst, sym, arith}
-use Rattle.std.specs.Prelude.{◌≤ℤ◌, ◌<ℤ◌}
+use Rattle.std.specs.Prelude.{◌<ℤ◌}
 use Rattle.std.specs.Ordering.{int_eq}
 use Rattle.std.proofs.lemmas.Bool.{not-true}
 use Rattle.std.proofs.lemmas.Bool.Decides.{Decides-int_eq}
-use Rattle.std.proofs.lemmas.Int.{ints, by_lt_z}
-use Rattle.sm_syntax.specs.declared.tree.Sort.{Sort}
-use Rattle.sm_syntax.specs.declared.tree.Sort.TheVariants.{Num}
+use Rattle.std.proofs.lemmas.Int.{ints}
 use Rattle.sm_syntax.specs.SameAs.{SameAs}
 use Rattle.sm_syntax.specs.text.Sorts.{Sorts}
+use Rattle.sm_syntax.specs.declared.tree.Sort.{Sort}
+use Rattle.sm_syntax.specs.declared.tree.Sort.TheVariants.{Num}
 use Rattle.sm_syntax.specs.claim.Stores.{number}
-use Rattle.sm_num.specs.declared.kind.Kind.{Kind}
 use Rattle.sm_num.specs.declared.kind.Kind.TheVariants as kind
 use Rattle.sm_num.specs.Forms.{Satisfies, sum_of_parts}
+use Rattle.sm_num.specs.declared.kind.Kind.{Kind}
 use Rattle.sm_num.specs.Tightening.{has_no_part, fails}
 use Rattle.sm_term.specs.Terms.{Tree}
 use Rattle.sm_term.specs.Structures.{Structure, meaning}
@@ -27,6 +27,7 @@ use Rattle.sm_theory.proofs.FactsLemmas.{fact_holds, fact_is_sorted, equation, c
 use Rattle.sm_theory.proofs.CongruenceSound.{same_itself}
 use Rattle.sm_theory.proofs.ElementsLemmas.{says_apart}
 use Rattle.sm_theory.proofs.WaysLemmas.{adding_from, both_line, either_line, order_line, cases_line, close_line, clash_line}
+use Rattle.sm_lemmas.proofs.Tests.{neither_less}
 
 -- a number that fails a kind isn't as it says
 fails_means : (k : Kind) (c : ℤ) → fails k c ≡ true → Satisfies k (pos 0 +ℤ c) → ⊥
@@ -51,12 +52,6 @@ cannot_hold_means m (Formal (Ne sort t u)) h holds =
     holds (subst (λ (v : Tree). SameAs sort (meaning m t) (meaning m v)) ((same_tree_is t u).0 h) (same_itself sort (meaning m t)))
 cannot_hold_means m (Formal f) h holds = cc
 cannot_hold_means m (Sum f) h holds = contradiction_of (number_meant m) f.parts f.constant f.kind h holds
-
--- two numbers, neither of which is less, are equal
-neither_less : (y z : ℤ) → (y <ℤ z → ⊥) → (z <ℤ y → ⊥) → y ≡ z
-neither_less y z first second =
-    by_lt_z {P = y ≡ z} y z (λ (a : y <ℤ z). absurd (first a))
-    (λ (a : z ≤ℤ y). by_lt_z {P = y ≡ z} z y (λ (b : z <ℤ y). absurd (second b)) (λ (b : y ≤ℤ z). omega (arith, ints)))
 
 -- where the facts hold, and what theories add does, not every way fails
 pub some_way_with_holds : (sorts : Sorts) (m : Structure) (facts : List BranchFact) (added : Option BranchFact) (line : CertificateLine)

@@ -1,14 +1,13 @@
 -- Cited by public clauses: the lines of linear arithmetic over whole numbers, each with the fact
 -- that it adds.
-use Rattle.std.specs.Prelude.{ℤ, pos, negsuc, Bool, true, ◌&&◌, not, if◌then◌else◌}
-use Rattle.std.specs.Prelude.{Option, Some, None, List, [], ◌∷◌}
+use Rattle.std.specs.Prelude.{ℤ, pos, negsuc, Bool, true, ◌&&◌, not, if◌then◌else◌, Option, Some, None, List, [], ◌∷◌}
 use Rattle.std.specs.Ordering.{int_eq}
-use Rattle.sm_syntax.specs.declared.tree.Sort.TheVariants.{Num}
 use Rattle.sm_syntax.specs.text.Sorts.{Sorts}
+use Rattle.sm_syntax.specs.declared.tree.Sort.TheVariants.{Num}
 use Rattle.sm_num.specs.declared.op.Op.TheVariants as op
-use Rattle.sm_num.specs.declared.kind.Kind.{Kind}
 use Rattle.sm_num.specs.declared.kind.Kind.TheVariants as kind
 use Rattle.sm_num.specs.Forms.{Linear, coefficient}
+use Rattle.sm_num.specs.declared.kind.Kind.{Kind}
 use Rattle.sm_num.specs.Combining.{Outcome, Fits, Leaves, then_with, computed, combination}
 use Rattle.sm_num.specs.Eliminating.{can_cancel, elimination}
 use Rattle.sm_num.specs.Tightening.{tightened}
@@ -18,9 +17,7 @@ use Rattle.sm_term.specs.Sorted.{tree_sort}
 use Rattle.sm_term.specs.SameTerms.{same_tree, same_sort}
 use Rattle.sm_theory.specs.Facts.{BranchFact, Sum}
 use Rattle.sm_theory.specs.LinearTerms.{linear_of}
-use Rattle.sm_theory.specs.Lines.{CertificateLine, Both, Either, Cases, Order, Refl, Sym, Trans}
-use Rattle.sm_theory.specs.Lines.{Subst, Cong, Same, Apart, Hit, Miss, Lin, Elim, Tight, Exact}
-use Rattle.sm_theory.specs.Lines.{Close, Clash, followed, formula_at, form_at}
+use Rattle.sm_theory.specs.Lines.{CertificateLine, Both, Either, Cases, Order, Refl, Sym, Trans, Subst, Cong, Same, Apart, Hit, Miss, Lin, Elim, Tight, Exact, Close, Clash, followed, formula_at, form_at}
 use Rattle.sm_theory.specs.Equality.{formula_if}
 
 -- whether a term is a number

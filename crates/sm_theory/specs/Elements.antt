@@ -1,14 +1,11 @@
 -- Cited by public clauses: the lines of arrays, each with the fact that it adds.
 use Rattle.std.specs.Prelude.{◌&&◌, Option, Some, None, List}
 use Rattle.sm_syntax.specs.declared.tree.Sort.TheVariants.{Num}
-use Rattle.sm_term.specs.Terms.{Tree, Read, Write}
-use Rattle.sm_term.specs.Terms.{Lit, Start, Havoc, Slot, Cell, Neg, Add, Sub, Mul, Fun}
+use Rattle.sm_term.specs.Terms.{Tree, Read, Write, Lit, Start, Havoc, Slot, Cell, Neg, Add, Sub, Mul, Fun}
 use Rattle.sm_term.specs.Assertions.{Eq}
 use Rattle.sm_term.specs.SameTerms.{same_tree}
 use Rattle.sm_theory.specs.Facts.{BranchFact}
-use Rattle.sm_theory.specs.Lines.{CertificateLine, Both, Either, Cases, Order, Refl, Sym, Trans}
-use Rattle.sm_theory.specs.Lines.{Subst, Cong, Same, Apart, Hit, Miss, Lin, Elim, Tight, Exact}
-use Rattle.sm_theory.specs.Lines.{Close, Clash, followed, equation_at, contrary_at}
+use Rattle.sm_theory.specs.Lines.{CertificateLine, Both, Either, Cases, Order, Refl, Sym, Trans, Subst, Cong, Same, Apart, Hit, Miss, Lin, Elim, Tight, Exact, Close, Clash, followed, equation_at, contrary_at}
 use Rattle.sm_theory.specs.Equality.{formula_if, says_equal}
 
 -- an array to which an element was written, with its index and the number that was written

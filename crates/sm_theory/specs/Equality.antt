@@ -1,6 +1,5 @@
 -- Cited by public clauses: the lines of equality, each with the fact that it adds.
-use Rattle.std.specs.Prelude.{ℕ, Bool, true, false, ◌&&◌, if◌then◌else◌, Option, Some, None}
-use Rattle.std.specs.Prelude.{List, [], ◌∷◌}
+use Rattle.std.specs.Prelude.{ℕ, Bool, true, false, ◌&&◌, if◌then◌else◌, Option, Some, None, List, [], ◌∷◌}
 use Rattle.sm_syntax.specs.text.Sorts.{Sorts}
 use Rattle.sm_term.specs.Terms.{Tree}
 use Rattle.sm_term.specs.Assertions.{Assertion, Eq, Ne}
@@ -8,9 +7,7 @@ use Rattle.sm_term.specs.Sorted.{tree_sort}
 use Rattle.sm_term.specs.SameTerms.{same_tree}
 use Rattle.sm_term.specs.Heads.{arguments_of, same_head}
 use Rattle.sm_theory.specs.Facts.{BranchFact, Formal}
-use Rattle.sm_theory.specs.Lines.{CertificateLine, Both, Either, Cases, Order, Refl, Sym, Trans}
-use Rattle.sm_theory.specs.Lines.{Subst, Cong, Same, Apart, Hit, Miss, Lin, Elim, Tight, Exact}
-use Rattle.sm_theory.specs.Lines.{Close, Clash, followed, Sides, equation_at, contrary_at}
+use Rattle.sm_theory.specs.Lines.{CertificateLine, Both, Either, Cases, Order, Refl, Sym, Trans, Subst, Cong, Same, Apart, Hit, Miss, Lin, Elim, Tight, Exact, Close, Clash, followed, Sides, equation_at, contrary_at}
 
 -- a formula, where a test is passed
 abbrev pub formula_if : Bool → Assertion → Option BranchFact

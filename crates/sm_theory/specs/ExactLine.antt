@@ -1,7 +1,6 @@
 -- Cited by public clauses: the line that decides all linear forms of a branch at once, whose atoms
 -- are told by their places among the terms of the branch's formulas.
-use Rattle.std.specs.Prelude.{ℕ, suc, nat_le, ℤ, Bool, true, false, ◌&&◌, if◌then◌else◌}
-use Rattle.std.specs.Prelude.{Option, Some, None, List, [], ◌∷◌}
+use Rattle.std.specs.Prelude.{ℕ, suc, nat_le, ℤ, Bool, true, false, ◌&&◌, if◌then◌else◌, Option, Some, None, List, [], ◌∷◌}
 use Rattle.std.specs.List.{list_all, filter_map}
 use Rattle.sm_syntax.specs.text.Sorts.{Sorts}
 use Rattle.sm_num.specs.Range.{fits_form}

@@ -8,8 +8,7 @@ use Rattle.sm_theory.specs.Equality.{equality_adds}
 use Rattle.sm_theory.specs.Elements.{element_adds}
 use Rattle.sm_theory.specs.Arithmetic.{arithmetic_adds}
 use Rattle.sm_theory.specs.Ways.{ways}
-use Rattle.sm_theory.specs.SortedFacts.{IsFactSorted, AreFactsSorted, IsFactBelow, AreFactsBelow}
-use Rattle.sm_theory.specs.SortedFacts.{IsLineSorted, IsLineBelow}
+use Rattle.sm_theory.specs.SortedFacts.{IsFactSorted, AreFactsSorted, IsFactBelow, AreFactsBelow, IsLineSorted, IsLineBelow}
 use Rattle.sm_theory.specs.Named.{facts_added}
 use Rattle.sm_theory.specs.Moved.{moved_line, ReadsAlike}
 

@@ -5,11 +5,9 @@ use Rattle.sm_num.specs.Range.{fits_form}
 use Rattle.sm_num.specs.declared.op.Op.TheVariants as op
 use Rattle.sm_num.specs.declared.kind.Kind.TheVariants as kind
 use Rattle.sm_num.specs.Forms.{Linear}
-use Rattle.sm_num.specs.Combining.{Outcome, Fits, Leaves, computed, formed, scaled}
-use Rattle.sm_num.specs.Combining.{combined, combination}
+use Rattle.sm_num.specs.Combining.{Outcome, Fits, Leaves, computed, formed, scaled, combined, combination}
 use Rattle.sm_num.specs.Tightening.{has_no_part}
-use Rattle.sm_term.specs.Terms.{Tree, Lit, Start, Havoc, Slot, Cell, Read, Write}
-use Rattle.sm_term.specs.Terms.{Neg, Add, Sub, Mul, Fun}
+use Rattle.sm_term.specs.Terms.{Tree, Lit, Start, Havoc, Slot, Cell, Read, Write, Neg, Add, Sub, Mul, Fun}
 use Rattle.sm_term.specs.SameTerms.{same_tree}
 
 -- a number without parts

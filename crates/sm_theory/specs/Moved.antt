@@ -2,9 +2,7 @@
 use Rattle.std.specs.Prelude.{◌≡◌, ℕ, IsTrue, slice_get, Some, List, map}
 use Rattle.std.specs.List.{AllByRecursion}
 use Rattle.sm_theory.specs.Facts.{BranchFact}
-use Rattle.sm_theory.specs.Lines.{CertificateLine, LineOver, Both, Either, Cases, Order, Refl}
-use Rattle.sm_theory.specs.Lines.{Sym, Trans, Subst, Cong, Same, Apart, Hit, Miss, Lin, Elim, Tight, Exact}
-use Rattle.sm_theory.specs.Lines.{Close, Clash}
+use Rattle.sm_theory.specs.Lines.{CertificateLine, LineOver, Both, Either, Cases, Order, Refl, Sym, Trans, Subst, Cong, Same, Apart, Hit, Miss, Lin, Elim, Tight, Exact, Close, Clash}
 use Rattle.sm_theory.specs.Named.{facts_named, reads_all}
 
 -- a line with other numbers of facts; a number of steps stays

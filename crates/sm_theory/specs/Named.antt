@@ -1,9 +1,7 @@
 -- Cited by public clauses: what lines name and read, lines with other terms, and how many facts they
 -- add.
 use Rattle.std.specs.Prelude.{ℕ, Bool, true, false, List, [], ◌∷◌}
-use Rattle.sm_theory.specs.Lines.{LineOver, Both, Either, Cases, Order, Refl, Sym, Trans}
-use Rattle.sm_theory.specs.Lines.{Subst, Cong, Same, Apart, Hit, Miss, Lin, Elim, Tight, Exact}
-use Rattle.sm_theory.specs.Lines.{Close, Clash}
+use Rattle.sm_theory.specs.Lines.{LineOver, Both, Either, Cases, Order, Refl, Sym, Trans, Subst, Cong, Same, Apart, Hit, Miss, Lin, Elim, Tight, Exact, Close, Clash}
 
 -- the facts that a line names
 abbrev pub facts_named : {T : Type 0} → LineOver T → List ℕ

@@ -1,8 +1,8 @@
 -- Cited by public clauses: facts and lines whose terms have the sorts with which they are used, and
 -- those that name only new values of nodes below a number.
 use Rattle.std.specs.Prelude.{◌≢◌, ℕ, ℤ, pos, List, [], ◌∷◌}
-use Rattle.sm_syntax.specs.declared.tree.Sort.TheVariants.{Num}
 use Rattle.sm_syntax.specs.text.Sorts.{Sorts}
+use Rattle.sm_syntax.specs.declared.tree.Sort.TheVariants.{Num}
 use Rattle.sm_term.specs.Terms.{Tree}
 use Rattle.sm_term.specs.Sorted.{IsSorted, HasSort, IsFormSorted}
 use Rattle.sm_term.specs.Fresh.{IsBelow, IsFormBelow}

@@ -1,8 +1,8 @@
 -- Cited by public clauses: linear forms over numbers, as the program keeps them, that stand for
 -- forms over terms. The number of a term is its place in a list.
 use Rattle.std.specs.Prelude.{◌≡◌, ◌≢◌, ◌↔◌, ℕ, ℤ, pos, IsTrue, slice_get, Some, None, List}
-use Rattle.sm_num.specs.declared.kind.Kind.{Kind}
 use Rattle.sm_num.specs.Forms.{Linear, coefficient, IsKept}
+use Rattle.sm_num.specs.declared.kind.Kind.{Kind}
 use Rattle.sm_num.specs.Combining.{Outcome, Fits, Leaves, combined, combination}
 use Rattle.sm_num.specs.Eliminating.{can_cancel, eliminated, elimination}
 use Rattle.sm_num.specs.Tightening.{tightened, is_contradictory}

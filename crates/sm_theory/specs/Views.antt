@@ -2,20 +2,19 @@
 -- table's numbers.
 use Rattle.std.specs.Prelude.{◌≡◌, ℕ, ◌<◌, List, [], ◌∷◌, length, get_or, Option, Some, None}
 use Rattle.sm_syntax.specs.text.Sorts.{Sorts}
-use Rattle.sm_term.specs.declared.term.TermId.{TermId}
 use Rattle.sm_term.specs.Terms.{Tree}
 use Rattle.sm_term.specs.Tables.{tree_at}
+use Rattle.sm_term.specs.declared.term.TermId.{TermId}
 use Rattle.sm_term.specs.Formulas.{numbered, assertion_in, IsFormulaWithin}
-use Rattle.sm_theory.specs.declared.fact.Fact.{Fact}
+pub use Rattle.sm_theory.specs.declared.fact.Fact.{Fact}
 use Rattle.sm_theory.specs.declared.fact.Fact.TheVariants as fact
-use Rattle.sm_theory.specs.declared.line.CertLine.{CertLine}
+pub use Rattle.sm_theory.specs.declared.line.CertLine.{CertLine}
 use Rattle.sm_theory.specs.declared.line.CertLine.TheVariants as line
 use Rattle.sm_theory.specs.Facts.{BranchFact, Formal, Sum}
-use Rattle.sm_theory.specs.Lines.{CertificateLine, LineOver, Both, Either, Cases, Order, Refl}
-use Rattle.sm_theory.specs.Lines.{Sym, Trans, Subst, Cong, Same, Apart, Hit, Miss, Lin, Elim, Tight, Exact}
-use Rattle.sm_theory.specs.Lines.{Close, Clash}
+use Rattle.sm_theory.specs.Lines.{CertificateLine, LineOver, Both, Either, Cases, Order, Refl, Sym, Trans, Subst, Cong, Same, Apart, Hit, Miss, Lin, Elim, Tight, Exact, Close, Clash}
 use Rattle.sm_theory.specs.Named.{EachNamed, with_terms}
 use Rattle.sm_theory.specs.Standing.{IsKeptFor}
+pub use Rattle.sm_theory.specs.declared.fact.Fact.TheVariants.{Form}
 
 -- a line of the program, by its numbers of terms and facts
 abbrev pub numbered_line : CertLine → LineOver ℕ

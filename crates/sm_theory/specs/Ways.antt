@@ -1,18 +1,14 @@
 -- Cited by public clauses: what a line does to a branch, as one function: it gives the ways in which
 -- the branch goes on, each with the facts that it adds. None is refused; no way closes the branch,
 -- one adds, two split.
-use Rattle.std.specs.Prelude.{Bool, true, false, ◌&&◌, if◌then◌else◌, Option, Some, None}
-use Rattle.std.specs.Prelude.{slice_get, List, [], ◌∷◌}
-use Rattle.sm_syntax.specs.declared.tree.Sort.TheVariants.{Num}
+use Rattle.std.specs.Prelude.{Bool, true, false, ◌&&◌, if◌then◌else◌, Option, Some, None, slice_get, List, [], ◌∷◌}
 use Rattle.sm_syntax.specs.text.Sorts.{Sorts}
+use Rattle.sm_syntax.specs.declared.tree.Sort.TheVariants.{Num}
 use Rattle.sm_num.specs.Tightening.{is_contradictory}
 use Rattle.sm_term.specs.Assertions.{Assertion, Yes, No, Eq, Ne, Le, Lt, And, Or}
 use Rattle.sm_term.specs.SameTerms.{same_tree, same_sort}
 use Rattle.sm_theory.specs.Facts.{BranchFact, Formal, Sum}
-use Rattle.sm_theory.specs.Lines.{CertificateLine, Both, Either, Cases, Order, Refl, Sym, Trans}
-use Rattle.sm_theory.specs.Lines.{Subst, Cong, Same, Apart, Hit, Miss, Lin, Elim, Tight, Exact}
-use Rattle.sm_theory.specs.Lines.{Close, Clash, followed, Sides, formula_at}
-use Rattle.sm_theory.specs.Lines.{equation_at, contrary_at}
+use Rattle.sm_theory.specs.Lines.{CertificateLine, Both, Either, Cases, Order, Refl, Sym, Trans, Subst, Cong, Same, Apart, Hit, Miss, Lin, Elim, Tight, Exact, Close, Clash, followed, Sides, formula_at, equation_at, contrary_at}
 use Rattle.sm_theory.specs.Equality.{or_other, equality_adds, says_equal}
 use Rattle.sm_theory.specs.Elements.{element_adds}
 use Rattle.sm_theory.specs.Arithmetic.{arithmetic_adds, is_numeric}

@@ -1,12 +1,7 @@
 // Laws of lines of certificates, as contracts.
-ghost use Rattle.sm_theory.specs.Laws.{AddsWhatHolds, AddsWhatIsSorted, AddsWhatIsBelow};
-ghost use Rattle.sm_theory.specs.Laws.{AddsAnywhere, equality, arrays, arithmetic};
-ghost use Rattle.sm_theory.specs.Laws.{SomeWayHolds, WaysAreSorted, WaysAreBelow, WaysMove};
-ghost use Rattle.sm_theory.specs.Laws.{WaysAddSoMany};
+ghost use Rattle.sm_theory.specs.Laws.{AddsWhatHolds, AddsWhatIsSorted, AddsWhatIsBelow, AddsAnywhere, equality, arrays, arithmetic, SomeWayHolds, WaysAreSorted, WaysAreBelow, WaysMove, WaysAddSoMany};
 ghost use Rattle.sm_theory.specs.LinearLaws.{LinearHasValue};
-ghost use Rattle.sm_theory.specs.Standing.{CombinedStands, EliminatedStands, CanCancelStands};
-ghost use Rattle.sm_theory.specs.Standing.{TightenedStands, ContradictoryStands, OneMoreStands};
-ghost use Rattle.sm_theory.specs.Standing.{SamePartsStand, StandsLater, LinearStands};
+ghost use Rattle.sm_theory.specs.Standing.{CombinedStands, EliminatedStands, CanCancelStands, TightenedStands, ContradictoryStands, OneMoreStands, SamePartsStand, StandsLater, LinearStands};
 
 use crate::fact::{Branch, Fact};
 use crate::line::{CertLine, FactNumbers};

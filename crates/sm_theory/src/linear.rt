@@ -1,6 +1,5 @@
 // Linear forms of terms, whose atoms are numbers of terms.
-ghost use Rattle.std.specs.Prelude.{◌≡◌, ◌<◌, ℕ, pos, negsuc, List, length, Option, IsTrue};
-ghost use Rattle.std.specs.Prelude.{if◌then◌else◌, ◌⊎◌, nat_eq, Some, None, IfOk, IfErr};
+ghost use Rattle.std.specs.Prelude.{◌≡◌, ◌<◌, ℕ, pos, negsuc, List, length, Option, IsTrue, if◌then◌else◌, ◌⊎◌, nat_eq, Some, None, IfOk, IfErr};
 ghost use Rattle.std.specs.HashMap.{get};
 ghost use Rattle.sm_num.specs.declared.kind.Kind.TheVariants.{Eq};
 ghost use Rattle.sm_num.specs.Forms.{Linear};
@@ -9,8 +8,7 @@ ghost use Rattle.sm_num.specs.Combining.{Outcome, combined};
 ghost use Rattle.sm_num.specs.Errors.{Returns};
 ghost use Rattle.sm_term.specs.Tables.{trees_in, tree_at};
 ghost use Rattle.sm_term.specs.Terms.{Tree};
-ghost use Rattle.sm_theory.specs.LinearTerms.{linear_of, constant_form, atom_form, or_atom};
-ghost use Rattle.sm_theory.specs.LinearTerms.{scaled_form, product_form};
+ghost use Rattle.sm_theory.specs.LinearTerms.{linear_of, constant_form, atom_form, or_atom, scaled_form, product_form};
 ghost use Rattle.sm_theory.specs.Standing.{IsKeptFor, AreLinearForms};
 ghost use Rattle.sm_theory.specs.FormsOfTerms.{AreFormsOf, IsFound};
 

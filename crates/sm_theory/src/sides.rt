@@ -1,14 +1,12 @@
 // Facts of a branch by their numbers, and the terms that they compare.
-ghost use Rattle.std.specs.Prelude.{◌≡◌, ◌<◌, nat_eq, List, length, slice_get};
-ghost use Rattle.std.specs.Prelude.{Option, option_copied};
+ghost use Rattle.std.specs.Prelude.{◌≡◌, ◌<◌, nat_eq, List, length, slice_get, Option, option_copied};
 ghost use Rattle.sm_syntax.specs.text.Sorts.{Sorts};
 ghost use Rattle.sm_term.specs.Terms.{Tree};
 ghost use Rattle.sm_term.specs.Tables.{tree_at, trees_in, sorts_in};
 ghost use Rattle.sm_term.specs.SameTerms.{same_tree};
 ghost use Rattle.sm_term.specs.Formulas.{numbered, assertion_in, IsFormulaWithin};
 ghost use Rattle.sm_theory.specs.Facts.{BranchFact};
-ghost use Rattle.sm_theory.specs.Lines.{formula_at, form_at, equation_at, contrary_at};
-ghost use Rattle.sm_theory.specs.Lines.{Sides, equal_sides, unequal_sides};
+ghost use Rattle.sm_theory.specs.Lines.{formula_at, form_at, equation_at, contrary_at, Sides, equal_sides, unequal_sides};
 ghost use Rattle.sm_theory.specs.Equality.{says_equal};
 ghost use Rattle.sm_theory.specs.Standing.{IsKeptFor};
 ghost use Rattle.sm_theory.specs.Views.{FactStands, AllStand};

@@ -4,8 +4,7 @@ ghost use Rattle.sm_syntax.specs.text.Sorts.{Sorts};
 ghost use Rattle.sm_term.specs.Tables.{trees_in, sorts_in};
 ghost use Rattle.sm_theory.specs.Facts.{BranchFact};
 ghost use Rattle.sm_theory.specs.Lines.{CertificateLine};
-ghost use Rattle.sm_theory.specs.Laws.{AddsWhatHolds, AddsWhatIsSorted};
-ghost use Rattle.sm_theory.specs.Laws.{AddsWhatIsBelow, AddsAnywhere};
+ghost use Rattle.sm_theory.specs.Laws.{AddsWhatHolds, AddsWhatIsSorted, AddsWhatIsBelow, AddsAnywhere};
 ghost use Rattle.sm_theory.specs.SortedFacts.{AreFactsSorted};
 ghost use Rattle.sm_theory.specs.Views.{line_in, IsLineWithin, AllStand, StandsIf};
 

@@ -1,40 +1,23 @@
 -- What lines name, here and with other numbers of facts.
-use Rattle.std.proofs.Common.{◌≡◌, ◌⊎◌, ◌<◌, ◌+◌, ℕ, zero, suc, Bool, true, false, ◌&&◌, ◌||◌, nat_eq, nat_lt, List, [], ◌∷◌, map, inl, inr}
-use Rattle.std.proofs.Common.{refl, ap, sym, ◌∙◌, subst, arith}
+use Rattle.std.proofs.Common.{◌≡◌, ◌⊎◌, ◌<◌, ◌+◌, ℕ, zero, suc, Bool, true, false, ◌&&◌, ◌||◌, nat_eq, nat_lt, List, [], ◌∷◌, map, inl, inr, refl, ap, sym, ◌∙◌, subst, arith}
 use Rattle.std.specs.List.{list_any, AllByRecursion}
-use Rattle.std.proofs.lemmas.Bool.{and_parts, eq-eqb, eqb-true, lt-ltb}
-use Rattle.sm_theory.specs.Lines.{CertificateLine, Both, Either, Cases, Order, Refl, Sym, Trans, Subst, Cong, Same, Apart, Hit, Miss, Lin}
-use Rattle.sm_theory.specs.Lines.{Elim}
-use Rattle.sm_theory.specs.Lines.{Tight, Exact, Close, Clash}
+use Rattle.std.proofs.lemmas.Bool.{and_parts, eq-eqb, eqb-true, lt-ltb, or_right, or_left, and_from}
+use Rattle.sm_theory.specs.Lines.{CertificateLine, Both, Either, Cases, Order, Refl, Sym, Trans, Subst, Cong, Same, Apart, Hit, Miss, Lin, Elim, Tight, Exact, Close, Clash}
 use Rattle.sm_theory.specs.Named.{facts_named, reads_all, facts_added, terms_named}
 use Rattle.sm_theory.specs.Moved.{moved_line}
 use Rattle.sm_trim.specs.Used.{names_fact, some_pass}
-
--- one of two tests is passed
-pub by_first : (a b : Bool) → a ≡ true → (a || b) ≡ true
-by_first true b e = refl
-by_first false b e = absurd cc
-
-pub by_second : (a b : Bool) → b ≡ true → (a || b) ≡ true
-by_second true b e = refl
-by_second false b e = e
 
 pub either_passes : (a b : Bool) → (a || b) ≡ true → (a ≡ true) ⊎ (b ≡ true)
 either_passes true b e = inl refl
 either_passes false b e = inr e
 
--- both are
-pub both_pass : (a b : Bool) → a ≡ true → b ≡ true → (a && b) ≡ true
-both_pass true b e f = f
-both_pass false b e f = absurd cc
-
 -- a number among k from n on that passes
 pub pass_at : (k n j : ℕ) (test : ℕ → Bool) → j < k → test (n + j) ≡ true → some_pass k n test ≡ true
 pass_at zero n j test less e = absurd (let none = less in omega arith)
 pass_at (suc k) n zero test less e =
-    by_first (test n) (some_pass k (suc n) test) (ap test (let same : n ≡ n + 0 = omega arith in same) ∙ e)
+    or_left (test n) (some_pass k (suc n) test) (ap test (let same : n ≡ n + 0 = omega arith in same) ∙ e)
 pass_at (suc k) n (suc j) test less e =
-    by_second (test n) (some_pass k (suc n) test)
+    or_right (test n) (some_pass k (suc n) test)
     (pass_at k (suc n) j test (let there : j < k = omega arith in there)
     (ap test (let same : suc n + j ≡ n + suc j = omega arith in same) ∙ e))
 
@@ -64,8 +47,8 @@ itself n = eq-eqb n n refl
 all_named : (P : ℕ → Type 0) (ns : List ℕ) → ((n : ℕ) → list_any (nat_eq n) ns ≡ true → P n) → AllByRecursion P ns
 all_named P [] all = tt
 all_named P (m ∷ ns) all = (
-  all m (by_first (nat_eq m m) (list_any (nat_eq m) ns) (itself m)),
-  all_named P ns (λ n h. all n (by_second (nat_eq n m) (list_any (nat_eq n) ns) h)),
+  all m (or_left (nat_eq m m) (list_any (nat_eq m) ns) (itself m)),
+  all_named P ns (λ n h. all n (or_right (nat_eq n m) (list_any (nat_eq n) ns) h)),
 )
 
 -- a number that is named is named with its other number
@@ -77,8 +60,8 @@ moved_named move (m ∷ ns) n e = of (either_passes (nat_eq n m) (list_any (nat_
         (list_any (nat_eq n) ns ≡ true → list_any (nat_eq (move n)) (map move ns) ≡ true) →
         list_any (nat_eq (move n)) (map move (m ∷ ns)) ≡ true
     of (inl h) later =
-        by_first (nat_eq (move n) (move m)) (list_any (nat_eq (move n)) (map move ns)) (eq-eqb (move n) (move m) (ap move (eqb-true n m h)))
-    of (inr h) later = by_second (nat_eq (move n) (move m)) (list_any (nat_eq (move n)) (map move ns)) (later h)
+        or_left (nat_eq (move n) (move m)) (list_any (nat_eq (move n)) (map move ns)) (eq-eqb (move n) (move m) (ap move (eqb-true n m h)))
+    of (inr h) later = or_right (nat_eq (move n) (move m)) (list_any (nat_eq (move n)) (map move ns)) (later h)
 
 -- what a line with other numbers has of the line
 pub record IsAlike (move : ℕ → ℕ) (line other : CertificateLine) : Type 0 where
@@ -117,13 +100,13 @@ pub each_named : (P : ℕ → Type 0) (at : ℕ) (line : CertificateLine) → ((
     AllByRecursion P (facts_named line)
 each_named P at line all =
     all_named P (facts_named line)
-    (λ n h. all n (by_first (list_any (nat_eq n) (facts_named line)) (reads_all line && nat_lt n at) h))
+    (λ n h. all n (or_left (list_any (nat_eq n) (facts_named line)) (reads_all line && nat_lt n at) h))
 
 -- a line that reads all facts names each of them
 pub names_all : (at : ℕ) (line : CertificateLine) (n : ℕ) → reads_all line ≡ true → n < at → names_fact at line n ≡ true
 names_all at line n all less =
-    by_second (list_any (nat_eq n) (facts_named line)) (reads_all line && nat_lt n at)
-    (both_pass (reads_all line) (nat_lt n at) all (lt-ltb n at less))
+    or_right (list_any (nat_eq n) (facts_named line)) (reads_all line && nat_lt n at)
+    (and_from (reads_all line) (nat_lt n at) all (lt-ltb n at less))
 
 -- a fact that a line names is named with its new number by the line with new numbers, where that is a fact before it
 pub names_moved : (move : ℕ → ℕ) (at to : ℕ) (line : CertificateLine) (n : ℕ) → move n < to → names_fact at line n ≡ true →
@@ -137,7 +120,7 @@ names_moved move at to line n less e =
     of : (list_any (nat_eq n) (facts_named line) ≡ true) ⊎ ((reads_all line && nat_lt n at) ≡ true) →
         names_fact to (moved_line move line) (move n) ≡ true
     of (inl h) =
-        by_first (list_any (nat_eq (move n)) (facts_named (moved_line move line))) (reads_all (moved_line move line) && nat_lt (move n) to)
+        or_left (list_any (nat_eq (move n)) (facts_named (moved_line move line))) (reads_all (moved_line move line) && nat_lt (move n) to)
         (subst (λ (ns : List ℕ). list_any (nat_eq (move n)) ns ≡ true) (sym like.named) (moved_named move (facts_named line) n h))
     of (inr h) =
         names_all to (moved_line move line) (move n) (like.reads ∙ (and_parts (reads_all line) (nat_lt n at) h).0) less

@@ -4,9 +4,9 @@ use Rattle.std.specs.List.{Contains}
 use Rattle.sm_syntax.specs.text.Sorts.{Sorts}
 use Rattle.sm_term.specs.Terms.{Tree}
 use Rattle.sm_theory.specs.Facts.{BranchFact}
-use Rattle.sm_cert.specs.declared.tree.CertTree.{CertTree}
 use Rattle.sm_cert.specs.Certificates.{Certificate, Closes, lines_in}
 use Rattle.sm_cert.specs.Views.{certificate_in, lines_of, AreLinesWithin}
+use Rattle.sm_cert.specs.declared.tree.CertTree.{CertTree}
 use Rattle.sm_trim.specs.Used.{IsUsed}
 use Rattle.sm_trim.specs.Named.{terms_in, EachNamesFew}
 use Rattle.sm_trim.specs.Pruned.{closed_up, pruned}

@@ -1,9 +1,8 @@
 -- What is left of a certificate closes the branch, with new numbers of facts.
-use Rattle.std.proofs.Common.{◌≡◌, ◌⊎◌, ◌<◌, ◌≤◌, ◌+◌, ℕ, zero, suc, max, nat_lt, if◌then◌else◌, Bool, true, false, ◌||◌}
-use Rattle.std.proofs.Common.{slice_get, Option, Some, None, List, [], ◌∷◌, ◌++◌, length, inl, inr, refl, ap, sym, ◌∙◌, arith, IsTrue}
+use Rattle.std.proofs.Common.{◌≡◌, ◌⊎◌, ◌<◌, ◌≤◌, ◌+◌, ℕ, suc, max, nat_lt, if◌then◌else◌, Bool, true, false, ◌||◌, slice_get, Option, Some, None, List, [], ◌∷◌, ◌++◌, length, inl, inr, refl, ap, sym, ◌∙◌, arith, IsTrue}
 use Rattle.std.proofs.lemmas.Option.{slice_get_within}
 use Rattle.std.proofs.lemmas.List.{length-append}
-use Rattle.std.proofs.lemmas.Bool.{ltb-true, ltb-false}
+use Rattle.std.proofs.lemmas.Bool.{ltb-true, ltb-false, or_left, or_right}
 use Rattle.sm_syntax.specs.text.Sorts.{Sorts}
 use Rattle.sm_theory.specs.Facts.{BranchFact}
 use Rattle.sm_theory.specs.Lines.{CertificateLine}
@@ -13,38 +12,15 @@ use Rattle.sm_theory.specs.Equality.{or_other}
 use Rattle.sm_theory.specs.Ways.{ways, adds}
 use Rattle.sm_theory.proofs.ArithmeticKept.{arithmetic_moves}
 use Rattle.sm_theory.proofs.TheoriesLemmas.{ways_move_from}
-use Rattle.sm_cert.specs.Certificates.{Certificate, Next, Closed, Split, lines_in, splits_above}
-use Rattle.sm_cert.specs.Certificates.{first_bad, TooManySplits, bad_line, Closes}
+use Rattle.sm_cert.specs.Certificates.{Certificate, Next, Closed, Split, lines_in, splits_above, first_bad, TooManySplits, bad_line, Closes}
 use Rattle.sm_trim.specs.Used.{names_fact, some_pass}
 use Rattle.sm_trim.specs.Pruned.{Pruned, LeftNext, LeftSplit, needs, with_line, with_split, pruned, new_number, numbered_on, closed_up}
-use Rattle.sm_trim.proofs.NamesLemmas.{by_first, by_second, pass_at, each_named, names_all}
+use Rattle.sm_trim.proofs.NamesLemmas.{pass_at, each_named, names_all}
 use Rattle.sm_trim.proofs.NumbersLemmas.{numbered_length, number_before, number_there}
-use Rattle.sm_trim.proofs.WaysLemmas.{one_way, no_way, two_ways, in_one, in_none, in_two, one_long, both_long, adds_some}
-
--- an element of the first of two lists
-in_first : {X : Type 0} (xs ys : List X) (n : ℕ) (x : X) → slice_get xs n ≡ Some x → slice_get (xs ++ ys) n ≡ Some x
-in_first [] ys n x e = absurd cc
-in_first (y ∷ xs) ys zero x e = e
-in_first (y ∷ xs) ys (suc n) x e = in_first xs ys n x e
-
--- an element of the second
-in_second : {X : Type 0} (xs ys : List X) (j : ℕ) → slice_get (xs ++ ys) (length xs + j) ≡ slice_get ys j
-in_second [] ys j = ap (λ (i : ℕ). slice_get ys i) (let none : 0 + j ≡ j = omega arith in none)
-in_second (x ∷ xs) ys j =
-    ap (λ (i : ℕ). slice_get ((x ∷ xs) ++ ys) i) (let one : suc (length xs) + j ≡ suc (length xs + j) = omega arith in one)
-    ∙ in_second xs ys j
-
--- an element of either
-in_either : {X : Type 0} (xs ys : List X) (n : ℕ) (x : X) → slice_get (xs ++ ys) n ≡ Some x →
-    (slice_get xs n ≡ Some x) ⊎ ((j : ℕ) × (n ≡ length xs + j) × (slice_get ys j ≡ Some x))
-in_either [] ys n x e = inr (n, (let none : n ≡ 0 + n = omega arith in none), e)
-in_either (y ∷ xs) ys zero x e = inl e
-in_either (y ∷ xs) ys (suc n) x e = of (in_either xs ys n x e)
-  where
-    of : (slice_get xs n ≡ Some x) ⊎ ((j : ℕ) × (n ≡ length xs + j) × (slice_get ys j ≡ Some x)) →
-        (slice_get xs n ≡ Some x) ⊎ ((j : ℕ) × (suc n ≡ suc (length xs) + j) × (slice_get ys j ≡ Some x))
-    of (inl h) = inl h
-    of (inr h) = inr (h.0, (let same = h.1 in omega arith), h.2)
+use Rattle.sm_trim.proofs.WaysLemmas.{in_one, in_none, in_two, one_long, both_long, adds_some}
+use Rattle.sm_cert.proofs.CertificateMoves.{parts_none}
+use Rattle.sm_lemmas.proofs.Lists.{get_in_first, get_in_either, get_in_second}
+use Rattle.sm_cert.proofs.WaysTaken.{one_way, no_way, two_ways}
 
 -- the facts that are needed stand on the other branch, with their new numbers; where all are, the branches are the same
 pub record Serves (needed : ℕ → Bool) (move : ℕ → ℕ) (facts others : List BranchFact) : Type 0 where
@@ -66,7 +42,7 @@ line_stays : (needed later : ℕ → Bool) (moved : List ℕ) (at to k : ℕ) (f
     to ≡ length others → length way ≡ k → length moved ≤ at → ((n : ℕ) → later n ≡ true → needed n ≡ true) →
     Serves needed (new_number moved) facts others → Serves later (new_number (numbered_on moved at to k)) (facts ++ way) (others ++ way)
 line_stays needed later moved at to k facts others way count there long short less serves = record {
-  stand = λ (n : ℕ) (h : later n ≡ true) (f : BranchFact) (e : slice_get (facts ++ way) n ≡ Some f). of n h f (in_either facts way n f e);
+  stand = λ (n : ℕ) (h : later n ≡ true) (f : BranchFact) (e : slice_get (facts ++ way) n ≡ Some f). of n h f (get_in_either facts way n f e);
   same = λ (all : (n : ℕ) → n < length (facts ++ way) → later n ≡ true).
       ap (λ (fs : List BranchFact). fs ++ way)
       (serves.same (λ (n : ℕ) (within : n < length facts).
@@ -79,7 +55,7 @@ line_stays needed later moved at to k facts others way count there long short le
     of n h f (inl g) =
         let within : n < length facts = slice_get_within facts n f g in
         ap (λ (i : ℕ). slice_get (others ++ way) i) (number_before moved at to k n short (let less : n < at = omega arith in less))
-        ∙ in_first others way (new_number moved n) f (serves.stand n (less n h) f g)
+        ∙ get_in_first others way (new_number moved n) f (serves.stand n (less n h) f g)
     of n h f (inr g) =
         let within : g.0 < length way = slice_get_within way g.0 f g.2 in
         let here : n ≡ at + g.0 = let same = g.1 in omega arith in
@@ -87,13 +63,13 @@ line_stays needed later moved at to k facts others way count there long short le
         let past : to + g.0 ≡ length others + g.0 = omega arith in
         ap (λ (i : ℕ). slice_get (others ++ way) i)
         (ap (new_number (numbered_on moved at to k)) here ∙ number_there moved at to k g.0 short less ∙ past)
-        ∙ in_second others way g.0 ∙ g.2
+        ∙ get_in_second others way g.0 ∙ g.2
 
 -- a line that is left out adds its facts, which aren't needed, to the first branch alone
 line_goes : (needed : ℕ → Bool) (move : ℕ → ℕ) (at k : ℕ) (facts others way : List BranchFact) → at ≡ length facts → length way ≡ k →
     0 < k → some_pass k at needed ≡ false → Serves needed move facts others → Serves needed move (facts ++ way) others
 line_goes needed move at k facts others way count long some none serves = record {
-  stand = λ (n : ℕ) (h : needed n ≡ true) (f : BranchFact) (e : slice_get (facts ++ way) n ≡ Some f). of n h f (in_either facts way n f e);
+  stand = λ (n : ℕ) (h : needed n ≡ true) (f : BranchFact) (e : slice_get (facts ++ way) n ≡ Some f). of n h f (get_in_either facts way n f e);
   same = λ (all : (n : ℕ) → n < length (facts ++ way) → needed n ≡ true).
       let within : at + 0 < length (facts ++ way) = let l = length-append facts way in omega arith in
       absurd (no 0 some (all (at + 0) within));
@@ -140,7 +116,7 @@ next_trims sorts facts at line way p count goes later = of (some_pass (facts_add
         let k = facts_added line in
         let whole = λ (n : ℕ). names_fact at line n || needs p n in
         let alike = line_alike whole (new_number moved) at facts others line count
-        (λ (n : ℕ) (g : names_fact at line n ≡ true). by_first (names_fact at line n) (needs p n) g) serves in
+        (λ (n : ℕ) (g : names_fact at line n ≡ true). or_left (names_fact at line n) (needs p n) g) serves in
         let same = same_ways sorts (new_number moved) facts others line (way ∷ []) alike goes in
         let lengths : length (numbered_on moved at to k) ≤ at + k = let l = numbered_length moved at to k short in omega arith in
         in_one (ways sorts others (moved_line (new_number moved) line)) m
@@ -148,7 +124,7 @@ next_trims sorts facts at line way p count goes later = of (some_pass (facts_add
         way same
         (later (others ++ way) (to + k) (numbered_on moved at to k) (suc m) (at_more to k others way there long) lengths
         (line_stays whole (needs p) moved at to k facts others way count there long short
-        (λ (n : ℕ) (g : needs p n ≡ true). by_second (names_fact at line n) (needs p n) g) serves))
+        (λ (n : ℕ) (g : needs p n ≡ true). or_right (names_fact at line n) (needs p n) g) serves))
     of false h others to moved m there short serves =
         let some = adds_some line in
         later others to moved m there (let more : length moved ≤ at + facts_added line = omega arith in more)
@@ -180,7 +156,7 @@ split_trims sorts facts at line way other p q count goes first second = of (need
     of true true h g others to moved m there short serves =
         let whole = λ (n : ℕ). names_fact at line n || (needs p n || needs q n) in
         let alike = line_alike whole (new_number moved) at facts others line count
-        (λ (n : ℕ) (g : names_fact at line n ≡ true). by_first (names_fact at line n) (needs p n || needs q n) g) serves in
+        (λ (n : ℕ) (g : names_fact at line n ≡ true). or_left (names_fact at line n) (needs p n || needs q n) g) serves in
         let same = same_ways sorts (new_number moved) facts others line (way ∷ other ∷ []) alike goes in
         let after = numbered_on moved at to 1 in
         let lengths : length after ≤ suc at = let l = numbered_length moved at to 1 short in omega arith in
@@ -192,11 +168,11 @@ split_trims sorts facts at line way other p q count goes first second = of (need
         (both_none (one way) (two other)
         (first (others ++ way) (suc to) after (suc m) (past way long.0 others to there) lengths
         (line_stays whole (needs p) moved at to 1 facts others way count there long.0 short
-        (λ (n : ℕ) (g : needs p n ≡ true). by_second (names_fact at line n) (needs p n || needs q n) (by_first (needs p n) (needs q n) g))
+        (λ (n : ℕ) (g : needs p n ≡ true). or_right (names_fact at line n) (needs p n || needs q n) (or_left (needs p n) (needs q n) g))
         serves))
         (second (others ++ other) (suc to) after (suc m + lines_in (closed_up after (suc to) p)) (past other long.1 others to there) lengths
         (line_stays whole (needs q) moved at to 1 facts others other count there long.1 short
-        (λ (n : ℕ) (g : needs q n ≡ true). by_second (names_fact at line n) (needs p n || needs q n) (by_second (needs p n) (needs q n) g))
+        (λ (n : ℕ) (g : needs q n ≡ true). or_right (names_fact at line n) (needs p n || needs q n) (or_right (needs p n) (needs q n) g))
         serves)))
       where
         both_none : (o p : Option ℕ) → o ≡ None → p ≡ None → or_other o p ≡ None
@@ -206,11 +182,6 @@ split_trims sorts facts at line way other p q count goes first second = of (need
         past : (w : List BranchFact) → length w ≡ 1 → (others : List BranchFact) (to : ℕ) → to ≡ length others →
             suc to ≡ length (others ++ w)
         past w one others to there = let l = length-append others w in omega arith
-
--- no line of two parts is bad
-parts_none : (o p : Option ℕ) → or_other o p ≡ None → (o ≡ None) × (p ≡ None)
-parts_none None p e = (refl, e)
-parts_none (Some n) p e = absurd cc
 
 -- what is left of a certificate without a bad line
 pub trims : (sorts : Sorts) (facts : List BranchFact) (at n : ℕ) (c : Certificate) → at ≡ length facts →

@@ -1,15 +1,14 @@
 -- Each line of what is left is used.
-use Rattle.std.proofs.Common.{◌≡◌, ◌⊎◌, ◌<◌, ◌≤◌, ◌+◌, ℕ, suc, Bool, true, false, ◌&&◌, ◌||◌, if◌then◌else◌, IsTrue, List, [], length, inl}
-use Rattle.std.proofs.Common.{inr}
-use Rattle.std.proofs.Common.{refl, ap, sym, ◌∙◌, subst, arith}
+use Rattle.std.proofs.Common.{◌≡◌, ◌⊎◌, ◌<◌, ◌≤◌, ◌+◌, ℕ, suc, Bool, true, false, ◌&&◌, ◌||◌, if◌then◌else◌, IsTrue, List, [], length, inl, inr, refl, ap, sym, ◌∙◌, subst, arith}
 use Rattle.sm_theory.specs.Lines.{CertificateLine}
 use Rattle.sm_theory.specs.Named.{facts_added}
 use Rattle.sm_theory.specs.Moved.{moved_line}
 use Rattle.sm_cert.specs.Certificates.{Certificate, Next, Closed, Split}
 use Rattle.sm_trim.specs.Used.{names_fact, some_pass, is_used, IsUsed}
 use Rattle.sm_trim.specs.Pruned.{Pruned, LeftNext, LeftSplit, needs, with_line, with_split, pruned, new_number, numbered_on, closed_up}
-use Rattle.sm_trim.proofs.NamesLemmas.{by_first, by_second, either_passes, both_pass, pass_at, passed_at, moved_alike, names_moved}
+use Rattle.sm_trim.proofs.NamesLemmas.{either_passes, pass_at, passed_at, moved_alike, names_moved}
 use Rattle.sm_trim.proofs.NumbersLemmas.{numbered_length, number_before, number_there, Place, Before, There, Past, place}
+use Rattle.std.proofs.lemmas.Bool.{or_left, or_right, and_from}
 
 -- the facts before that are needed have numbers there
 abbrev pub AreThere : ℕ → ℕ → List ℕ → Pruned → Type 0
@@ -87,7 +86,7 @@ next_uses at line p later = of (some_pass (facts_added line) at (needs p)) refl
         u : Uses (at + k) (to + k) after p
         u = later (to + k) after (let l = numbered_length moved at to k short in omega arith)
             (there_more at to k moved p short (λ (n : ℕ) (less : n < at) (need : needs p n ≡ true).
-            there n less (by_second (names_fact at line n) (needs p n) need)))
+            there n less (or_right (names_fact at line n) (needs p n) need)))
 
         some_used : some_pass k to (is_used (to + k) rest) ≡ true
         some_used =
@@ -101,12 +100,12 @@ next_uses at line p later = of (some_pass (facts_added line) at (needs p)) refl
             (new_number moved n))
             ≡ true
         named_there n less small (inl g) =
-            by_first (some_pass k to (is_used (to + k) rest) && names_fact to new (new_number moved n))
+            or_left (some_pass k to (is_used (to + k) rest) && names_fact to new (new_number moved n))
             (is_used (to + k) rest (new_number moved n))
-            (both_pass (some_pass k to (is_used (to + k) rest)) (names_fact to new (new_number moved n)) some_used
+            (and_from (some_pass k to (is_used (to + k) rest)) (names_fact to new (new_number moved n)) some_used
             (names_moved (new_number moved) at to line n small g))
         named_there n less small (inr g) =
-            by_second (some_pass k to (is_used (to + k) rest) && names_fact to new (new_number moved n))
+            or_right (some_pass k to (is_used (to + k) rest) && names_fact to new (new_number moved n))
             (is_used (to + k) rest (new_number moved n))
             (ap (is_used (to + k) rest) (sym (number_before moved at to k n short less))
             ∙ u.named n (let more : n < at + k = omega arith in more) g)
@@ -166,11 +165,11 @@ split_uses at line p q first second = of (needs p at) (needs q at) refl refl
 
         one : Uses (suc at) (suc to) after p
         one = first (suc to) after lengths (there_one p (λ (n : ℕ) (g : needs p n ≡ true).
-            by_second (names_fact at line n) (needs p n || needs q n) (by_first (needs p n) (needs q n) g)))
+            or_right (names_fact at line n) (needs p n || needs q n) (or_left (needs p n) (needs q n) g)))
 
         two : Uses (suc at) (suc to) after q
         two = second (suc to) after lengths (there_one q (λ (n : ℕ) (g : needs q n ≡ true).
-            by_second (names_fact at line n) (needs p n || needs q n) (by_second (needs p n) (needs q n) g)))
+            or_right (names_fact at line n) (needs p n || needs q n) (or_right (needs p n) (needs q n) g)))
 
         here : new_number after at ≡ to
         here =
@@ -189,13 +188,13 @@ split_uses at line p q first second = of (needs p at) (needs q at) refl refl
             (((is_used (suc to) c to && is_used (suc to) d to) && names_fact to new (new_number moved n))
             || (is_used (suc to) c (new_number moved n) || is_used (suc to) d (new_number moved n))) ≡ true
         named_there n less small (inl g) =
-            by_first ((is_used (suc to) c to && is_used (suc to) d to) && names_fact to new (new_number moved n))
+            or_left ((is_used (suc to) c to && is_used (suc to) d to) && names_fact to new (new_number moved n))
             (is_used (suc to) c (new_number moved n) || is_used (suc to) d (new_number moved n))
-            (both_pass (is_used (suc to) c to && is_used (suc to) d to) (names_fact to new (new_number moved n))
-            (both_pass (is_used (suc to) c to) (is_used (suc to) d to) one_used two_used)
+            (and_from (is_used (suc to) c to && is_used (suc to) d to) (names_fact to new (new_number moved n))
+            (and_from (is_used (suc to) c to) (is_used (suc to) d to) one_used two_used)
             (names_moved (new_number moved) at to line n small g))
         named_there n less small (inr g) =
-            by_second ((is_used (suc to) c to && is_used (suc to) d to) && names_fact to new (new_number moved n))
+            or_right ((is_used (suc to) c to && is_used (suc to) d to) && names_fact to new (new_number moved n))
             (is_used (suc to) c (new_number moved n) || is_used (suc to) d (new_number moved n))
             (of_parts (either_passes (needs p n) (needs q n) g))
           where
@@ -208,10 +207,10 @@ split_uses at line p q first second = of (needs p at) (needs q at) refl refl
             of_parts : (needs p n ≡ true) ⊎ (needs q n ≡ true) →
                 (is_used (suc to) c (new_number moved n) || is_used (suc to) d (new_number moved n)) ≡ true
             of_parts (inl u) =
-                by_first (is_used (suc to) c (new_number moved n)) (is_used (suc to) d (new_number moved n))
+                or_left (is_used (suc to) c (new_number moved n)) (is_used (suc to) d (new_number moved n))
                 (ap (is_used (suc to) c) (sym kept) ∙ one.named n more u)
             of_parts (inr u) =
-                by_second (is_used (suc to) c (new_number moved n)) (is_used (suc to) d (new_number moved n))
+                or_right (is_used (suc to) c (new_number moved n)) (is_used (suc to) d (new_number moved n))
                 (ap (is_used (suc to) d) (sym kept) ∙ two.named n more u)
 
 -- what is left of each certificate

@@ -1,16 +1,13 @@
 -- A certificate of which each line is used is left as it is.
-use Rattle.std.proofs.Common.{◌≡◌, ◌⊎◌, ◌≤◌, ◌+◌, ℕ, suc, Bool, true, false, ◌&&◌, ◌||◌, if◌then◌else◌, List, [], ◌∷◌, map, length}
-use Rattle.std.proofs.Common.{inl, inr, refl, ap, sym, ◌∙◌, arith}
-use Rattle.std.proofs.lemmas.Bool.{and_parts}
-use Rattle.sm_theory.specs.Lines.{CertificateLine, Both, Either, Cases, Order, Refl, Sym, Trans, Subst, Cong, Same, Apart, Hit, Miss, Lin}
-use Rattle.sm_theory.specs.Lines.{Elim}
-use Rattle.sm_theory.specs.Lines.{Tight, Exact, Close, Clash}
+use Rattle.std.proofs.Common.{◌≡◌, ◌⊎◌, ◌≤◌, ◌+◌, ℕ, suc, Bool, true, false, ◌&&◌, ◌||◌, if◌then◌else◌, List, [], ◌∷◌, map, length, inl, inr, refl, ap, sym, ◌∙◌, arith}
+use Rattle.std.proofs.lemmas.Bool.{and_parts, or_left, or_right}
+use Rattle.sm_theory.specs.Lines.{CertificateLine, Both, Either, Cases, Order, Refl, Sym, Trans, Subst, Cong, Same, Apart, Hit, Miss, Lin, Elim, Tight, Exact, Close, Clash}
 use Rattle.sm_theory.specs.Named.{facts_added}
 use Rattle.sm_theory.specs.Moved.{moved_line}
 use Rattle.sm_cert.specs.Certificates.{Certificate, Next, Closed, Split}
 use Rattle.sm_trim.specs.Used.{names_fact, some_pass, is_used, IsUsed}
 use Rattle.sm_trim.specs.Pruned.{Pruned, LeftNext, LeftSplit, needs, with_line, with_split, pruned, new_number, numbered_on, closed_up}
-use Rattle.sm_trim.proofs.NamesLemmas.{by_first, by_second, either_passes, some_more}
+use Rattle.sm_trim.proofs.NamesLemmas.{either_passes, some_more}
 use Rattle.sm_trim.proofs.NumbersLemmas.{numbered_length, number_before, number_there, number_past, Place, Before, There, Past, place}
 
 -- numbers that stay
@@ -80,8 +77,8 @@ next_stays at line c p later used = of (some_pass (facts_added line) at (needs p
         named : (n : ℕ) → ((some_pass k at (is_used (at + k) c) && names_fact at line n) ≡ true) ⊎ (is_used (at + k) c n ≡ true) →
             (names_fact at line n || needs p n) ≡ true
         named n (inl g) =
-            by_first (names_fact at line n) (needs p n) (and_parts (some_pass k at (is_used (at + k) c)) (names_fact at line n) g).1
-        named n (inr g) = by_second (names_fact at line n) (needs p n) (later.needed n g)
+            or_left (names_fact at line n) (needs p n) (and_parts (some_pass k at (is_used (at + k) c)) (names_fact at line n) g).1
+        named n (inr g) = or_right (names_fact at line n) (needs p n) (later.needed n g)
 
 split_stays : (at : ℕ) (line : CertificateLine) (c d : Certificate) (p q : Pruned) → Stays (suc at) c p → Stays (suc at) d q →
     is_used (suc at) c at ≡ true → is_used (suc at) d at ≡ true → Stays at (Split line c d) (with_split at line p q)
@@ -110,15 +107,15 @@ split_stays at line c d p q first second one two = of (needs p at) (needs q at) 
             ⊎ ((is_used (suc at) c n || is_used (suc at) d n) ≡ true) →
             (names_fact at line n || (needs p n || needs q n)) ≡ true
         named n (inl u) =
-            by_first (names_fact at line n) (needs p n || needs q n)
+            or_left (names_fact at line n) (needs p n || needs q n)
             (and_parts (is_used (suc at) c at && is_used (suc at) d at) (names_fact at line n) u).1
         named n (inr u) =
-            by_second (names_fact at line n) (needs p n || needs q n) (parts
+            or_right (names_fact at line n) (needs p n || needs q n) (parts
             (either_passes (is_used (suc at) c n) (is_used (suc at) d n) u))
           where
             parts : (is_used (suc at) c n ≡ true) ⊎ (is_used (suc at) d n ≡ true) → (needs p n || needs q n) ≡ true
-            parts (inl v) = by_first (needs p n) (needs q n) (first.needed n v)
-            parts (inr v) = by_second (needs p n) (needs q n) (second.needed n v)
+            parts (inl v) = or_left (needs p n) (needs q n) (first.needed n v)
+            parts (inr v) = or_right (needs p n) (needs q n) (second.needed n v)
 
 stays : (at : ℕ) (c : Certificate) → IsUsed at c → Stays at c (pruned at c)
 stays at (Next line c) used =

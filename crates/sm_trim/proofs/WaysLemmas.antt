@@ -9,29 +9,6 @@ use Rattle.sm_theory.proofs.WaysLemmas.{both_line}
 use Rattle.sm_theory.proofs.TheoriesLemmas.{ways_add_so_many}
 use Rattle.sm_cert.specs.Certificates.{in_one_way, in_no_way, in_two_ways}
 
--- a line that goes on in one way
-pub one_way : (v : Ways) (n : ℕ) (next : List BranchFact → Option ℕ) → in_one_way v n next ≡ None →
-    (way : List BranchFact) × (v ≡ Some (way ∷ [])) × (next way ≡ None)
-one_way None n next e = absurd cc
-one_way (Some []) n next e = absurd cc
-one_way (Some (way ∷ [])) n next e = (way, refl, e)
-one_way (Some (way ∷ other ∷ rest)) n next e = absurd cc
-
--- one that closes the branch
-pub no_way : (v : Ways) (n : ℕ) → in_no_way v n ≡ None → v ≡ Some []
-no_way None n e = absurd cc
-no_way (Some []) n e = refl
-no_way (Some (way ∷ rest)) n e = absurd cc
-
--- one that splits it
-pub two_ways : (v : Ways) (n : ℕ) (next : List BranchFact → List BranchFact → Option ℕ) → in_two_ways v n next ≡ None →
-    (way : List BranchFact) × (other : List BranchFact) × (v ≡ Some (way ∷ other ∷ [])) × (next way other ≡ None)
-two_ways None n next e = absurd cc
-two_ways (Some []) n next e = absurd cc
-two_ways (Some (way ∷ [])) n next e = absurd cc
-two_ways (Some (way ∷ other ∷ [])) n next e = (way, other, refl, e)
-two_ways (Some (way ∷ other ∷ third ∷ rest)) n next e = absurd cc
-
 -- a line with one way goes on in one way where what follows has no bad line
 pub in_one : (v : Ways) (n : ℕ) (next : List BranchFact → Option ℕ) (way : List BranchFact) → v ≡ Some (way ∷ []) → next way ≡ None →
     in_one_way v n next ≡ None

@@ -1,7 +1,6 @@
 -- Private: what trimming leaves of a certificate, first with the numbers that facts had, then with
 -- those that they get.
-use Rattle.std.specs.Prelude.{ℕ, suc, ◌+◌, ◌-◌, Bool, ◌||◌, if◌then◌else◌, List, ◌++◌, length}
-use Rattle.std.specs.Prelude.{get_or}
+use Rattle.std.specs.Prelude.{ℕ, suc, ◌+◌, ◌-◌, Bool, ◌||◌, if◌then◌else◌, List, ◌++◌, length, get_or}
 use Rattle.std.specs.List.{range_with_len}
 use Rattle.sm_theory.specs.Lines.{CertificateLine}
 use Rattle.sm_theory.specs.Named.{facts_added}

@@ -5,8 +5,7 @@ ghost use Rattle.sm_theory.specs.Named.{facts_added};
 ghost use Rattle.sm_theory.specs.Views.{line_in};
 ghost use Rattle.sm_cert.specs.Certificates.{Certificate};
 ghost use Rattle.sm_cert.specs.Views.{lines_before, certificate_in};
-ghost use Rattle.sm_trim.specs.Pruned.{Pruned, LeftClosed, LeftSplit};
-ghost use Rattle.sm_trim.specs.Pruned.{with_line, with_split, pruned};
+ghost use Rattle.sm_trim.specs.Pruned.{Pruned, LeftClosed, LeftSplit, with_line, with_split, pruned};
 ghost use Rattle.sm_trim.specs.Views.{facts_past, pruned_in, Leaves};
 
 use crate::left::{LeftEnd, LeftLine, LeftLines, LeftTree, Needing};

@@ -4,12 +4,11 @@ use Rattle.std.specs.List.{list_any}
 use Rattle.std.proofs.lemmas.List.{reverse-append}
 use Rattle.std.proofs.lemmas.List.Folds.{list_any-append}
 use Rattle.sm_theory.specs.Named.{is_closing, is_split}
-use Rattle.sm_proof.specs.Lines.{NumberedLine, Both, Either, Cases, Order, Refl, Sym, Trans, Subst}
-use Rattle.sm_proof.specs.Lines.{Cong, Same, Apart, Hit, Miss, Lin, Elim, Tight, Exact, Close, Clash}
-use Rattle.sm_proof.specs.Lines.{ProofLine, Header, Term, Form, Node, Cert}
+use Rattle.sm_proof.specs.Lines.{NumberedLine, Both, Either, Cases, Order, Refl, Sym, Trans, Subst, Cong, Same, Apart, Hit, Miss, Lin, Elim, Tight, Exact, Close, Clash, ProofLine, Header, Term, Form, Node, Cert}
 use Rattle.sm_prune.specs.UsedLines.{branches_after, closing_lines, is_fact_named, line_names_fact, lines_behind}
 use Rattle.sm_used.specs.Names.{is_in, GoesOnce, Know, known}
 use Rattle.sm_used.specs.declared.names.Names.{Names}
+use Rattle.sm_lemmas.proofs.Tests.{or_false}
 
 -- ---- lines that close branches
 
@@ -94,10 +93,6 @@ two_after others l splits =
 
 abbrev KnowAt : List Names → List ProofLine → Type 0
 KnowAt stack lines = (j n : ℕ) → known stack j n ≡ is_fact_named (lines_behind j lines) n
-
-or_false : (b : Bool) → (b || false) ≡ b
-or_false true = refl
-or_false false = refl
 
 closed_at : (stack : List Names) (names : Names) (l : NumberedLine) (lines : List ProofLine) → is_closing l ≡ true → KnowAt stack lines →
     ((n : ℕ) → is_in names n ≡ line_names_fact n (Cert l)) → KnowAt (names ∷ stack) (Cert l ∷ lines)

@@ -1,13 +1,12 @@
 -- A line is used, by what its kind asks.
-use Rattle.std.proofs.Common.{◌≡◌, ◌∙◌, ◌++◌, ℕ, Bool, true, false, List, [], ◌∷◌, map, append_assoc, refl, sym, ap, subst}
+use Rattle.std.proofs.Common.{◌≡◌, ◌∙◌, ◌++◌, ℕ, Bool, true, false, List, [], ◌∷◌, map, append_assoc, refl, sym, ap, subst, Result, Ok, Err, IfOk}
 use Rattle.std.proofs.lemmas.List.{append-nil}
-use Rattle.std.proofs.Common.{Result, Ok, Err, IfOk}
 use Rattle.std.specs.Prelude.{IsTrue, OnOk}
 use Rattle.sm_theory.specs.declared.line.CertLine.{CertLine}
 use Rattle.sm_theory.specs.Named.{is_closing, facts_added, is_split}
-use Rattle.sm_proof.specs.declared.line.Line.{Line}
 use Rattle.sm_proof.specs.declared.line.Line.TheVariants as lines
 use Rattle.sm_proof.specs.Lines.{NumberedLine, ProofLine, Cert, line_of}
+use Rattle.sm_proof.specs.declared.line.Line.{Line}
 use Rattle.sm_prune.specs.UsedLines.{IsCertUsed, IsUsedBy, is_fact_named, is_one_named, lines_behind}
 use Rattle.sm_used.proofs.BranchLemmas.{none_known, split_open}
 use Rattle.sm_used.specs.Counted.{AreUsed, IsLineUsed, line_in}

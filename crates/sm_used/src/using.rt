@@ -1,10 +1,8 @@
 // Which lines are used, from the last to the first.
-ghost use Rattle.std.specs.Prelude.{◌≡◌, ℕ, suc, true, if◌then◌else◌, ◌∷◌, List, IfOk, IsTrue};
-ghost use Rattle.std.specs.Prelude.{OnOk, reverse};
+ghost use Rattle.std.specs.Prelude.{◌≡◌, ℕ, suc, true, if◌then◌else◌, ◌∷◌, List, IfOk, IsTrue, OnOk, reverse};
 ghost use Rattle.sm_theory.specs.Named.{is_closing, facts_added, is_split};
 ghost use Rattle.sm_proof.specs.Lines.{NumberedLine, ProofLine, Cert, line_of, numbered_line};
-ghost use Rattle.sm_prune.specs.UsedLines.{IsCertUsed, is_fact_named};
-ghost use Rattle.sm_prune.specs.UsedLines.{is_one_named, lines_behind};
+ghost use Rattle.sm_prune.specs.UsedLines.{IsCertUsed, is_fact_named, is_one_named, lines_behind};
 ghost use Rattle.sm_used.specs.Counted.{AreUsed, IsLineUsed, line_in};
 ghost use Rattle.sm_used.specs.Names.{is_in, GoesOnce, Know, known};
 

@@ -1,10 +1,9 @@
 -- The final goals of a plan are the clauses of the outputs, in order, at the stores of the node that asks them.
-use Rattle.std.proofs.Common.{◌≡◌, ◌<◌, ℕ, zero, suc, ◌+◌, ◌/◌, ◌%◌, ◌==◌, Bool, true, false, not, ◌&&◌, ◌||◌, nat_le, if◌then◌else◌, Option, Some, None}
-use Rattle.std.proofs.Common.{Ok, Err, List, [], ◌∷◌, ◌++◌, length, map, option_map, inl, inr, refl, ap, sym, subst, ◌∙◌, arith}
-use Rattle.std.specs.Prelude.{Contains, All, slice_get}
+use Rattle.std.proofs.Common.{◌≡◌, ℕ, zero, suc, ◌+◌, ◌/◌, ◌%◌, ◌==◌, true, false, not, ◌&&◌, ◌||◌, nat_le, if◌then◌else◌, Option, Some, None, Ok, Err, List, [], ◌∷◌, ◌++◌, length, map, option_map, inl, inr, refl, ap, sym, subst, ◌∙◌}
+use Rattle.std.proofs.Common.{arith}
+use Rattle.std.specs.Prelude.{slice_get}
 use Rattle.std.specs.List.{flat_map}
 use Rattle.std.proofs.lemmas.Bool.{and_parts}
-use Rattle.std.proofs.lemmas.List.Elements.{All-nil, All-cons, All-contains}
 use Rattle.std.proofs.lemmas.Option.{same_Some, slice_get-map}
 use Rattle.sm_syntax.specs.declared.tree.Sort.{Sort}
 use Rattle.sm_syntax.specs.claim.Syntax.{Code, End, Skip, Assign, Write, If, While, Hole, append}
@@ -14,16 +13,15 @@ use Rattle.sm_term.specs.Slots.{at_stores, all_at_stores}
 use Rattle.sm_term.specs.Symbolic.{SymbolicStore, form_of}
 use Rattle.sm_plan.specs.Copies.{Copies, each, has, is_inhabited, subsets}
 use Rattle.sm_plan.specs.Limits.{is_kept, is_shallow}
-use Rattle.sm_plan.specs.Nodes.{Node, Step, Abs, Fork, Loop, Block, Dead, Ends, Unfit, Opened, follows, asks, where_true, after_step}
-use Rattle.sm_plan.specs.Nodes.{both_ways, opened_by, is_end, rule_of}
-use Rattle.sm_plan.specs.Plans.{Plan, At, Plans, Over, More, size, count, branches, Due, Fault, Wrong, due, joined}
-use Rattle.sm_plan.specs.Plans.{expand, expand_all}
+use Rattle.sm_plan.specs.Nodes.{Node, Step, Abs, Fork, Loop, Block, Dead, Ends, Unfit, Opened, follows, asks, after_step, both_ways, opened_by, is_end, rule_of}
+use Rattle.sm_plan.specs.Plans.{Plan, At, Plans, Over, More, size, count, branches, Due, Fault, Wrong, due, joined, expand, expand_all}
 use Rattle.sm_plan.specs.Statements.{is_over, is_long, front, rest_after, is_loop}
 use Rattle.sm_plan.specs.States.{State, place, keeps_goals, start_state}
 use Rattle.sm_plan.specs.Successors as next
 use Rattle.sm_plan.proofs.CopiesLemmas.{In}
-use Rattle.sm_plan.proofs.PlanSound.{joined_is, opened_is, passed, shallow}
+use Rattle.sm_plan.proofs.PlanSound.{joined_is, opened_is, passed, shallow, contains_in}
 use Rattle.sm_why.specs.Goals.{FinalGoalsAskClauses}
+use Rattle.sm_plan.proofs.OpenedSame.{opened_same}
 
 -- ---- states
 
@@ -35,11 +33,6 @@ HasTarget target st = st.is_final ≡ true → st.target ≡ target
 abbrev HaveTarget : List Assertion → List State → Type 0
 HaveTarget target [] = Unit {0}
 HaveTarget target (st ∷ states) = HasTarget target st × HaveTarget target states
-
--- a test that passed
-where_true_is : (b : Bool) (r q : Opened) → where_true b r ≡ Some q → r ≡ q
-where_true_is true r q e = same_Some r q e
-where_true_is false r q e = absurd cc
 
 -- the state after a statement
 stepped_target : (target : List Assertion) (st : State) (c : Copy) (o : Option (Code × SymbolicStore)) (q : Opened) → HasTarget target st
@@ -75,25 +68,25 @@ opened_target : (target : List Assertion) (k : ℕ) (st : State) (node : Node) (
 opened_target target k st (Step c) q aims e = stepped_target target st c (next.stepped (st.rest c) (st.stores c)) q aims e
 opened_target target k st (Abs c n) q aims e =
     let r = follows (next.summary_state st c (front n (st.rest c)) (rest_after n (st.rest c)) ∷ []) in
-    subst (λ (o : Opened). HaveTarget target o.states) (where_true_is (nat_le 1 n && is_long n (st.rest c)) r q e) (aims, tt)
+    subst (λ (o : Opened). HaveTarget target o.states) (opened_same (nat_le 1 n && is_long n (st.rest c)) r q e) (aims, tt)
 opened_target target k st (Fork c) q aims e = branched_target target st c (st.rest c) q aims e
 opened_target target k st (Loop set keep) q aims e =
     let loops = each (λ (c : Copy). not (has set c) || is_loop (st.rest c)) in
     let states = map (next.turn_state st k set keep) (subsets set) ++ next.after_loops_state st k set keep ∷ [] in
     subst (λ (o : Opened). HaveTarget target o.states)
-    (where_true_is (is_inhabited set && (loops && is_kept keep))
+    (opened_same (is_inhabited set && (loops && is_kept keep))
     (record { goals = all_at_stores st.stores (conj keep); states = states }) q e)
     (turned_target target st (next.after_loops_state st k set keep) k set keep (subsets set) aims)
 opened_target target k st (Block counts keep) q aims e =
     let r = follows (next.inner_state st counts keep ∷ next.after_block_state st k counts keep ∷ []) in
     subst (λ (o : Opened). HaveTarget target o.states)
-    (where_true_is (each (λ (c : Copy). is_long (counts c) (st.rest c)) && is_kept keep) r q e)
+    (opened_same (each (λ (c : Copy). is_long (counts c) (st.rest c)) && is_kept keep) r q e)
     (λ (no : false ≡ true). absurd cc, (aims, tt))
 opened_target target k st Dead q aims e =
     subst (λ (o : Opened). HaveTarget target o.states) (same_Some (asks (No ∷ [])) q e) tt
 opened_target target k st Ends q aims e =
     subst (λ (o : Opened). HaveTarget target o.states)
-    (where_true_is (each (λ (c : Copy). is_over (st.rest c))) (asks (all_at_stores st.stores st.target)) q e) tt
+    (opened_same (each (λ (c : Copy). is_over (st.rest c))) (asks (all_at_stores st.stores st.target)) q e) tt
 opened_target target k st (Unfit rule) q aims e = absurd cc
 
 -- ---- obligations
@@ -128,7 +121,7 @@ end_asks k st (Block counts keep) q e end = absurd cc
 end_asks k st Dead q e end = absurd cc
 end_asks k st Ends q e end =
     let goals = all_at_stores st.stores st.target in
-    subst (λ (o : Opened). o.goals ≡ goals) (where_true_is (each (λ (c : Copy). is_over (st.rest c))) (asks goals) q e) refl
+    subst (λ (o : Opened). o.goals ≡ goals) (opened_same (each (λ (c : Copy). is_over (st.rest c))) (asks goals) q e) refl
 end_asks k st (Unfit rule) q e end = absurd cc
 
 -- the obligation of a node
@@ -210,15 +203,6 @@ clause_at (o ∷ rest) (suc (suc (suc n))) asked e =
 mapped_at : {A B : Type 0} (f : A → B) (o : Option A) (y : B) → option_map f o ≡ Some y → (x : A) × (o ≡ Some x) × (y ≡ f x)
 mapped_at {A} {B} f None y e = absurd cc
 mapped_at {A} {B} f (Some x) y e = (x, refl, sym (same_Some (f x) y e))
-
--- the elements of a list stand in it
-all_in : {T : Type 0} (xs : List T) → All (λ (y : T). In y xs) xs
-all_in {T} [] = All-nil (λ (y : T). In y [])
-all_in {T} (x ∷ xs) = All-cons (λ (y : T). In y (x ∷ xs)) x xs (inl refl) (λ (k : ℕ) (d : T) (h : k < length xs). inr (all_in xs k d h))
-
--- what a list contains stands in it
-contains_in : {T : Type 0} (x : T) (xs : List T) → Contains xs x → In x xs
-contains_in {T} x xs h = All-contains (λ (y : T). In y xs) xs x (all_in xs) h
 
 pub final_goals : FinalGoalsAskClauses
 final_goals t p ds d n goal e inside final at =

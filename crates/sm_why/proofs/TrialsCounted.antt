@@ -2,16 +2,15 @@
 use Rattle.std.proofs.Common.{◌≡◌, ◌≤◌, ◌+◌, ℕ, suc, Bool, true, false, if◌then◌else◌, Some, None, Result, Ok, Err, IfOk, inl, inr, refl, sym, subst, ◌∙◌, arith}
 use Rattle.std.specs.Prelude.{◌↔◌, IsTrue}
 use Rattle.std.specs.declared.alloc.AllocError.{AllocError}
-use Rattle.sm_syntax.specs.claim.ConflictFree.{Task, copy_of}
+use Rattle.sm_syntax.specs.claim.ConflictFree.{Task, copy_of, program_of}
 use Rattle.sm_syntax.specs.claim.Stores.{Store}
 use Rattle.sm_eval.specs.declared.error.EvalError.{EvalError}
 use Rattle.sm_eval.specs.declared.error.EvalError.TheVariants as eval
-use Rattle.sm_replay.specs.declared.error.ReplayError.{ReplayError}
-use Rattle.sm_replay.specs.declared.error.ReplayError.TheVariants.{OutOfTurns, Beyond, BeyondAssumed, Memory}
 use Rattle.sm_replay.specs.declared.verdict.Verdict.{Verdict}
 use Rattle.sm_replay.specs.declared.verdict.Verdict.TheVariants.{Holds, Unmet, Violates}
 use Rattle.sm_replay.specs.Verdicts.{Judges, Stops}
-use Rattle.sm_syntax.specs.claim.ConflictFree.{program_of}
+use Rattle.sm_replay.specs.declared.error.ReplayError.{ReplayError}
+use Rattle.sm_replay.specs.declared.error.ReplayError.TheVariants.{OutOfTurns, Beyond, BeyondAssumed, Memory}
 use Rattle.sm_why.specs.Ended.{IsEnded}
 use Rattle.sm_why.specs.Trials.{AreCounted, EndsFrom}
 

@@ -1,8 +1,7 @@
 -- Which answers are verdicts on four ends. Only private clauses cite it.
 use Rattle.std.specs.Prelude.{◌≡◌, Bool, true, false, Result, Ok, Err}
 use Rattle.sm_replay.specs.declared.error.ReplayError.{ReplayError}
-use Rattle.sm_replay.specs.declared.error.ReplayError.TheVariants.{OutOfTurns, Beyond}
-use Rattle.sm_replay.specs.declared.error.ReplayError.TheVariants.{BeyondAssumed, Memory}
+use Rattle.sm_replay.specs.declared.error.ReplayError.TheVariants.{OutOfTurns, Beyond, BeyondAssumed, Memory}
 use Rattle.sm_replay.specs.declared.verdict.Verdict.{Verdict}
 use Rattle.sm_replay.specs.declared.verdict.Verdict.TheVariants.{Holds, Unmet, Violates}
 

@@ -1,6 +1,5 @@
 -- What is said of why a search decides nothing. Public clauses cite it.
-use Rattle.std.specs.Prelude.{◌≡◌, ◌==◌, ◌/◌, ◌%◌, ℕ, if◌then◌else◌, Option, Some, None, List, [], ◌++◌}
-use Rattle.std.specs.Prelude.{codes, decimal, slice_get}
+use Rattle.std.specs.Prelude.{◌≡◌, ◌==◌, ◌/◌, ◌%◌, ℕ, if◌then◌else◌, Option, Some, None, List, [], ◌++◌, codes, decimal, slice_get}
 use Rattle.sm_syntax.specs.declared.tree.Sort.{Sort}
 use Rattle.sm_syntax.specs.declared.tree.Sort.TheVariants.{Num, Arr}
 use Rattle.sm_syntax.specs.text.Parts.{Parts, sort_of}

@@ -1,18 +1,17 @@
 -- Where a hole of the shared program stands in the text of a task. Public clauses cite it.
 -- Programs carry no places, so a hole is found by its tokens: `?`, and behind it its number.
-use Rattle.std.specs.Prelude.{◌≡◌, ◌⊎◌, ◌<◌, ◌+◌, ℕ, pos, Bool, true, false, ◌&&◌, Option, Some, None}
-use Rattle.std.specs.Prelude.{List, [], length, slice_get}
+use Rattle.std.specs.Prelude.{◌≡◌, ◌⊎◌, ◌<◌, ◌+◌, ℕ, pos, Bool, true, false, ◌&&◌, Option, Some, None, List, [], length, slice_get}
 use Rattle.std.specs.Ordering.{int_eq}
 use denote.Enum.Bare.{sameb}
 use Rattle.sm_syntax.specs.contracts.symbol.Mark.{the_type}
 use Rattle.sm_syntax.specs.declared.symbol.Mark.TheVariants.{Question}
 use Rattle.sm_syntax.specs.declared.symbol.Symbol.{Symbol}
 use Rattle.sm_syntax.specs.declared.symbol.Symbol.TheVariants as s
-use Rattle.sm_syntax.specs.declared.token.Token.{Token}
 use Rattle.sm_syntax.specs.text.Conditions.{holes_of}
 use Rattle.sm_syntax.specs.text.Parts.{Parts}
 use Rattle.sm_syntax.specs.text.Symbols.{symbols_of}
 use Rattle.sm_syntax.specs.text.Tokens.{lexed}
+use Rattle.sm_syntax.specs.declared.token.Token.{Token}
 
 -- whether a symbol is `?`
 abbrev pub is_question : Option Symbol → Bool

@@ -4,9 +4,7 @@ ghost use Rattle.sm_syntax.specs.text.Parts.{sort_of};
 ghost use Rattle.sm_syntax.specs.trees.Programs.{declared_of};
 ghost use Rattle.sm_task.specs.Tasks.{parts_of};
 ghost use Rattle.sm_explain.specs.Cells.{name_text};
-ghost use Rattle.sm_why.specs.Reasons.{at_elements, clause_words, manner_words, output_words};
-ghost use Rattle.sm_why.specs.Reasons.{place_words, too_large, clause_of_a, clause_of_b};
-ghost use Rattle.sm_why.specs.Reasons.{clause_of_neither, IsGoalLine, IsReason};
+ghost use Rattle.sm_why.specs.Reasons.{at_elements, clause_words, manner_words, output_words, place_words, too_large, clause_of_a, clause_of_b, clause_of_neither, IsGoalLine, IsReason};
 
 use crate::sites::site_of;
 use crate::stop::{Manner, Stop};

@@ -1,11 +1,9 @@
 // Where a hole of the shared program stands in the text of a task.
-ghost use Rattle.std.specs.Prelude.{◌≡◌, ◌^◌, ◌<◌, ◌≤◌, ℕ, true, false, Some, length, slice_get, IfOk};
-ghost use Rattle.std.specs.Prelude.{IfNone, IfSome};
+ghost use Rattle.std.specs.Prelude.{◌≡◌, ◌^◌, ◌<◌, ◌≤◌, ℕ, true, false, Some, length, slice_get, IfOk, IfNone, IfSome};
 ghost use Rattle.sm_syntax.specs.text.Symbols.{symbols_of};
 ghost use Rattle.sm_syntax.specs.text.Tokens.{lexed};
 ghost use Rattle.sm_task.specs.Tasks.{parts_of};
-ghost use Rattle.sm_why.specs.Sites.{begins_hole, is_hole_number, is_question, IsHoleOffset, IsSite};
-ghost use Rattle.sm_why.specs.Sites.{BeginsAt};
+ghost use Rattle.sm_why.specs.Sites.{begins_hole, is_hole_number, is_question, IsHoleOffset, IsSite, BeginsAt};
 
 use crate::needing::deciding_hole;
 use sm_syntax::{Mark, Name, Symbol, Token};

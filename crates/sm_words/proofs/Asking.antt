@@ -3,12 +3,10 @@ use Rattle.std.proofs.Common.{◌≡◌, ◌∙◌, ◌⊎◌, inl, inr, [], Opt
 use Rattle.clap.specs.Walk.{Text}
 use Rattle.sm_words.specs.Numbers.{cache_by, copy_by, effort_by, seed_by, size_by, turns_by, workers_by, HasBadNumber}
 use Rattle.sm_words.specs.Views.{asked_in}
-use Rattle.sm_words.specs.Words.{Words, asked_by, check_by, verify_by, replay_by, print_by, suggest_by, gen_by, explain_by, batch_by, trim_by, word_faults, argument_text, effort_in}
-use Rattle.sm_words.specs.Words.{IsRefused}
-use Rattle.sm_words.specs.declared.effort.Effort.{Effort}
+use Rattle.sm_words.specs.Words.{Words, asked_by, check_by, verify_by, replay_by, print_by, suggest_by, gen_by, explain_by, batch_by, trim_by, word_faults, argument_text, effort_in, IsRefused, Effort, Verb, Check, Verify, Replay, Print}
+use Rattle.sm_words.specs.Words.{Suggest, Gen, Explain, Batch, Trim}
 use Rattle.sm_words.specs.declared.words.Request.{Request}
-use Rattle.sm_words.specs.declared.command.Verb.{Verb}
-use Rattle.sm_words.specs.declared.command.Verb.TheVariants.{Check, Verify, Replay, Print, Suggest, Gen, Explain, Batch, Trim, About}
+use Rattle.sm_words.specs.declared.command.Verb.TheVariants.{About}
 use Rattle.sm_words.specs.declared.words.WordsError.{WordsError}
 use Rattle.sm_words.specs.declared.words.WordsError.TheVariants.{Usage}
 

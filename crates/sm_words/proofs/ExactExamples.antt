@@ -2,8 +2,7 @@
 use Rattle.std.proofs.Common.{◌≡◌, [], ◌∷◌, Bool, true, false, Option, Some, None, codes, refl}
 use Rattle.clap.proofs.OnLiterals.{clap_on_literals}
 use Rattle.sm_words.specs.Command.{check_command, gen_command, verify_command}
-use Rattle.sm_words.specs.Words.{Asked, check, gen, asked, argument_text, word_faults}
-use Rattle.sm_words.specs.declared.effort.Effort.{Effort}
+use Rattle.sm_words.specs.Words.{Asked, check, gen, asked, argument_text, word_faults, Effort}
 
 -- the effort without an option, but for the flag
 abbrev usual : Bool → Effort

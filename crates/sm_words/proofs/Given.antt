@@ -1,6 +1,5 @@
 -- A required word of a command has its text, wherever `clap` takes the words.
-use Rattle.std.proofs.Common.{◌≡◌, ◌≢◌, ◌∙◌, ◌<◌, ◌≤◌, ◌&&◌, ℕ, zero, suc, Bool, true, false, not, List, [], ◌∷◌, map, length, is_some}
-use Rattle.std.proofs.Common.{Option, Some, None, Result, Ok, Err, IfOk, codes, refl, sym, ap, subst, inl, inr, arith, true≢false}
+use Rattle.std.proofs.Common.{◌≡◌, ◌≢◌, ◌∙◌, ◌<◌, ◌≤◌, ◌&&◌, ℕ, zero, suc, Bool, true, false, not, List, [], ◌∷◌, map, length, is_some, Option, Some, None, Result, Ok, Err, IfOk, codes, refl, sym, ap, subst, inl, inr, arith, true≢false}
 use Rattle.std.specs.List.{All, list_all, slice_index_or}
 use Rattle.std.specs.Prelude.{slice_get, unwrap_or, MatchResult}
 use Rattle.std.specs.Str.{bytes_eq}
@@ -26,10 +25,9 @@ use Rattle.clap.proofs.TakesLemmas.{each_rule}
 use Rattle.clap.proofs.WalkLemmas.{both, first_value-rows}
 use Rattle.clap.specs.declared.parser.matches.Found.{Found}
 use Rattle.sm_words.specs.Command.{about_command, batch_command, check_command, command_of, explain_command, gen_command, print_command, replay_command, required_word, suggest_command, trim_command, verify_command}
-use Rattle.sm_words.specs.Words.{Words, HasRequired, word_faults, argument_text}
-use Rattle.sm_words.specs.declared.command.Verb.{Verb}
+use Rattle.sm_words.specs.Words.{Words, HasRequired, word_faults, argument_text, Verb, Check, Verify, Replay, Print, Suggest, Gen, Explain, Batch, Trim}
 use Rattle.sm_words.specs.declared.about.About.TheVariants.{Help, Version}
-use Rattle.sm_words.specs.declared.command.Verb.TheVariants.{Check, Verify, Replay, Print, Suggest, Gen, Explain, Batch, Trim, About}
+use Rattle.sm_words.specs.declared.command.Verb.TheVariants.{About}
 
 is_none : {X : Type 0} (o : Option X) → not (is_some o) ≡ true → o ≡ None
 is_none None e = refl

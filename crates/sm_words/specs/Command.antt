@@ -8,8 +8,7 @@ use Rattle.sm_words.specs.declared.about.About.TheVariants.{Help, Version}
 use Rattle.sm_words.specs.declared.command.Argument.{Argument}
 use Rattle.sm_words.specs.declared.command.Argument.TheVariants.{Required, Optional, Valued, Flag}
 use Rattle.sm_words.specs.declared.command.Verb.{Verb}
-use Rattle.sm_words.specs.declared.command.Verb.TheVariants.{Check, Verify, Replay, Print, Suggest}
-use Rattle.sm_words.specs.declared.command.Verb.TheVariants.{Gen, Explain, Batch, Trim}
+use Rattle.sm_words.specs.declared.command.Verb.TheVariants.{Check, Verify, Replay, Print, Suggest, Gen, Explain, Batch, Trim}
 use Rattle.sm_words.specs.declared.command.Verb.TheVariants as verb
 
 -- a word that has to be there

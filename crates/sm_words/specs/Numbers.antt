@@ -1,7 +1,6 @@
 -- Numbers among the words: one to ten digits, with a value in a range; flags; and names of copies.
 -- Public clauses cite it.
-use Rattle.std.specs.Prelude.{◌≡◌, ◌⊎◌, ◌&&◌, ℕ, Bool, false, nat_le, length, Option, Some, None}
-use Rattle.std.specs.Prelude.{codes, if◌then◌else◌, option_and_then, option_map}
+use Rattle.std.specs.Prelude.{◌≡◌, ◌⊎◌, ◌&&◌, ℕ, Bool, false, nat_le, length, Option, Some, None, codes, if◌then◌else◌, option_and_then, option_map}
 use Rattle.std.specs.Option.{option_map_or}
 use Rattle.std.specs.Str.{all_ascii_digits, bytes_eq}
 use Rattle.std.specs.Str.Parse.{digits_value}

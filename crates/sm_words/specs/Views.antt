@@ -1,13 +1,9 @@
 -- What requests stand for. Public clauses cite it.
 use Rattle.std.specs.Prelude.{◌<◌, ◌≤◌, ℕ, List, option_map}
 use Rattle.std.specs.Borrow.{Bor}
-use Rattle.sm_words.specs.Words.{Asked, check, verify, replay, print, suggest, gen, explain, batch}
-use Rattle.sm_words.specs.Words.{trim, about}
-use Rattle.sm_words.specs.declared.effort.Effort.{Effort}
+use Rattle.sm_words.specs.Words.{Asked, check, verify, replay, print, suggest, gen, explain, batch, trim, about, Effort}
 use Rattle.sm_words.specs.declared.words.Request.{Request}
-use Rattle.sm_words.specs.declared.words.Request.TheVariants.{Check, Verify, Replay, Print}
-use Rattle.sm_words.specs.declared.words.Request.TheVariants.{Suggest, Gen, Explain, Batch, Trim}
-use Rattle.sm_words.specs.declared.words.Request.TheVariants.{About}
+use Rattle.sm_words.specs.declared.words.Request.TheVariants.{Check, Verify, Replay, Print, Suggest, Gen, Explain, Batch, Trim, About}
 
 -- what a request asks for
 abbrev pub asked_in : Request → Asked

@@ -1,21 +1,18 @@
 -- The words that the program is given, without its name: a command, and what `clap` says that this
 -- command takes. Public clauses cite it.
-use Rattle.std.specs.Prelude.{◌≡◌, ◌≢◌, ◌⊎◌, ℕ, true, List, [], ◌∷◌, Option, Some, None, is_some}
-use Rattle.std.specs.Prelude.{codes, if◌then◌else◌, option_and_then, option_map}
+use Rattle.std.specs.Prelude.{◌≡◌, ◌≢◌, ◌⊎◌, ℕ, true, List, [], ◌∷◌, Option, Some, None, is_some, codes, if◌then◌else◌, option_and_then, option_map}
 use Rattle.std.specs.Str.{bytes_eq}
 use Rattle.clap.specs.Faults.{fault_of}
 use Rattle.clap.specs.Kinds.{Kinds}
 use Rattle.clap.specs.Simple.{matches_of}
 use Rattle.clap.specs.Walk.{Text, first_of}
 use Rattle.sm_words.specs.Command.{command_of}
-use Rattle.sm_words.specs.Numbers.{turns_by, workers_by, HasBadNumber, effort_by, seed_by, size_by}
-use Rattle.sm_words.specs.Numbers.{cache_by, copy_by}
+use Rattle.sm_words.specs.Numbers.{turns_by, workers_by, HasBadNumber, effort_by, seed_by, size_by, cache_by, copy_by}
 use Rattle.sm_words.specs.declared.about.About.{About}
 use Rattle.sm_words.specs.declared.about.About.TheVariants.{Help, Version}
-use Rattle.sm_words.specs.declared.command.Verb.{Verb}
-use Rattle.sm_words.specs.declared.effort.Effort.{Effort}
-use Rattle.sm_words.specs.declared.command.Verb.TheVariants.{Check, Verify, Replay, Print, Suggest}
-use Rattle.sm_words.specs.declared.command.Verb.TheVariants.{Gen, Explain, Batch, Trim}
+pub use Rattle.sm_words.specs.declared.command.Verb.{Verb}
+pub use Rattle.sm_words.specs.declared.effort.Effort.{Effort}
+pub use Rattle.sm_words.specs.declared.command.Verb.TheVariants.{Batch, Check, Explain, Gen, Print, Replay, Suggest, Trim, Verify}
 use Rattle.sm_words.specs.declared.command.Verb.TheVariants as verb
 use Rattle.sm_syntax.specs.declared.copies.CopyName.{CopyName}
 

@@ -1,8 +1,7 @@
 // Numbers, flags and names of copies among the words.
 ghost use Rattle.std.specs.Prelude.{◌≡◌, ◌<◌, ◌≤◌, Some, None, option_map, IfOk, IfErr};
 ghost use Rattle.clap.specs.Words.{first_value, found_of};
-ghost use Rattle.sm_words.specs.Numbers.{copy_by, copy_of_word, effort_by, is_given, seed_by};
-ghost use Rattle.sm_words.specs.Numbers.{cache_by, seconds_by, size_by, steps_by, turns_by, workers_by};
+ghost use Rattle.sm_words.specs.Numbers.{copy_by, copy_of_word, effort_by, is_given, seed_by, cache_by, seconds_by, size_by, steps_by, turns_by, workers_by};
 ghost use Rattle.sm_words.specs.Views.{HasWorkers};
 
 use crate::effort::Effort;

@@ -1,11 +1,9 @@
 // What each command asks for, by the texts that its words give.
 ghost use Rattle.std.specs.Prelude.{◌≡◌, ◌⊎◌, true, Some, None, is_some, codes, IfOk, IsErrOf};
 ghost use Rattle.clap.specs.Words.{first_value, found_of};
-ghost use Rattle.sm_words.specs.Numbers.{cache_by, copy_by, effort_by, seed_by, size_by};
-ghost use Rattle.sm_words.specs.Numbers.{turns_by, workers_by, HasBadNumber};
+ghost use Rattle.sm_words.specs.Numbers.{cache_by, copy_by, effort_by, seed_by, size_by, turns_by, workers_by, HasBadNumber};
 ghost use Rattle.sm_words.specs.Views.{asked_in, IsWithin};
-ghost use Rattle.sm_words.specs.Words.{check_by, verify_by, replay_by, print_by, suggest_by, gen_by};
-ghost use Rattle.sm_words.specs.Words.{batch_by, explain_by, trim_by};
+ghost use Rattle.sm_words.specs.Words.{check_by, verify_by, replay_by, print_by, suggest_by, gen_by, batch_by, explain_by, trim_by};
 
 use crate::options::{cache_by, copy_by, effort_in, seed_by, size_by, turns_by, workers_by};
 use crate::words::{Request, WordsError};

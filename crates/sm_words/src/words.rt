@@ -4,8 +4,7 @@ ghost use Rattle.std.specs.String.{string_bytes};
 ghost use Rattle.clap.specs.Words.{first_value, found_of, kind_of};
 ghost use Rattle.sm_words.specs.Lines.{line_of};
 ghost use Rattle.sm_words.specs.Views.{asked_in, IsWithin};
-ghost use Rattle.sm_words.specs.Words.{asked, asked_by, argument_text, usage_line, usage_line_of};
-ghost use Rattle.sm_words.specs.Words.{verb_of, word_faults, HasRequired, IsRefused, IsUsage, Words};
+ghost use Rattle.sm_words.specs.Words.{asked, asked_by, argument_text, usage_line, usage_line_of, verb_of, word_faults, HasRequired, IsRefused, IsUsage, Words};
 ghost use Rattle.sm_words.specs.declared.words.WordsError.TheVariants.{Memory};
 
 use crate::about::About;

@@ -1,6 +1,5 @@
 -- What a node opens names only what stood in the stores of states up to it, or stands in its own.
-use Rattle.std.proofs.Common.{◌≡◌, ◌⊎◌, inl, inr, ℕ, Bool, true, false, nat_le, ◌==◌, ◌&&◌, ◌||◌, not, if◌then◌else◌, Option, Some, None}
-use Rattle.std.proofs.Common.{List, [], ◌∷◌, ◌++◌, map, refl, sym, subst}
+use Rattle.std.proofs.Common.{◌≡◌, ◌⊎◌, inl, inr, ℕ, Bool, true, false, nat_le, ◌==◌, ◌&&◌, ◌||◌, not, if◌then◌else◌, Option, Some, None, List, [], ◌∷◌, ◌++◌, map, refl, sym, subst}
 use Rattle.std.specs.List.{flat_map}
 use Rattle.std.proofs.lemmas.Option.{same_Some}
 use Rattle.sm_syntax.specs.declared.tree.Sort.{Sort}
@@ -20,14 +19,12 @@ use Rattle.sm_plan.specs.Limits.{is_kept}
 use Rattle.sm_plan.specs.Statements.{is_over, is_long, front, rest_after, is_loop, loop_guard, last_guard}
 use Rattle.sm_plan.specs.States.{State, place, keeps_goals, start_store, start_facts, start_state}
 use Rattle.sm_plan.specs.Successors as next
-use Rattle.sm_plan.specs.Nodes.{Node, Step, Abs, Fork, Loop, Block, Dead, Ends, Unfit, Opened, follows, asks, where_true, after_step}
-use Rattle.sm_plan.specs.Nodes.{both_ways, opened_by}
+use Rattle.sm_plan.specs.Nodes.{Node, Step, Abs, Fork, Loop, Block, Dead, Ends, Unfit, Opened, follows, asks, where_true, after_step, both_ways, opened_by}
 use Rattle.sm_plan.proofs.CopiesLemmas.{one_copy}
 use Rattle.sm_write.specs.Nameable.{EachOf, EachSide, AllSides}
 use Rattle.sm_write.specs.Writable.{EachKept}
 use Rattle.sm_write.specs.Seen.{IsBuilt, IsAtom, IsHeld}
-use Rattle.sm_write.proofs.BuiltTerms.{IsPlain, ArePlain, built_more, built_known, built_parts, each_more, sides_more}
-use Rattle.sm_write.proofs.BuiltTerms.{sides_append, negate_sides, conj_sides, IsStoreBuilt, IsStorePlain, term_built, term_plain, form_built}
+use Rattle.sm_write.proofs.BuiltTerms.{IsPlain, ArePlain, built_more, built_known, built_parts, each_more, sides_more, sides_append, negate_sides, conj_sides, IsStoreBuilt, IsStorePlain, term_built, term_plain, form_built}
 use Rattle.sm_write.proofs.BuiltTerms.{all_at_stores_built}
 
 -- all terms of a state are built of a kind, and those of its stores have no slots and built arguments

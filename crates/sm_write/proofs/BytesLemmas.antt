@@ -3,8 +3,8 @@ use Rattle.std.proofs.Common.{◌≡◌, ℕ, ℤ, List, [], ◌∷◌, ◌++◌
 use Rattle.std.proofs.lemmas.List.{append_assoc, append-nil}
 use Rattle.std.specs.Fmt.{decimal, signed_decimal}
 use Rattle.sm_proof.specs.HeadWords.{version_word}
-use Rattle.sm_proof.specs.declared.line.TermLine.TheVariants.{Lit}
 use Rattle.sm_proof.specs.Lines.{ProofLine, Term, Header}
+use Rattle.sm_proof.specs.declared.line.TermLine.TheVariants.{Lit}
 use Rattle.sm_proof.specs.Spelling.{spaced, spelled, line_words}
 use Rattle.sm_write.specs.Bytes.{numbers_text, one_word, two_words, line_text}
 

@@ -1,20 +1,18 @@
 -- Where a proof comes by a line of a certificate, and what of a certificate is left behind the line.
-use Rattle.std.proofs.Common.{◌≡◌, ℕ, suc, ◌+◌, ◌≤◌, Bool, true, false, nat_lt, if◌then◌else◌, Option, Some, None, Ok}
-use Rattle.std.proofs.Common.{List, [], ◌∷◌, ◌++◌, length, refl, ap, ◌∙◌, arith}
+use Rattle.std.proofs.Common.{◌≡◌, ℕ, suc, ◌+◌, ◌≤◌, Bool, true, false, nat_lt, if◌then◌else◌, Option, Some, None, Ok, List, [], ◌∷◌, ◌++◌, length, refl, ap, ◌∙◌, arith}
 use Rattle.std.proofs.lemmas.Bool.Decides.{nat_tests}
 use Rattle.sm_syntax.specs.claim.ConflictFree.{Copy}
 use Rattle.sm_syntax.specs.text.Sorts.{Sorts}
 use Rattle.sm_term.specs.Symbolic.{SymbolicStore}
 use Rattle.sm_term.specs.Terms.{Tree}
-use Rattle.sm_theory.specs.declared.line.CertLine.{CertLine}
 use Rattle.sm_theory.specs.Equality.{or_other}
 use Rattle.sm_theory.specs.Facts.{BranchFact}
 use Rattle.sm_theory.specs.Lines.{CertificateLine}
 use Rattle.sm_theory.specs.Views.{line_in}
-use Rattle.sm_theory.specs.Ways.{Ways, adds, ways}
+use Rattle.sm_theory.specs.declared.line.CertLine.{CertLine}
+use Rattle.sm_theory.specs.Ways.{adds, ways}
 use Rattle.sm_theory.specs.Named.{is_split}
-use Rattle.sm_cert.specs.Certificates.{Certificate, Next, Closed, Split, lines_in, splits_above, in_one_way, in_no_way, in_two_ways, first_bad}
-use Rattle.sm_cert.specs.Certificates.{bad_line, TooManySplits, Closes}
+use Rattle.sm_cert.specs.Certificates.{Certificate, Next, Closed, Split, lines_in, splits_above, first_bad, bad_line, TooManySplits, Closes}
 use Rattle.sm_plan.specs.Limits.{is_shallow}
 use Rattle.sm_proof.specs.Lines.{Cert}
 use Rattle.sm_proof.specs.Passing.{Pending, Branch, Progress, taken}
@@ -23,6 +21,9 @@ use Rattle.sm_write.specs.Written.{Names, AreNames, written, IsLineNamed}
 use Rattle.sm_write.proofs.FactsThere.{facts_there, one_no_split, none_no_split}
 use Rattle.sm_write.proofs.StepLemmas.{cert_step, after_ways}
 use Rattle.sm_write.proofs.WrittenLines.{written_names, written_splits}
+use Rattle.sm_cert.proofs.CertificateMoves.{parts_none}
+use Rattle.sm_plan.proofs.NodeListsExact.{is_few}
+use Rattle.sm_cert.proofs.WaysTaken.{two_ways, one_way, no_way}
 
 -- a certificate that closes a branch is good there, and not too deep
 pub closes_good : (sorts : Sorts) (facts : List BranchFact) (c : Certificate) → Closes sorts facts c →
@@ -39,42 +40,15 @@ closes_good sorts facts c closes = of (nat_lt 1000 (splits_above c)) refl closes
     of true is e = absurd cc
     of false is e = (good (first_bad (adds sorts) sorts facts 0 c) e, grind (arith, nat_tests))
 
--- one way, and what is good behind it
-one_way : (w : Ways) (n : ℕ) (next : List BranchFact → Option ℕ) → in_one_way w n next ≡ None →
-    (way : List BranchFact) × (w ≡ Some (way ∷ [])) × (next way ≡ None)
-one_way None n next e = absurd cc
-one_way (Some []) n next e = absurd cc
-one_way (Some (way ∷ [])) n next e = (way, refl, e)
-one_way (Some (way ∷ other ∷ rest)) n next e = absurd cc
-
 pub next_good : (sorts : Sorts) (facts : List BranchFact) (n : ℕ) (line : CertificateLine) (c : Certificate) →
     IsGood sorts facts n (Next line c) →
     (way : List BranchFact) × (ways sorts facts line ≡ Some (way ∷ [])) × IsGood sorts (facts ++ way) (suc n) c
 next_good sorts facts n line c e =
     one_way (ways sorts facts line) n (λ (way : List BranchFact). first_bad (adds sorts) sorts (facts ++ way) (suc n) c) e
 
--- no way
-no_way : (w : Ways) (n : ℕ) → in_no_way w n ≡ None → w ≡ Some []
-no_way None n e = absurd cc
-no_way (Some []) n e = refl
-no_way (Some (way ∷ rest)) n e = absurd cc
-
 pub closed_good : (sorts : Sorts) (facts : List BranchFact) (n : ℕ) (line : CertificateLine) → IsGood sorts facts n (Closed line) →
     ways sorts facts line ≡ Some []
 closed_good sorts facts n line e = no_way (ways sorts facts line) n e
-
--- two ways
-two_ways : (w : Ways) (n : ℕ) (next : List BranchFact → List BranchFact → Option ℕ) → in_two_ways w n next ≡ None →
-    (way : List BranchFact) × (other : List BranchFact) × (w ≡ Some (way ∷ other ∷ [])) × (next way other ≡ None)
-two_ways None n next e = absurd cc
-two_ways (Some []) n next e = absurd cc
-two_ways (Some (way ∷ [])) n next e = absurd cc
-two_ways (Some (way ∷ other ∷ [])) n next e = (way, other, refl, e)
-two_ways (Some (way ∷ other ∷ third ∷ rest)) n next e = absurd cc
-
-neither : (o p : Option ℕ) → or_other o p ≡ None → (o ≡ None) × (p ≡ None)
-neither None p e = (refl, e)
-neither (Some n) p e = absurd cc
 
 pub split_good : (sorts : Sorts) (facts : List BranchFact) (n : ℕ) (line : CertificateLine) (c d : Certificate) →
     IsGood sorts facts n (Split line c d) →
@@ -85,14 +59,9 @@ split_good sorts facts n line c d e =
     (λ (way other : List BranchFact).
     or_other (first_bad (adds sorts) sorts (facts ++ way) (suc n) c)
     (first_bad (adds sorts) sorts (facts ++ other) (suc n + lines_in c) d)) e in
-    let b = neither (first_bad (adds sorts) sorts (facts ++ a.0) (suc n) c)
+    let b = parts_none (first_bad (adds sorts) sorts (facts ++ a.0) (suc n) c)
     (first_bad (adds sorts) sorts (facts ++ a.1) (suc n + lines_in c) d) a.3 in
     (a.0, a.1, a.2, b.0, b.1)
-
--- few enough
-is_few : (n : ℕ) → n ≤ 1000 → is_shallow n ≡ true
-unfolding is_shallow
-is_few n few = grind (arith, nat_tests)
 
 few_splits : (b : Bool) (splits : ℕ) → suc splits ≤ 1000 → is_shallow (if b then suc splits else splits) ≡ true
 few_splits true splits few = is_few (suc splits) few

@@ -1,9 +1,8 @@
 -- A line that may stand on a branch names facts that are there, and splits it in two where it splits by its kind.
-use Rattle.std.proofs.Common.{◌≡◌, ◌⊎◌, inl, inr, ℕ, zero, suc, ◌<◌, ◌^◌, nat_lt, nat_le, Bool, true, false, ◌&&◌, if◌then◌else◌}
-use Rattle.std.proofs.Common.{slice_get, length, Option, Some, None, List, [], ◌∷◌, refl, ap, ◌∙◌, arith, lt-ltb}
+use Rattle.std.proofs.Common.{◌≡◌, ◌⊎◌, inl, inr, ℕ, ◌<◌, ◌^◌, nat_lt, nat_le, Bool, true, false, ◌&&◌, if◌then◌else◌, slice_get, length, Option, Some, None, List, [], ◌∷◌, refl, ap, ◌∙◌, arith, lt-ltb}
 use Rattle.std.proofs.lemmas.Bool.{leb-true}
-use Rattle.sm_syntax.specs.declared.tree.Sort.TheVariants.{Num}
 use Rattle.sm_syntax.specs.text.Sorts.{Sorts}
+use Rattle.sm_syntax.specs.declared.tree.Sort.TheVariants.{Num}
 use Rattle.sm_num.specs.Forms.{Linear}
 use Rattle.sm_term.specs.Assertions as form
 use Rattle.sm_term.specs.Assertions.{Assertion}
@@ -12,32 +11,18 @@ use Rattle.sm_term.specs.SameTerms.{same_sort}
 use Rattle.sm_term.specs.Terms.{Tree}
 use Rattle.sm_theory.specs.Arithmetic.{is_numeric, form_of_comparison, cancelled}
 use Rattle.sm_theory.specs.Elements.{Written, written_in, read_in}
-use Rattle.sm_theory.specs.Equality.{or_other, formula_if, says_equal, say_equal, is_inhabited_list, turned_equation, turned_contrary, chained}
-use Rattle.sm_theory.specs.Equality.{substituted}
+use Rattle.sm_theory.specs.Equality.{or_other, formula_if, says_equal, say_equal, is_inhabited_list, turned_equation, turned_contrary, chained, substituted}
 use Rattle.sm_theory.specs.ExactLine.{forms_of_branch, exact_adds}
 use Rattle.sm_theory.specs.Facts.{BranchFact}
-use Rattle.sm_theory.specs.Lines.{CertificateLine, Both, Either, Cases, Order, Refl, Sym, Trans, Subst, Cong, Same, Apart, Hit, Miss, Lin}
-use Rattle.sm_theory.specs.Lines.{Elim, Tight, Exact, Close, Clash, followed, formula_in, form_in, formula_at, form_at, Sides, equal_sides}
-use Rattle.sm_theory.specs.Lines.{unequal_sides, equation_at, contrary_at}
+use Rattle.sm_theory.specs.Lines.{CertificateLine, Both, Either, Cases, Order, Refl, Sym, Trans, Subst, Cong, Same, Apart, Hit, Miss, Lin, Elim, Tight, Exact, Close, Clash, followed, formula_in, form_in, formula_at, form_at, Sides}
+use Rattle.sm_theory.specs.Lines.{equal_sides, unequal_sides, equation_at, contrary_at}
 use Rattle.sm_theory.specs.Named.{facts_named, is_split}
 use Rattle.sm_theory.specs.Ways.{Ways, adding, splitting, closing_if, both_parts, either_part, ordered, adds, ways}
 use Rattle.sm_proof.specs.Named.{are_there}
-
--- what is in a list stands below its length
-pub get_below : {T : Type 0} (xs : List T) (n : ℕ) (x : T) → slice_get xs n ≡ Some x → n < length xs
-get_below [] n x e = absurd cc
-get_below (y ∷ ys) zero x e = omega arith
-get_below (y ∷ ys) (suc n) x e = omega (arith, get_below ys n x e)
-
--- what went on was there
-pub followed_from : {S T : Type 0} (o : Option S) (next : S → Option T) (t : T) → followed o next ≡ Some t →
-    (s : S) × (o ≡ Some s) × (next s ≡ Some t)
-followed_from None next t e = absurd cc
-followed_from (Some s) next t e = (s, refl, e)
-
-or_from : {T : Type 0} (o p : Option T) (t : T) → or_other o p ≡ Some t → (o ≡ Some t) ⊎ (p ≡ Some t)
-or_from None p t e = inr e
-or_from (Some s) p t e = inl e
+use Rattle.sm_theory.proofs.FactsLemmas.{followed_from}
+use Rattle.sm_theory.proofs.EqualityLemmas.{or_else_from}
+use Rattle.sm_lemmas.proofs.Tests.{both_pass}
+use Rattle.sm_lemmas.proofs.Lists.{below_if_got}
 
 formula_from : (test : Bool) (f : Assertion) (k : BranchFact) → formula_if test f ≡ Some k → test ≡ true
 formula_from true f k e = refl
@@ -51,16 +36,12 @@ adding_from : (o : Option BranchFact) (to : List (List BranchFact)) → adding o
 adding_from None to e = absurd cc
 adding_from (Some k) to e = (k, refl)
 
-both_from : (p q : Bool) → (p && q) ≡ true → (p ≡ true) × (q ≡ true)
-both_from true q e = (refl, e)
-both_from false q e = absurd cc
-
 -- a fact is there
 abbrev IsThere : List BranchFact → ℕ → Type 0
 IsThere facts n = nat_lt n (length facts) ≡ true
 
 fact_there : (facts : List BranchFact) (n : ℕ) (k : BranchFact) → slice_get facts n ≡ Some k → IsThere facts n
-fact_there facts n k e = lt-ltb n (length facts) (get_below facts n k e)
+fact_there facts n k e = lt-ltb n (length facts) (below_if_got facts n k e)
 
 formula_there : (facts : List BranchFact) (n : ℕ) (f : Assertion) → formula_at facts n ≡ Some f → IsThere facts n
 formula_there facts n f e = let a = followed_from (slice_get facts n) formula_in f e in fact_there facts n a.0 a.1
@@ -100,7 +81,7 @@ many_there facts [] ts us e = refl
 many_there facts (n ∷ ns) [] us e = absurd cc
 many_there facts (n ∷ ns) (t ∷ ts) [] e = absurd cc
 many_there facts (n ∷ ns) (t ∷ ts) (u ∷ us) e =
-    let both = both_from (says_equal (equation_at facts n) t u) (say_equal facts ns ts us) e in
+    let both = both_pass (says_equal (equation_at facts n) t u) (say_equal facts ns ts us) e in
     ap (λ (b : Bool). b && are_there (length facts) ns) (equal_there facts n t u both.0) ∙ many_there facts ns ts us both.1
 
 -- what was added by a line of its theory alone
@@ -126,7 +107,7 @@ facts_there sorts facts (Sym n) to e =
     let a = adding_from (adds sorts facts (Sym n)) to e in
     let first = followed (equation_at facts n) turned_equation in
     let second = followed (contrary_at facts n) turned_contrary in
-    one_there facts n (of (or_from first second a.0 (added_first (or_other first second) a.0 a.1)))
+    one_there facts n (of (or_else_from first second a.0 (added_first (or_other first second) a.0 a.1)))
   where
     of : {k : BranchFact} →
         (followed (equation_at facts n) turned_equation ≡ Some k) ⊎ (followed (contrary_at facts n) turned_contrary ≡ Some k) →
@@ -152,8 +133,8 @@ facts_there sorts facts (Cong t u ns) to e =
     let test = is_inhabited_list ns && (same_head t u && said_all) in
     let f = form.Eq _ t u in
     let b = formula_from test f a.0 (added_first (formula_if test f) a.0 a.1) in
-    let c = both_from (is_inhabited_list ns) (same_head t u && said_all) b in
-    many_there facts ns (arguments_of t) (arguments_of u) (both_from (same_head t u) said_all c.1).1
+    let c = both_pass (is_inhabited_list ns) (same_head t u && said_all) b in
+    many_there facts ns (arguments_of t) (arguments_of u) (both_pass (same_head t u) said_all c.1).1
 facts_there sorts facts (Same t u) to e = refl
 facts_there sorts facts (Apart t u) to e = refl
 facts_there sorts facts (Hit t n) to e =
@@ -171,7 +152,7 @@ facts_there sorts facts (Miss t u n) to e =
     let b = followed_from (read_in t) _ a.0 a.1 in
     let c = followed_from (written_in b.0.0) _ a.0 b.2 in
     one_there facts n
-    (unequal_there facts n c.0.index b.0.1 (both_from (says_equal (contrary_at facts n) c.0.index b.0.1) _ (formula_from _ _ a.0 c.2)).0)
+    (unequal_there facts n c.0.index b.0.1 (both_pass (says_equal (contrary_at facts n) c.0.index b.0.1) _ (formula_from _ _ a.0 c.2)).0)
 facts_there sorts facts (Lin n) to e =
     let a = adding_from (adds sorts facts (Lin n)) to e in
     let b = followed_from (formula_at facts n) form_of_comparison a.0
@@ -208,7 +189,7 @@ pub steps_short : (sorts : Sorts) (facts : List BranchFact) (line : CertificateL
 steps_short sorts facts (Exact n) to e =
     let a = adding_from (adds sorts facts (Exact n)) to e in
     let b = followed_from (forms_of_branch facts) _ a.0 (added_first (exact_adds facts n) a.0 a.1) in
-    let few = both_from (nat_le n 1000000) _ (formula_from _ form.No a.0 b.2) in
+    let few = both_pass (nat_le n 1000000) _ (formula_from _ form.No a.0 b.2) in
     omega (arith, leb-true n 1000000 few.0)
 steps_short sorts facts line to e = tt
 

@@ -1,23 +1,22 @@
 -- The line of a formula makes it, by the numbers of its terms and of its parts.
-use Rattle.std.proofs.Common.{◌≡◌, ℕ, ◌<◌, ◌^◌, Bool, true, ◌&&◌, Option, Some, slice_get, Result, Ok, Err, List, [], ◌∷◌, ◌++◌}
-use Rattle.std.proofs.Common.{refl, ap, sym, subst, ◌∙◌}
-use Rattle.sm_syntax.specs.declared.tree.Sort.{Sort}
-use Rattle.sm_syntax.specs.declared.tree.Sort.TheVariants.{Num, Arr}
+use Rattle.std.proofs.Common.{◌≡◌, ℕ, ◌<◌, ◌^◌, Bool, true, ◌&&◌, Option, Some, slice_get, Result, Ok, Err, List, [], ◌∷◌, ◌++◌, refl, ap, sym, subst, ◌∙◌}
 use Rattle.sm_syntax.specs.text.Sorts.{Sorts}
-use Rattle.sm_term.specs.declared.term.TermId.{TermId}
+use Rattle.sm_syntax.specs.declared.tree.Sort.{Sort}
+use Rattle.sm_syntax.specs.declared.tree.Sort.TheVariants.{Num}
 use Rattle.sm_term.specs.Assertions as plain
 use Rattle.sm_term.specs.Assertions.{Assertion}
 use Rattle.sm_term.specs.SameTerms.{same_sort}
 use Rattle.sm_term.specs.Formulas.{NumberedFormula, Yes, No, Eq, Ne, Le, Lt, And, Or}
 use Rattle.sm_term.specs.Sorted.{tree_sort, IsFormSorted}
 use Rattle.sm_term.specs.Tables.{TableValue, trees_in, sorts_in, tree_at}
+use Rattle.sm_term.specs.declared.term.TermId.{TermId}
 use Rattle.sm_term.specs.Terms.{Tree}
 use Rattle.sm_proof.specs.declared.line.FormLine.{FormLine}
 use Rattle.sm_proof.specs.declared.line.FormLine.TheVariants as line
 use Rattle.sm_proof.specs.declared.word.Head.TheVariants as head
-use Rattle.sm_proof.specs.declared.word.Word.TheVariants.{BadNumber, First}
 use Rattle.sm_proof.specs.FieldRanges.{IsFormLineWithin}
 use Rattle.sm_proof.specs.Named.{found_or, tested_or}
+use Rattle.sm_proof.specs.declared.word.Word.TheVariants.{BadNumber, First}
 use Rattle.sm_proof.specs.Passing.{Pending, Progress, form_made, form_about, form_from, have_one_sort, are_numbers}
 use Rattle.sm_proof.specs.Verdicts.{Subject}
 use Rattle.std.specs.Prelude.{OnOk, IfOk}
@@ -28,7 +27,9 @@ use Rattle.sm_write.specs.Seen.{IsBuilt, Seen}
 use Rattle.sm_write.specs.Walked.{Extends, IsSet}
 use Rattle.sm_write.specs.Writers.{WriterValue, Stands}
 use Rattle.sm_write.proofs.WalkedLemmas.{kept_twice, extends_none, set_later}
-use Rattle.sm_write.proofs.WriterSteps.{adds_none, adds_twice, get_last, get_more}
+use Rattle.sm_write.proofs.WriterSteps.{adds_none, adds_twice}
+use Rattle.sm_term.proofs.SameTermsLemmas.{sort_itself}
+use Rattle.sm_lemmas.proofs.Lists.{get_last, get_in_first}
 
 -- a formula about two terms that are there
 pub about_made : (terms : List Tree) (m n : ℕ) (t u : Tree) (test : Tree → Tree → Bool) (makes : Tree → Tree → Assertion) →
@@ -48,11 +49,6 @@ from_made forms m n f g makes first second =
     (λ (o : Option Assertion). found_or o BadNumber
     (λ (a : Assertion). found_or (slice_get forms n) BadNumber (λ (b : Assertion). Ok (makes a b)))) first
     ∙ ap (λ (o : Option Assertion). found_or o BadNumber (λ (b : Assertion). Ok (makes f b))) second
-
--- sorts that are equal are the same
-sort_itself : (sort : Sort) → same_sort sort sort ≡ true
-sort_itself Num = refl
-sort_itself Arr = refl
 
 pub one_sort : (sorts : Sorts) (t u : Tree) → tree_sort sorts u ≡ tree_sort sorts t → have_one_sort sorts t u ≡ true
 one_sort sorts t u e = ap (same_sort (tree_sort sorts t)) e ∙ sort_itself (tree_sort sorts t)
@@ -182,7 +178,7 @@ and_makes v base mid old f g m n first second low high s seen p set sorted built
     let b = k.extends in
     let there : slice_get b.after.forms m ≡ Some (form_over v f) =
     subst (λ (fs : List Assertion). slice_get fs m ≡ Some (form_over v f)) (sym b.adds.forms.1)
-    (get_more a.after.forms b.adds.forms.0 m (form_over v f) h.there) in (
+    (get_in_first a.after.forms b.adds.forms.0 m (form_over v f) h.there) in (
       record {
         after = b.after;
         stands = b.stands;
@@ -202,7 +198,7 @@ or_makes v base mid old f g m n first second low high s seen p set sorted built 
     let b = k.extends in
     let there : slice_get b.after.forms m ≡ Some (form_over v f) =
     subst (λ (fs : List Assertion). slice_get fs m ≡ Some (form_over v f)) (sym b.adds.forms.1)
-    (get_more a.after.forms b.adds.forms.0 m (form_over v f) h.there) in (
+    (get_in_first a.after.forms b.adds.forms.0 m (form_over v f) h.there) in (
       record {
         after = b.after;
         stands = b.stands;

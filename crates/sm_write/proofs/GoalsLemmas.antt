@@ -1,5 +1,5 @@
 -- A goal's certificate closes the branch that is due for it.
-use Rattle.std.proofs.Common.{◌≡◌, ℕ, ◌+◌, ◌<◌, List, [], ◌∷◌, ◌++◌, drop, get_or, length, map, refl, subst, arith}
+use Rattle.std.proofs.Common.{◌≡◌, ℕ, ◌+◌, ◌<◌, List, [], ◌∷◌, ◌++◌, drop, get_or, map, subst, arith}
 use Rattle.std.proofs.lemmas.List.{drop_more}
 use Rattle.sm_term.specs.Assertions.{Assertion, No}
 use Rattle.sm_term.specs.Tables.{TableValue, trees_in}
@@ -54,8 +54,3 @@ goals_short v old mid count n cs first less s seen p st goals rest later at due 
     let a = first s seen p st goals rest later at due len closed in
     let here : drop n goals ≡ get_or goals n No ∷ drop (n + 1) goals = drop_more goals n No (omega (arith, len, less)) in
     absurd (subst (λ (gs : List Assertion). AreClosed s.sorts (Seen seen) (map (denied st.facts) gs) [] later) here a.closed)
-
--- a list of no length has nothing
-pub none_there : {X : Type 0} (xs : List X) → length xs ≡ 0 → xs ≡ []
-none_there [] e = refl
-none_there (x ∷ xs) e = absurd (omega (arith, e))

@@ -7,9 +7,9 @@ use Rattle.sm_syntax.specs.declared.tree.Sort.TheVariants.{Num}
 use Rattle.sm_syntax.specs.text.Parts.{Parts}
 use Rattle.sm_term.specs.Terms.{Tree}
 use Rattle.sm_theory.specs.Lines.{Both, Close}
-use Rattle.sm_cert.specs.declared.tree.CertTree.{CertTree}
 use Rattle.sm_cert.specs.Certificates.{Next, Closed}
 use Rattle.sm_cert.specs.Views.{certificate_in}
+use Rattle.sm_cert.specs.declared.tree.CertTree.{CertTree}
 use Rattle.sm_write.specs.Example.{idle_plan, idle_certificates}
 use Rattle.sm_write.specs.Writable.{IsWritable}
 use Rattle.sm_write.proofs.ExampleLemmas.{example_is_writable}

@@ -1,24 +1,23 @@
 -- The new values and summaries of a state get numbers, one name after the other.
-use Rattle.std.proofs.Common.{◌≡◌, ℕ, ◌+◌, ◌<◌, ◌≤◌, ◌^◌, Bool, true, false, nat_eq, nat_lt, Option, Some, None, is_some, Ok}
-use Rattle.std.proofs.Common.{List, [], ◌∷◌, ◌++◌, length, slice_get, refl, ap, sym, subst, ◌∙◌, arith, ⊎_elim}
+use Rattle.std.proofs.Common.{◌≡◌, ℕ, ◌+◌, ◌<◌, ◌≤◌, ◌^◌, Bool, true, false, nat_eq, nat_lt, Option, Some, None, is_some, Ok, List, [], ◌∷◌, ◌++◌, length, slice_get, refl, ap, sym, subst, ◌∙◌, arith, ⊎_elim}
 use Rattle.std.proofs.lemmas.Bool.{cases_Bool}
 use Rattle.std.proofs.lemmas.Bool.Decides.{nat_tests}
 use Rattle.std.proofs.lemmas.Option.{slice_get_past}
 use Rattle.std.specs.Map.{update}
-use Rattle.sm_syntax.specs.declared.tree.Sort.{Sort}
 use Rattle.sm_syntax.specs.claim.ConflictFree.{Copy, copy_of}
 use Rattle.sm_syntax.specs.text.Sorts.{Sorts}
+use Rattle.sm_syntax.specs.declared.tree.Sort.{Sort}
 use Rattle.sm_syntax.specs.trees.Copies.{number_of}
-use Rattle.sm_term.specs.declared.term.TermId.{TermId}
 use Rattle.sm_term.specs.Sorted.{IsStoreSorted}
 use Rattle.sm_term.specs.Symbolic.{SymbolicStore}
 use Rattle.sm_term.specs.SymStores.{tree_or_start}
 use Rattle.sm_term.specs.Tables.{TableValue, trees_in, sorts_in, tree_at}
+use Rattle.sm_term.specs.declared.term.TermId.{TermId}
 use Rattle.sm_term.specs.Terms.{Tree, Lit, Start, Havoc, Slot, Cell, Read, Write, Neg, Add, Sub, Mul, Fun}
-use Rattle.sm_plan.proofs.RenewedStores.{copy_numbered, number_below}
+use Rattle.sm_plan.proofs.RenewedStores.{number_below}
 use Rattle.sm_proof.specs.declared.line.TermLine.TheVariants.{Cur}
-use Rattle.sm_proof.specs.declared.word.Word.TheVariants.{BadNumber}
 use Rattle.sm_proof.specs.Named.{tested_or}
+use Rattle.sm_proof.specs.declared.word.Word.TheVariants.{BadNumber}
 use Rattle.sm_proof.specs.Passing.{Progress, present_term, of_name, term_made}
 use Rattle.sm_proof.specs.Verdicts.{Subject}
 use Rattle.sm_write.specs.Held.{is_atom, IsTreeNamed, Shows, terms_store, NamesOne, HeldNamed, NamesHeld, NamesStore}
@@ -28,6 +27,8 @@ use Rattle.sm_write.specs.Writers.{WriterValue}
 use Rattle.sm_write.specs.Written.{Names}
 use Rattle.sm_write.proofs.WriterSteps.{adds_none}
 use Rattle.sm_write.proofs.WalkedLemmas.{AddsTerm, kept_gains, extends_none, extends_twice, set_later, gained}
+use Rattle.sm_lemmas.proofs.Tests.{lt_from_test}
+use Rattle.sm_plan.proofs.TargetsMade.{copy_back}
 
 pub tested_atom : (t : Tree) → is_atom t ≡ true → IsAtom t
 tested_atom (Lit z) e = absurd cc
@@ -72,7 +73,7 @@ one_added v old new c x number t m adds gains none is low inside test s seen p s
     let made : term_made s.sorts p.terms due (Cur number x) ≡ Ok tree =
     ap (λ (f : Sorts). of_name f x (present_term due (copy_of number) x)) set.sorts
     ∙ (ap (λ (n : ℕ). of_name sorts x (present_term due (copy_of n) x)) is
-    ∙ (ap (λ (d : Copy). of_name sorts x (present_term due d x)) (copy_numbered c)
+    ∙ (ap (λ (d : Copy). of_name sorts x (present_term due d x)) (copy_back c)
     ∙ (ap (of_name sorts x) (shows.3 x ∙ here)
     ∙ ap (λ (b : Bool). tested_or b BadNumber (Ok tree)) (held_declared sorts store sorted x atom)))) in
     let stands = adds s (trees_in v) p due shows.1 set.stands shows.2 inside (omega (arith, is, below), low) made in
@@ -95,10 +96,6 @@ shows_later s trees old new p c store e shows = (shows.0, shows.1, e.adds.pendin
 pub tree_kept : (trees : List Tree) (a b : Names) (t : Tree) → KeepsNames a b → IsTreeNamed trees a t → IsTreeNamed trees b t
 tree_kept trees a b t kept h = (h.0, h.1, h.2, (h.3.0, kept h.0 h.3.0 h.3.1))
 
--- what a test of order says
-lt_is : (m n : ℕ) → nat_lt m n ≡ true → m < n
-lt_is m n e = grind (arith, nat_tests)
-
 past_is : (m n : ℕ) → nat_lt m n ≡ false → n ≤ m
 past_is m n e = grind (arith, nat_tests)
 
@@ -118,7 +115,7 @@ held_more v old mid new c terms x t first at inside one s seen p set shows sorte
       named = λ (y : ℕ) (h : y < x + 1) (atom : IsAtom (store y)).
           ⊎_elim
           (λ (e : nat_lt y x ≡ true).
-          tree_kept trees mid.names new.names (store y) b.extends.kept (a.named y (lt_is y x e) atom))
+          tree_kept trees mid.names new.names (store y) b.extends.kept (a.named y (lt_from_test y x e) atom))
           (λ (e : nat_lt y x ≡ false).
           let past = past_is y x e in
           let same : y ≡ x = omega (arith, past, h) in
@@ -141,7 +138,7 @@ held_all v old new c terms n names len sorted s seen p set shows =
   where
     of : (x : ℕ) → IsAtom (terms_store (trees_in v) terms x) → HeldNamed s v old new p (terms_store (trees_in v) terms) n → (b : Bool) →
         nat_lt x (length terms) ≡ b → IsTreeNamed (trees_in v) new.names (terms_store (trees_in v) terms x)
-    of x atom h true e = h.named x (subst (λ (m : ℕ). x < m) len (lt_is x (length terms) e)) atom
+    of x atom h true e = h.named x (subst (λ (m : ℕ). x < m) len (lt_from_test x (length terms) e)) atom
     of x atom h false e =
         let past = slice_get_past terms x (past_is x (length terms) e) in
         let none : IsAtom (Start x) = subst IsAtom (ap (tree_or_start (trees_in v) x) past) atom in

@@ -1,12 +1,12 @@
 -- The terms of a line, one by one.
 use Rattle.std.proofs.Common.{◌≡◌, ℕ, Option, Some, None, List, IfSome}
-use Rattle.sm_term.specs.declared.term.TermId.{TermId}
 use Rattle.sm_term.specs.Tables.{tree_at}
+use Rattle.sm_term.specs.declared.term.TermId.{TermId}
 use Rattle.sm_term.specs.Terms.{Tree}
-use Rattle.sm_theory.specs.declared.line.CertLine.{CertLine}
 use Rattle.sm_theory.specs.declared.line.CertLine.TheVariants as cert
 use Rattle.sm_theory.specs.Named.{EachNamed}
 use Rattle.sm_theory.specs.Views.{line_in, numbered_line}
+use Rattle.sm_theory.specs.declared.line.CertLine.{CertLine}
 use Rattle.sm_theory.proofs.LinesOver.{each_back}
 use Rattle.sm_write.specs.LineTerms.{first_term, second_term}
 use Rattle.sm_write.specs.Written.{Names, IsNamed, IsLineNamed}

@@ -1,25 +1,24 @@
 -- The line of a term makes it, and a part without a number stands before it.
-use Rattle.std.proofs.Common.{◌≡◌, ◌⊎◌, inl, inr, ℕ, ◌<◌, ◌^◌, Bool, true, ◌&&◌, if◌then◌else◌, is_some, Option, Some, None}
-use Rattle.std.proofs.Common.{slice_get, length, Result, Ok, Err, List, ap, sym, subst, ◌∙◌, arith}
+use Rattle.std.proofs.Common.{◌≡◌, ◌⊎◌, inl, inr, ℕ, ◌<◌, ◌^◌, Bool, true, ◌&&◌, if◌then◌else◌, is_some, Option, Some, None, slice_get, length, Result, Ok, Err, List, ap, sym, subst, ◌∙◌, arith}
 use Rattle.sm_syntax.specs.declared.tree.Name.{Name}
 use Rattle.sm_syntax.specs.declared.tree.Sort.TheVariants.{Num, Arr}
-use Rattle.sm_term.specs.declared.term.Term.{Term}
 use Rattle.sm_term.specs.declared.term.Term.TheVariants as row
-use Rattle.sm_term.specs.declared.term.TermId.{TermId}
 use Rattle.sm_term.specs.Fitting.{term_fits, has_sort}
 use Rattle.sm_term.specs.Tables.{TableValue, trees_in, sorts_in, codes_in, tree_at, tree_in, IsTermWithin}
+use Rattle.sm_term.specs.declared.term.TermId.{TermId}
+use Rattle.sm_term.specs.declared.term.Term.{Term}
 use Rattle.sm_term.specs.Terms.{Tree, Start, Read, Write, Neg, Add}
 use Rattle.sm_plan.specs.States.{State}
 use Rattle.sm_proof.specs.declared.line.TermLine.TheVariants as line
 use Rattle.sm_proof.specs.declared.word.Head.TheVariants as head
+use Rattle.sm_proof.specs.Named.{found_or, tested_or}
 use Rattle.sm_proof.specs.declared.word.Word.{Word}
 use Rattle.sm_proof.specs.declared.word.Word.TheVariants.{BadNumber, First}
-use Rattle.sm_proof.specs.Named.{found_or, tested_or}
 use Rattle.sm_proof.specs.Passing.{with_tree}
 use Rattle.sm_write.specs.Naming.{IsLineOf, IsOpenPart}
 use Rattle.sm_write.specs.Seen.{IsBuilt, Seen}
 use Rattle.sm_write.specs.Written.{Names, AreNames}
-use Rattle.sm_write.proofs.FactsThere.{get_below}
+use Rattle.sm_lemmas.proofs.Lists.{below_if_got}
 
 -- term n of a table is this row
 pub record IsRow (v : TableValue) (n : ℕ) (u : Term) : Type 0 where
@@ -43,7 +42,7 @@ tested_then b w r e = ap (λ (c : Bool). if c then r else Err w) e
 small : (trees : List Tree) (names : Names) (terms : List Tree) → AreNames trees names terms → (t : ℕ) (n : TermId) → names t ≡ Some n →
     n.0 < 2 ^ 64
 small trees names terms are t n e =
-    let below = get_below terms n.0 (tree_at trees t) (are.right t n e).1 in
+    let below = below_if_got terms n.0 (tree_at trees t) (are.right t n e).1 in
     let few = are.few in
     omega (arith, below, few)
 

@@ -6,9 +6,9 @@ use Rattle.sm_plan.specs.NodeLists.{above_opened}
 use Rattle.sm_plan.specs.Nodes as plan
 use Rattle.sm_plan.specs.Nodes.{Opened, opened_by}
 use Rattle.sm_plan.specs.States.{State}
-use Rattle.sm_proof.specs.declared.line.NodeLine.{NodeLine}
 use Rattle.sm_proof.specs.FieldRanges.{IsNodeLineWithin}
 use Rattle.sm_proof.specs.Lines.{Node}
+use Rattle.sm_proof.specs.declared.line.NodeLine.{NodeLine}
 use Rattle.sm_proof.specs.Named.{named_node}
 use Rattle.sm_proof.specs.Passing.{Pending, Due, Progress}
 use Rattle.sm_proof.specs.Verdicts.{Subject}

@@ -1,11 +1,10 @@
 -- A node is written behind the names of its state's terms and its kept formula.
-use Rattle.std.proofs.Common.{◌≡◌, ℕ, suc, Bool, true, false, nat_le, if◌then◌else◌, Option, Some, List, [], ◌∷◌, ◌++◌, slice_get}
-use Rattle.std.proofs.Common.{refl, ap, sym, subst, ◌∙◌}
+use Rattle.std.proofs.Common.{◌≡◌, ℕ, suc, Bool, true, false, nat_le, if◌then◌else◌, Option, Some, List, [], ◌∷◌, ◌++◌, slice_get, refl, ap, sym, subst, ◌∙◌}
 use Rattle.sm_syntax.specs.claim.ConflictFree.{Copy}
-use Rattle.sm_syntax.specs.declared.copies.PerCopy.{PerCopy}
 use Rattle.sm_syntax.specs.text.Parts.{by_copy}
 use Rattle.sm_syntax.specs.text.Sorts.{Sorts}
 use Rattle.sm_syntax.specs.trees.Copies.{copy_named}
+use Rattle.sm_syntax.specs.declared.copies.PerCopy.{PerCopy}
 use Rattle.sm_term.specs.declared.symbolic.SymStore.{SymStore}
 use Rattle.sm_term.specs.Assertions.{Assertion}
 use Rattle.sm_term.specs.Formulas.{NumberedFormula, numbered, assertion_in}
@@ -13,7 +12,6 @@ use Rattle.sm_term.specs.Sorted.{IsFormSorted}
 use Rattle.sm_term.specs.Tables.{TableValue, trees_in, sorts_in}
 use Rattle.sm_term.specs.Terms.{Tree}
 use Rattle.sm_theory.specs.Lines.{followed}
-use Rattle.sm_plan.specs.declared.node.NodeRow.{NodeRow}
 use Rattle.sm_plan.specs.declared.node.NodeRow.TheVariants as row
 use Rattle.sm_plan.specs.Limits.{is_shallow}
 use Rattle.sm_plan.specs.Masks.{set_of}
@@ -22,7 +20,7 @@ use Rattle.sm_plan.specs.Nodes as plan
 use Rattle.sm_plan.specs.Nodes.{Opened, opened_by}
 use Rattle.sm_plan.specs.States.{State}
 use Rattle.sm_plan.specs.Views.{node_in}
-use Rattle.sm_plan.proofs.RenewedStores.{copy_numbered}
+use Rattle.sm_plan.specs.declared.node.NodeRow.{NodeRow}
 use Rattle.sm_proof.specs.declared.line.NodeLine.{NodeLine}
 use Rattle.sm_proof.specs.FieldRanges.{IsNodeLineWithin}
 use Rattle.sm_proof.specs.Named.{named_node}
@@ -38,13 +36,14 @@ use Rattle.sm_write.specs.Writers.{WriterValue, Stands, AreSeenNamed}
 use Rattle.sm_write.specs.Written.{Names}
 use Rattle.sm_write.proofs.StepLemmas.{after_opening}
 use Rattle.sm_write.proofs.WalkedLemmas.{seen_kept}
+use Rattle.sm_plan.proofs.TargetsMade.{copy_back}
 
 -- a node's line names it
 pub line_names : (sorts : Sorts) (trees : List Tree) (forms : List Assertion) (r : NodeRow) (n : ℕ) → IsKeptAt sorts trees forms r n →
     named_node forms (line_of r n) ≡ Some (node_in sorts trees r)
-line_names sorts trees forms (row.Step c) n h = ap (λ (d : Copy). Some (plan.Step d)) (copy_numbered (copy_named c))
-line_names sorts trees forms (row.Abs c count) n h = ap (λ (d : Copy). Some (plan.Abs d count)) (copy_numbered (copy_named c))
-line_names sorts trees forms (row.Fork c) n h = ap (λ (d : Copy). Some (plan.Fork d)) (copy_numbered (copy_named c))
+line_names sorts trees forms (row.Step c) n h = ap (λ (d : Copy). Some (plan.Step d)) (copy_back (copy_named c))
+line_names sorts trees forms (row.Abs c count) n h = ap (λ (d : Copy). Some (plan.Abs d count)) (copy_back (copy_named c))
+line_names sorts trees forms (row.Fork c) n h = ap (λ (d : Copy). Some (plan.Fork d)) (copy_back (copy_named c))
 line_names sorts trees forms (row.Loop set f) n h =
     ap
     (λ (o : Option Assertion). followed o

@@ -1,24 +1,21 @@
 -- A plan that is writable as a whole is so node by node.
-use Rattle.std.proofs.Common.{◌≡◌, ℕ, zero, suc, ◌+◌, ◌==◌, ◌≤◌, Bool, true, false, if◌then◌else◌, max, Result, Ok, Err}
-use Rattle.std.proofs.Common.{List, [], ◌∷◌, ◌++◌, map, length, refl, ap, sym, ◌∙◌, subst, arith}
+use Rattle.std.proofs.Common.{◌≡◌, ℕ, zero, suc, ◌+◌, ◌==◌, ◌≤◌, if◌then◌else◌, Ok, Err, List, [], ◌∷◌, ◌++◌, map, length, refl, ap, sym, ◌∙◌, subst, arith}
 use Rattle.std.proofs.lemmas.Bool.Decides.{nat_tests}
 use Rattle.std.proofs.lemmas.List.{append_assoc, append-nil, length-append}
-use Rattle.sm_syntax.specs.declared.tree.Sort.{Sort}
 use Rattle.sm_syntax.specs.text.Parts.{Parts, sort_of, task_of}
 use Rattle.sm_syntax.specs.text.Sorts.{Sorts}
+use Rattle.sm_syntax.specs.declared.tree.Sort.{Sort}
 use Rattle.sm_term.specs.Assertions.{Assertion}
 use Rattle.sm_term.specs.Terms.{Tree}
 use Rattle.sm_theory.specs.Facts.{BranchFact}
 use Rattle.sm_theory.specs.Lines as cert
-use Rattle.sm_theory.specs.Lines.{CertificateLine}
 use Rattle.sm_theory.proofs.LinesOver.{each_more}
 use Rattle.sm_cert.specs.Certificates.{Certificate, Next, Closed, Split}
 use Rattle.sm_cert.specs.NamedTerms.{EachTerm}
 use Rattle.sm_plan.specs.Limits.{is_shallow}
 use Rattle.sm_plan.specs.NodeLists.{above_opened}
 use Rattle.sm_plan.specs.Nodes.{Node, Step, Abs, Fork, Loop, Block, Dead, Ends, Unfit, Opened, opened_by, rule_of, is_branching}
-use Rattle.sm_plan.specs.Plans.{Plan, At, Plans, Over, More, size, sizes, count, nodes_of, all_nodes, branches, most_branches, Due, Fault}
-use Rattle.sm_plan.specs.Plans.{Wrong, Deep, due, joined, expand, expand_all}
+use Rattle.sm_plan.specs.Plans.{Plan, At, Plans, Over, More, size, sizes, count, nodes_of, all_nodes, branches, most_branches, Due, Fault, Wrong, due, joined, expand, expand_all}
 use Rattle.sm_plan.specs.SortedStates.{IsStateSorted, AreStatesSorted, IsNodeSorted}
 use Rattle.sm_plan.specs.States.{State, start_state}
 use Rattle.sm_plan.specs.Laws.{SortsAreKept}
@@ -27,12 +24,12 @@ use Rattle.sm_write.specs.Nameable.{Nameable}
 use Rattle.sm_write.specs.PlanStates.{states_opened, plan_states, plans_states}
 use Rattle.sm_write.specs.Ready.{AreClosed, IsReady, AreReady}
 use Rattle.sm_write.specs.Seen.{IsBuilt, IsAtom, Seen}
-use Rattle.sm_write.specs.Writable.{Goal, denied, goals_of, all_goals, states_until, AreShown, EachKept, AreKeptNameable, AreShort}
-use Rattle.sm_write.specs.Writable.{IsWritable}
+use Rattle.sm_write.specs.Writable.{Goal, denied, goals_of, all_goals, states_until, AreShown, EachKept, AreKeptNameable, AreShort, IsWritable}
 use Rattle.sm_write.proofs.BuiltTerms.{side_more}
 use Rattle.sm_write.proofs.BuiltStates.{IsWell, With, AreWellWith, node_well, start_well, Nothing, well_more}
 use Rattle.sm_write.proofs.SeenLemmas.{AreFine, none_fine, fine_more, well_here, waiting_more}
 use Rattle.sm_write.proofs.NameableBuilt.{nameable_built}
+use Rattle.sm_plan.proofs.NodeListsExact.{is_few, few_is, counts_above, first_few, second_few, test_passed}
 
 -- each node's kept formula is sorted
 abbrev pub AreNodesSorted : Sorts → List Node → Type 0
@@ -46,25 +43,6 @@ nodes_sorted sorts [] second all = (tt, all)
 nodes_sorted sorts (node ∷ first) second all =
     let both = nodes_sorted sorts first second all.1 in
     ((all.0, both.0), both.1)
-
--- few enough branching nodes
-is_few : (n : ℕ) → n ≤ 1000 → is_shallow n ≡ true
-unfolding is_shallow
-is_few n few = grind (arith, nat_tests)
-
-few_is : (n : ℕ) → is_shallow n ≡ true → n ≤ 1000
-unfolding is_shallow
-few_is n h = grind (arith, nat_tests)
-
-counts_above : (b : Bool) (above most : ℕ) → above + (if b then suc most else most) ≤ 1000 → (if b then suc above else above) + most ≤ 1000
-counts_above true above most few = omega (arith, few)
-counts_above false above most few = omega (arith, few)
-
-first_few : (above a b : ℕ) → above + max a b ≤ 1000 → above + a ≤ 1000
-first_few above a b few = omega (arith, few)
-
-second_few : (above a b : ℕ) → above + max a b ≤ 1000 → above + b ≤ 1000
-second_few above a b few = omega (arith, few)
 
 -- other terms that something is so of
 pub term_more : (P Q : Tree → Type 0) → ((t : Tree) → P t → Q t) → (c : Certificate) → EachTerm P c → EachTerm Q c
@@ -270,11 +248,6 @@ mutual
 none_left : (sorts : Sorts) (states : List State) (cs : List Certificate) → AreShown sorts states [] cs → cs ≡ []
 none_left sorts states [] shown = refl
 none_left sorts states (c ∷ cs) shown = absurd shown
-
--- a test that passed
-test_passed : (b : Bool) (r : Result (List Due) Fault) (ds : List Due) → (if b then r else Err Deep) ≡ Ok ds → b ≡ true
-test_passed true r ds e = refl
-test_passed false r ds e = absurd cc
 
 -- a plan that is writable is ready at the start of its task
 pub writable_ready : SortsAreKept → (t : Parts) (p : Plan) (cs : List Certificate) →

@@ -1,6 +1,5 @@
 -- The text of a line has no line feed, and is no longer than a line may be.
-use Rattle.std.proofs.Common.{◌≡◌, ℕ, ℤ, pos, negsuc, suc, ◌+◌, ◌*◌, ◌^◌, ◌<◌, ◌≤◌, ◌==◌, Bool, true, false, if◌then◌else◌}
-use Rattle.std.proofs.Common.{List, [], ◌∷◌, ◌++◌, map, length, refl, ap, ◌∙◌, arith, length-append}
+use Rattle.std.proofs.Common.{◌≡◌, ℕ, ℤ, pos, negsuc, suc, ◌+◌, ◌*◌, ◌^◌, ◌<◌, ◌≤◌, ◌==◌, Bool, true, false, if◌then◌else◌, List, [], ◌∷◌, ◌++◌, map, length, refl, ap, ◌∙◌, arith, length-append}
 use Rattle.std.specs.Fmt.{decimal, signed_decimal}
 use Rattle.std.specs.Str.Parse.{AllDigits}
 use Rattle.std.proofs.lemmas.Bool.{ne_eqb}
@@ -11,25 +10,26 @@ use Rattle.sm_theory.specs.Named.{facts_named}
 use Rattle.sm_num.specs.Range.{fits}
 use Rattle.sm_proof.specs.declared.kind.FormKind.TheVariants as kind
 use Rattle.sm_proof.specs.declared.kind.TermKind.TheVariants as kinds
-use Rattle.sm_proof.specs.declared.line.FormLine.{FormLine}
 use Rattle.sm_proof.specs.declared.line.FormLine.TheVariants as form
-use Rattle.sm_proof.specs.declared.line.NodeLine.{NodeLine}
 use Rattle.sm_proof.specs.declared.line.NodeLine.TheVariants as node
-use Rattle.sm_proof.specs.declared.line.TermLine.{TermLine}
 use Rattle.sm_proof.specs.declared.line.TermLine.TheVariants as term
-use Rattle.sm_proof.specs.declared.word.Head.{Head}
 use Rattle.sm_proof.specs.declared.word.Head.TheVariants as head
 use Rattle.sm_proof.specs.FieldRanges.{IsWithinFields, AreNumbers, numbers_of}
 use Rattle.sm_proof.specs.Fields.{copy, side, set}
 use Rattle.sm_proof.specs.HeadWords.{version_word, head_word, term_word, form_word}
 use Rattle.sm_proof.specs.Lines.{ProofLine, NumberedLine, Header, Term, Form, Node, Cert}
+use Rattle.sm_proof.specs.declared.line.TermLine.{TermLine}
+use Rattle.sm_proof.specs.declared.line.NodeLine.{NodeLine}
+use Rattle.sm_proof.specs.declared.line.FormLine.{FormLine}
 use Rattle.sm_proof.specs.Lines as line
 use Rattle.sm_proof.specs.Named.{line_head}
+use Rattle.sm_proof.specs.declared.word.Head.{Head}
 use Rattle.sm_proof.specs.Spelling.{spaced, spelled, line_words, HasKnownVersion}
 use Rattle.sm_proof.proofs.NumberLemmas.{literal_fits}
 use Rattle.sm_prune.specs.Texts.{IsReadable}
 use Rattle.sm_write.specs.Versions.{version_where}
 use Rattle.sm_write.specs.Writable.{AreShortNumbers}
+use Rattle.sm_proof.proofs.ClearLemmas.{small_copy, small_side, small_set}
 
 -- whether bytes have a line feed
 abbrev pub has_feed : List ℕ → Bool
@@ -123,15 +123,6 @@ seconded l h word ns e plain short are = record {
   fine = ((head_fine h).0, (head_fine h).1, (plain, short, tt));
   fields = are;
 }
-
-small_copy : (n : ℕ) → n ≤ copy → n < 2 ^ 64
-small_copy n low = omega arith
-
-small_side : (n : ℕ) → n ≤ side → n < 2 ^ 64
-small_side n low = omega arith
-
-small_set : (n : ℕ) → n ≤ set → n < 2 ^ 64
-small_set n low = omega arith
 
 term_shaped : (t : TermLine) → IsWithinFields (Term t) → IsShaped (Term t)
 term_shaped (term.Lit z) h =

@@ -1,18 +1,17 @@
 -- A plan that is writable is underway where its task's start waits, and nothing is written.
-use Rattle.std.proofs.Common.{◌≡◌, ℕ, ◌<◌, ◌^◌, nat_le, Bool, true, false, if◌then◌else◌, Some, None, List, [], ◌∷◌, ◌++◌}
-use Rattle.std.proofs.Common.{length, map, refl, sym, ap, ◌∙◌, subst, arith}
+use Rattle.std.proofs.Common.{◌≡◌, ℕ, ◌<◌, ◌^◌, nat_le, Bool, true, false, if◌then◌else◌, Some, None, List, [], ◌∷◌, ◌++◌, length, map, refl, sym, ap, ◌∙◌, subst, arith}
 use Rattle.sm_syntax.specs.claim.ConflictFree.{Copy, copy_of}
 use Rattle.sm_syntax.specs.text.Parts.{Parts, sort_of, task_of}
 use Rattle.sm_syntax.specs.text.Sorts.{Sorts}
-use Rattle.sm_term.specs.declared.term.TermId.{TermId}
 use Rattle.sm_term.specs.Assertions.{Assertion}
 use Rattle.sm_term.specs.Formulas.{assertion_in}
 use Rattle.sm_term.specs.Tables.{TableValue, trees_in, sorts_in}
+use Rattle.sm_term.specs.declared.term.TermId.{TermId}
 use Rattle.sm_term.specs.TableLaws.{ExtendsTable}
 use Rattle.sm_term.specs.Terms.{Tree}
 use Rattle.sm_cert.specs.Certificates.{Certificate}
-use Rattle.sm_cert.specs.declared.tree.CertTree.{CertTree}
 use Rattle.sm_cert.specs.Views.{certificate_in}
+use Rattle.sm_cert.specs.declared.tree.CertTree.{CertTree}
 use Rattle.sm_plan.specs.Masks.{set_of}
 use Rattle.sm_plan.specs.Nodes as plain
 use Rattle.sm_plan.specs.Nodes.{Node}
@@ -24,8 +23,7 @@ use Rattle.sm_plan.proofs.NodeSorted.{node_sorted}
 use Rattle.sm_plan.proofs.SortedStates.{start_sorted}
 use Rattle.sm_proof.specs.Passing.{start_progress}
 use Rattle.sm_proof.specs.Verdicts.{Subject, subject_of}
-use Rattle.sm_expand.specs.NumberedPlans.{NumberedNode, Step, Abs, Fork, Loop, Block, Dead, Ends, NumberedPlan, At, NumberedPlans, Over, More}
-use Rattle.sm_expand.specs.NumberedPlans.{of_copy_or, node_over, plan_over, plans_over, IsKeepReady, IsPlanReady, ArePlansReady}
+use Rattle.sm_expand.specs.NumberedPlans.{NumberedNode, Step, Abs, Fork, Loop, Block, Dead, Ends, NumberedPlan, At, NumberedPlans, Over, More, of_copy_or, node_over, plan_over, plans_over, IsKeepReady, IsPlanReady, ArePlansReady}
 use Rattle.sm_expand.specs.Cursors.{numbered_at}
 use Rattle.sm_expand.proofs.PlansWiden.{plan_stays}
 use Rattle.sm_expand.specs.declared.placed.PlacedState.{PlacedState}

@@ -2,14 +2,13 @@
 use Rattle.std.proofs.Common.{◌≡◌, inl, inr, ℕ, List, [], ◌∷◌, ◌++◌, ap, sym, subst, ◌∙◌}
 use Rattle.sm_syntax.specs.claim.ConflictFree.{Copy, O, A, B, M}
 use Rattle.sm_syntax.specs.declared.copies.PerCopy.{PerCopy}
-use Rattle.sm_term.specs.declared.symbolic.SymStore.{SymStore}
 use Rattle.sm_term.specs.Symbolic.{SymbolicStore}
 use Rattle.sm_term.specs.SymStores.{store_in}
+use Rattle.sm_term.specs.declared.symbolic.SymStore.{SymStore}
 use Rattle.sm_term.specs.Tables.{TableValue, trees_in}
 use Rattle.sm_term.specs.Terms.{Tree}
 use Rattle.sm_plan.specs.States.{State}
 use Rattle.sm_plan.specs.Views.{stores_in}
-use Rattle.sm_plan.proofs.RenewedStores.{each_copy}
 use Rattle.sm_proof.specs.Passing.{Pending, Due, Progress}
 use Rattle.sm_proof.specs.Verdicts.{Subject}
 use Rattle.sm_write.specs.Held.{IsTreeNamed, Shows, NamesStore, NamesState}
@@ -21,6 +20,7 @@ use Rattle.sm_write.proofs.BuiltStates.{With}
 use Rattle.sm_write.proofs.HeldLemmas.{tree_kept}
 use Rattle.sm_write.proofs.SeenLemmas.{seen_back}
 use Rattle.sm_write.proofs.WalkedLemmas.{extends_twice, set_later}
+use Rattle.sm_syntax.proofs.EachCopy.{each_copy}
 
 -- a state whose new values and summaries have numbers was seen
 state_seen : (trees : List Tree) (names : Names) (seen : List State) (st : State) → AreSeenNamed trees names seen →

@@ -14,15 +14,14 @@ use Rattle.sm_plan.specs.NodeLists.{above_opened}
 use Rattle.sm_plan.specs.Nodes as plan
 use Rattle.sm_plan.specs.Nodes.{Opened, opened_by}
 use Rattle.sm_plan.specs.States.{State}
-use Rattle.sm_proof.specs.declared.line.FormLine.{FormLine}
-use Rattle.sm_proof.specs.declared.line.NodeLine.{NodeLine}
+use Rattle.sm_proof.specs.Lines.{NumberedLine, Term, Form, Node, Cert}
 use Rattle.sm_proof.specs.declared.line.TermLine.{TermLine}
+use Rattle.sm_proof.specs.declared.line.NodeLine.{NodeLine}
+use Rattle.sm_proof.specs.declared.line.FormLine.{FormLine}
+use Rattle.sm_proof.specs.Named.{found_or, tested_or, and_then, named_line, named_node, node_head, line_head}
 use Rattle.sm_proof.specs.declared.word.Word.{Word}
 use Rattle.sm_proof.specs.declared.word.Word.TheVariants.{BadNumber, Deep, First}
-use Rattle.sm_proof.specs.Lines.{NumberedLine, Term, Form, Node, Cert}
-use Rattle.sm_proof.specs.Named.{found_or, tested_or, and_then, named_line, named_node, node_head, line_head}
-use Rattle.sm_proof.specs.Passing.{Pending, Due, Branch, Progress, opened_before, branches_before, term_made, form_made, taken_at}
-use Rattle.sm_proof.specs.Passing.{after_node, after_line, taken}
+use Rattle.sm_proof.specs.Passing.{Pending, Due, Branch, Progress, opened_before, branches_before, term_made, form_made, taken_at, after_node, after_line, taken}
 
 -- a line that makes a term
 pub term_step : (sorts : Sorts) (p : Progress) (due : Pending) (rest : List Pending) (line : TermLine) (t : Tree) → p.pending ≡ due ∷ rest →

@@ -1,28 +1,20 @@
 -- The state that a writer begins with is the start of its task.
-use Rattle.std.proofs.Common.{◌≡◌, Bor, Option, Some, None, is_some, option_map, refl, ap, ◌∙◌}
+use Rattle.std.proofs.Common.{◌≡◌, Bor, Option, option_map, ap, ◌∙◌}
 use Rattle.std.proofs.Math.Path.{fun_ext}
 use Rattle.std.specs.Option.{option_copied}
 use Rattle.sm_syntax.specs.claim.ConflictFree.{Copy}
 use Rattle.sm_syntax.specs.claim.Syntax.{Condition}
-use Rattle.sm_syntax.specs.declared.copies.PerCopy.{PerCopy}
-use Rattle.sm_syntax.specs.declared.tree.Block.{Block}
-use Rattle.sm_syntax.specs.declared.tree.Cond.{Cond}
 use Rattle.sm_syntax.specs.text.Parts.{sorted_outputs, task_of}
 use Rattle.sm_syntax.specs.trees.Copies.{of_copy}
+use Rattle.sm_syntax.specs.declared.copies.PerCopy.{PerCopy}
 use Rattle.sm_syntax.specs.trees.Views.{condition_of, code_of}
+use Rattle.sm_syntax.specs.declared.tree.Block.{Block}
+use Rattle.sm_syntax.specs.declared.tree.Cond.{Cond}
 use Rattle.sm_plan.specs.States.{State, start_of, start_state}
 use Rattle.sm_task.specs.Filling.{AreFilled}
-use Rattle.sm_text.specs.declared.task.Task.{Task}
 use Rattle.sm_text.specs.Tasks.{parts_of}
-
--- an assumption behind a borrow
-assumed_same : (o : Option (Bor Cond)) (a : Option Cond) → option_copied o ≡ a →
-    option_map (λ (b : Bor Cond). condition_of b.now) o ≡ option_map condition_of a
-assumed_same o a e = go o ∙ ap (option_map condition_of) e
-  where
-    go : (o : Option (Bor Cond)) → option_map (λ (b : Bor Cond). condition_of b.now) o ≡ option_map condition_of (option_copied o)
-    go None = refl
-    go (Some b) = refl
+use Rattle.sm_text.specs.declared.task.Task.{Task}
+use Rattle.sm_syntax.proofs.Assumed.{assumed_same}
 
 -- the start that was made is that of the task
 pub start_is : (task : Task) (programs : PerCopy Block) (o : Option (Bor Cond)) (st : State) → AreFilled (parts_of task) programs →
@@ -35,8 +27,3 @@ start_is task programs o st filled assumed made =
     let outputs = sorted_outputs t.declared t.outputs in
     made ∙ ap (λ (b : Option Condition). start_of b outputs (λ (c : Copy). code_of (of_copy programs c))) (assumed_same o task.assumed assumed)
     ∙ ap (start_of t.assumed outputs) (fun_ext filled)
-
--- whether something is assumed
-pub some_mapped : (a : Option Cond) → is_some (option_map condition_of a) ≡ is_some a
-some_mapped None = refl
-some_mapped (Some b) = refl

@@ -5,15 +5,14 @@ use Rattle.std.specs.declared.alloc.Global.{Global}
 use Rattle.std.proofs.lemmas.List.{drop_all, map-append, length-map}
 use Rattle.std.proofs.lemmas.Option.{same_Some}
 use Rattle.sm_syntax.specs.claim.ConflictFree.{Copy}
-use Rattle.sm_term.specs.declared.formula.Formula.{Formula}
 use Rattle.sm_term.specs.Assertions.{Assertion}
 use Rattle.sm_term.specs.Formulas.{numbered, assertion_in}
+use Rattle.sm_term.specs.declared.formula.Formula.{Formula}
 use Rattle.sm_term.specs.Tables.{TableValue, trees_in, sorts_in}
 use Rattle.sm_term.specs.TableLaws.{ExtendsTable}
 use Rattle.sm_cert.specs.Certificates.{Certificate}
-use Rattle.sm_cert.specs.declared.tree.CertTree.{CertTree}
 use Rattle.sm_cert.specs.Views.{certificate_in}
-use Rattle.sm_plan.specs.declared.opening.Opened.{Opened}
+use Rattle.sm_cert.specs.declared.tree.CertTree.{CertTree}
 use Rattle.sm_plan.specs.Limits.{is_shallow}
 use Rattle.sm_plan.specs.NodeLists.{above_opened}
 use Rattle.sm_plan.specs.Nodes as plain
@@ -21,14 +20,14 @@ use Rattle.sm_plan.specs.Nodes.{Node, opened_by}
 use Rattle.sm_plan.specs.Plans as tree
 use Rattle.sm_plan.specs.States.{State}
 use Rattle.sm_plan.specs.Views.{stores_in, state_in, opened_in, successor_in}
+use Rattle.sm_plan.specs.declared.opening.Opened.{Opened}
 use Rattle.sm_proof.specs.Passing.{Pending, Due, Progress, goal_branch, opened_before}
 use Rattle.sm_proof.specs.Verdicts.{Subject}
-use Rattle.sm_expand.specs.declared.cursor.Cursor.{Cursor}
 use Rattle.sm_expand.specs.NumberedPlans.{node_over, plans_over, head, below}
 use Rattle.sm_expand.specs.Cursors.{numbered_at}
+use Rattle.sm_expand.specs.declared.cursor.Cursor.{Cursor}
 use Rattle.sm_expand.proofs.PairsLemmas.{plan_is}
 use Rattle.sm_expand.proofs.PlansWiden.{plans_stay}
-use Rattle.sm_expand.specs.declared.placed.PlacedState.{PlacedState}
 use Rattle.sm_write.specs.GoalsWritten.{IsAt, GoalsLeft, LeavesGoals}
 use Rattle.sm_write.specs.NodesWritten.{NodeWritten}
 use Rattle.sm_write.specs.Ready.{AreClosed}
@@ -36,6 +35,7 @@ use Rattle.sm_write.specs.Seen.{IsBuilt, Seen}
 use Rattle.sm_write.specs.TreesWithin.{AreTreesWithin}
 use Rattle.sm_write.specs.Underway.{AllStandFor, IsUnderway, OpeningWritten, IsWhole}
 use Rattle.sm_expand.specs.PlacedStates.{ArePlacedReady, placed_with}
+use Rattle.sm_expand.specs.declared.placed.PlacedState.{PlacedState}
 use Rattle.sm_write.specs.Walked.{IsSet}
 use Rattle.sm_write.specs.Waiting.{Waits, due_for, each_waits, AreWaiting}
 use Rattle.sm_write.specs.Writable.{EachKept, denied}

@@ -1,19 +1,17 @@
 -- Where a writer stands after one line more.
-use Rattle.std.proofs.Common.{◌≡◌, ◌≢◌, ℕ, zero, suc, ◌<◌, ◌^◌, true, false, ◌||◌, nat_eq, Some, slice_get, Ok}
-use Rattle.std.proofs.Common.{List, [], ◌∷◌, ◌++◌, length, refl, ap, sym, subst, ◌∙◌, arith, length-append}
+use Rattle.std.proofs.Common.{◌≡◌, ◌≢◌, ℕ, suc, ◌<◌, ◌^◌, true, false, ◌||◌, nat_eq, Some, slice_get, Ok, List, [], ◌∷◌, ◌++◌, length, refl, ap, sym, subst, ◌∙◌, arith, length-append, ⊎_elim}
 use Rattle.std.specs.Map.{update}
 use Rattle.std.proofs.lemmas.Map.{update_here, update_apart}
 use Rattle.std.proofs.lemmas.Bool.{cases_Bool}
 use Rattle.std.proofs.lemmas.Bool.Decides.{Decides-eqb}
-use Rattle.std.proofs.Common.{⊎_elim}
-use Rattle.sm_term.specs.declared.term.TermId.{TermId}
 use Rattle.sm_term.specs.Assertions.{Assertion}
 use Rattle.sm_term.specs.Tables.{tree_at}
+use Rattle.sm_term.specs.declared.term.TermId.{TermId}
 use Rattle.sm_term.specs.Terms.{Tree}
-use Rattle.sm_proof.specs.declared.line.FormLine.{FormLine}
-use Rattle.sm_proof.specs.declared.line.TermLine.{TermLine}
 use Rattle.sm_proof.specs.FieldRanges.{IsTermLineWithin, IsFormLineWithin}
 use Rattle.sm_proof.specs.Lines.{ProofLine, Term, Form}
+use Rattle.sm_proof.specs.declared.line.TermLine.{TermLine}
+use Rattle.sm_proof.specs.declared.line.FormLine.{FormLine}
 use Rattle.sm_proof.specs.Passing.{Pending, Progress, term_made, form_made, taken}
 use Rattle.sm_proof.specs.Verdicts.{Subject}
 use Rattle.sm_proof.specs.Versions.{is_exact}
@@ -24,17 +22,7 @@ use Rattle.sm_write.specs.Written.{Names, AreNames}
 use Rattle.sm_write.proofs.SpellingLemmas.{term_readable, form_readable}
 use Rattle.sm_write.proofs.StepLemmas.{term_step, form_step}
 use Rattle.sm_write.proofs.TextLemmas.{leads_on}
-
--- what is in a list is there with more behind it
-pub get_more : {T : Type 0} (xs ys : List T) (n : ℕ) (x : T) → slice_get xs n ≡ Some x → slice_get (xs ++ ys) n ≡ Some x
-get_more [] ys n x e = absurd cc
-get_more (z ∷ xs) ys zero x e = e
-get_more (z ∷ xs) ys (suc n) x e = get_more xs ys n x e
-
--- the one that is put behind a list
-pub get_last : {T : Type 0} (xs : List T) (x : T) → slice_get (xs ++ x ∷ []) (length xs) ≡ Some x
-get_last [] x = refl
-get_last (z ∷ xs) x = get_last xs x
+use Rattle.sm_lemmas.proofs.Lists.{get_in_first, get_last}
 
 -- a list with one more is longer by one
 pub get_length : {T : Type 0} (xs : List T) (x : T) (ys : List T) → ys ≡ xs ++ x ∷ [] → length ys ≡ suc (length xs)
@@ -61,7 +49,7 @@ names_more trees names more terms t n are inside last few gains = record {
         (λ (s : nat_eq q t ≡ false).
         let other : q ≢ t = λ (r : q ≡ t). let true_is : nat_eq q t ≡ true = (Decides-eqb q t).1 r in absurd cc in
         let old = are.right q m (sym (gains q ∙ update_apart names t (Some n) q other) ∙ e) in
-        (old.0, get_more terms (tree_at trees t ∷ []) m.0 (tree_at trees q) old.1))
+        (old.0, get_in_first terms (tree_at trees t ∷ []) m.0 (tree_at trees q) old.1))
         (cases_Bool (nat_eq q t))
 
 -- a line that makes a term of the table

@@ -1,15 +1,14 @@
 -- A line of a certificate as it is written stands for the line, and is read back.
-use Rattle.std.proofs.Common.{◌≡◌, ℕ, ◌<◌, ◌≤◌, ◌^◌, true, Option, Some, slice_get}
-use Rattle.std.proofs.Common.{List, [], ◌∷◌, length, sym, ap, subst, ◌∙◌, arith}
+use Rattle.std.proofs.Common.{◌≡◌, ℕ, ◌<◌, ◌≤◌, ◌^◌, true, Option, Some, slice_get, List, [], ◌∷◌, length, sym, ap, subst, ◌∙◌, arith}
 use Rattle.std.proofs.lemmas.Option.{get_or_from_slice_get}
-use Rattle.sm_term.specs.declared.term.TermId.{TermId}
 use Rattle.sm_term.specs.Tables.{tree_at}
+use Rattle.sm_term.specs.declared.term.TermId.{TermId}
 use Rattle.sm_term.specs.Terms.{Tree}
-use Rattle.sm_theory.specs.declared.line.CertLine.{CertLine}
 use Rattle.sm_theory.specs.declared.line.CertLine.TheVariants as line
 use Rattle.sm_theory.specs.Lines.{CertificateLine}
 use Rattle.sm_theory.specs.Named.{facts_named, reads_all, is_split}
 use Rattle.sm_theory.specs.Views.{line_in}
+use Rattle.sm_theory.specs.declared.line.CertLine.{CertLine}
 use Rattle.sm_theory.proofs.LinesOver.{facts_with, reads_with, splits_with, with_twice, with_same, each_with, each_more}
 use Rattle.sm_proof.specs.FieldRanges.{AreNumbers, numbers_of}
 use Rattle.sm_proof.specs.Lines.{Cert, numbered_line}
@@ -18,8 +17,9 @@ use Rattle.sm_proof.proofs.NamedKept.{named_from}
 use Rattle.sm_prune.specs.Texts.{IsReadable}
 use Rattle.sm_write.specs.Writable.{AreShortNumbers, IsShortLine}
 use Rattle.sm_write.specs.Written.{Names, AreNames, number_or, number_at, file_number, IsNumbered, IsNamed, written, IsLineNamed}
-use Rattle.sm_write.proofs.FactsThere.{get_below, AreStepsShort}
+use Rattle.sm_write.proofs.FactsThere.{AreStepsShort}
 use Rattle.sm_write.proofs.SpellingLemmas.{short_cert, numbers_few}
+use Rattle.sm_lemmas.proofs.Lists.{below_if_got}
 
 -- the number of a term leads to it
 pub number_leads : (trees : List Tree) (names : Names) (terms : List Tree) → AreNames trees names terms → (t : TermId) → IsNamed names t →
@@ -31,7 +31,7 @@ number_leads trees names terms are t h =
 pub number_short : (trees : List Tree) (names : Names) (terms : List Tree) → AreNames trees names terms → (t : TermId) → IsNamed names t →
     file_number names t < 2 ^ 63
 number_short trees names terms are t h =
-    let below = get_below terms (file_number names t) (tree_at trees t.0) (number_leads trees names terms are t h) in
+    let below = below_if_got terms (file_number names t) (tree_at trees t.0) (number_leads trees names terms are t h) in
     let few = are.few in
     omega (arith, below, few)
 
@@ -46,7 +46,7 @@ written_names trees names terms are count l h e =
     named_from terms count (written names l)
     (each_with (λ (n : ℕ). n < length terms) (number_at names) line
     (each_more (IsNumbered names) (λ (t : ℕ). number_at names t < length terms) line
-    (λ (t : ℕ) (is : IsNumbered names t). get_below terms (number_at names t) (tree_at trees t) (leads t is)) h))
+    (λ (t : ℕ) (is : IsNumbered names t). below_if_got terms (number_at names t) (tree_at trees t) (leads t is)) h))
     (ap (are_there count) (facts_with (number_at names) line ∙ sym (facts_with (tree_at trees) line)) ∙ e)
     ∙ ap (λ (x : CertificateLine). Some x)
     (with_twice (tree_at terms) (number_at names) line

@@ -2,8 +2,8 @@
 -- their arguments, and what each read of a written array reads before the write. Where what the
 -- branch compares can be named after states, so can they.
 use Rattle.std.specs.Prelude.{◌≡◌, ℕ, Some, Bool, List, [], ◌∷◌, ◌++◌, slice_get}
-use Rattle.sm_syntax.specs.declared.tree.Sort.TheVariants.{Num, Arr}
 use Rattle.sm_syntax.specs.text.Sorts.{Sorts}
+use Rattle.sm_syntax.specs.declared.tree.Sort.TheVariants.{Num, Arr}
 use Rattle.sm_term.specs.Terms.{Tree, Read, Write}
 use Rattle.sm_term.specs.Assertions.{Assertion, negate}
 use Rattle.sm_term.specs.Heads.{arguments_of}

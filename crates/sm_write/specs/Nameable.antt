@@ -2,9 +2,9 @@
 -- each is a literal, a start, a slot or the cell, stands in a state, is an argument of another, or is
 -- an operation on others.
 use Rattle.std.specs.Prelude.{◌≡◌, ℕ, ℤ, IsTrue, Bool, List, [], ◌∷◌}
-use Rattle.sm_syntax.specs.declared.tree.Sort.TheVariants.{Num, Arr}
 use Rattle.sm_syntax.specs.claim.ConflictFree.{Copy}
 use Rattle.sm_syntax.specs.text.Sorts.{Sorts}
+use Rattle.sm_syntax.specs.declared.tree.Sort.TheVariants.{Num, Arr}
 use Rattle.sm_term.specs.Terms.{Tree, Lit, Start, Slot, Cell, Read, Write, Neg, Add, Sub, Mul}
 use Rattle.sm_term.specs.Assertions.{Assertion, Yes, No, Eq, Ne, Le, Lt, And, Or}
 use Rattle.sm_term.specs.Heads.{arguments_of}

@@ -1,21 +1,21 @@
 -- Private: the lines of a node.
 use Rattle.std.specs.Prelude.{◌≡◌, ℕ, suc, true, Some, slice_get, List, [], ◌∷◌, ◌++◌}
 use Rattle.sm_syntax.specs.claim.ConflictFree.{Copy}
-use Rattle.sm_syntax.specs.declared.copies.PerCopy.{PerCopy}
 use Rattle.sm_syntax.specs.text.Sorts.{Sorts}
 use Rattle.sm_syntax.specs.trees.Copies.{copy_named, number_of}
+use Rattle.sm_syntax.specs.declared.copies.PerCopy.{PerCopy}
 use Rattle.sm_term.specs.declared.symbolic.SymStore.{SymStore}
 use Rattle.sm_term.specs.Assertions.{Assertion}
 use Rattle.sm_term.specs.Formulas.{numbered, assertion_in}
 use Rattle.sm_term.specs.Tables.{TableValue, trees_in, sorts_in}
 use Rattle.sm_term.specs.Terms.{Tree}
-use Rattle.sm_plan.specs.declared.node.NodeRow.{NodeRow}
 use Rattle.sm_plan.specs.declared.node.NodeRow.TheVariants as row
 use Rattle.sm_plan.specs.Limits.{is_shallow}
 use Rattle.sm_plan.specs.NodeLists.{above_opened}
 use Rattle.sm_plan.specs.Nodes.{Opened, opened_by}
 use Rattle.sm_plan.specs.States.{State}
 use Rattle.sm_plan.specs.Views.{node_in, stores_in}
+use Rattle.sm_plan.specs.declared.node.NodeRow.{NodeRow}
 use Rattle.sm_proof.specs.declared.line.NodeLine.{NodeLine}
 use Rattle.sm_proof.specs.declared.line.NodeLine.TheVariants as node
 use Rattle.sm_proof.specs.Passing.{Pending, Due, Progress, opened_before}

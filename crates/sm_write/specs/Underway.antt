@@ -3,19 +3,19 @@ use Rattle.std.specs.Prelude.{◌≡◌, ℕ, ◌+◌, None, List, [], ◌∷◌
 use Rattle.std.specs.declared.alloc.Global.{Global}
 use Rattle.sm_term.specs.Assertions.{Assertion}
 use Rattle.sm_term.specs.Tables.{TableValue, trees_in, sorts_in}
-use Rattle.sm_cert.specs.declared.tree.CertTree.{CertTree}
 use Rattle.sm_cert.specs.Views.{certificate_in}
-use Rattle.sm_plan.specs.declared.node.NodeRow.{NodeRow}
-use Rattle.sm_plan.specs.declared.opening.Opened.{Opened}
-use Rattle.sm_plan.specs.declared.opening.Successor.{Successor}
+use Rattle.sm_cert.specs.declared.tree.CertTree.{CertTree}
 use Rattle.sm_plan.specs.ReadyStates.{IsStateReady}
+use Rattle.sm_plan.specs.declared.opening.Successor.{Successor}
 use Rattle.sm_plan.specs.States.{State}
 use Rattle.sm_plan.specs.Views.{node_in, state_in}
+use Rattle.sm_plan.specs.declared.node.NodeRow.{NodeRow}
+use Rattle.sm_plan.specs.declared.opening.Opened.{Opened}
 use Rattle.sm_proof.specs.Passing.{Progress, start_progress}
 use Rattle.sm_proof.specs.Verdicts.{Subject}
-use Rattle.sm_expand.specs.declared.cursor.Cursor.{Cursor}
 use Rattle.sm_expand.specs.NumberedPlans.{node_over, plan_over, IsPlanReady, head}
 use Rattle.sm_expand.specs.Cursors.{numbered_at}
+use Rattle.sm_expand.specs.declared.cursor.Cursor.{Cursor}
 use Rattle.sm_expand.specs.Opens.{OpensAs}
 use Rattle.sm_expand.specs.declared.placed.PlacedState.{PlacedState}
 use Rattle.sm_write.specs.GoalsWritten.{IsAt}

@@ -1,7 +1,7 @@
 -- Private: a writer that writes the lines of a term, parts first.
 use Rattle.std.specs.Prelude.{◌≡◌, ℕ, Some, List, [], ◌∷◌}
-use Rattle.sm_term.specs.declared.term.TermId.{TermId}
 use Rattle.sm_term.specs.Tables.{TableValue, trees_in, sorts_in, tree_at}
+use Rattle.sm_term.specs.declared.term.TermId.{TermId}
 use Rattle.sm_term.specs.Terms.{Tree}
 use Rattle.sm_plan.specs.States.{State}
 use Rattle.sm_proof.specs.Passing.{Progress}

@@ -1,7 +1,8 @@
 -- The abstract syntax of programs: expressions, conditions and code. Public clauses cite it.
 -- Names are numbers.
 use Rattle.std.specs.Prelude.{ℕ, ℤ}
-use Rattle.sm_syntax.specs.declared.tree.Cmp.{Cmp}
+pub use Rattle.sm_syntax.specs.declared.tree.Cmp.{Cmp}
+pub use Rattle.sm_syntax.specs.declared.tree.Cmp.TheVariants.{Eq, Ge, Gt, Le, Lt, Ne}
 
 -- an expression: a literal, a variable, an element of an array, or an operation
 pub data Expression : Type 0 where

@@ -1,12 +1,9 @@
 -- The grammar of conditions, over symbols. Public clauses cite it.
 -- Over each constructor stands the production that it is.
 use Rattle.std.specs.Prelude.{ℕ, suc, List, [], ◌∷◌, ◌++◌}
-use Rattle.sm_syntax.specs.declared.symbol.Mark.{Mark}
 use Rattle.sm_syntax.specs.declared.symbol.Mark.TheVariants as mark
-use Rattle.sm_syntax.specs.declared.tree.Cmp.{Cmp}
-use Rattle.sm_syntax.specs.declared.tree.Cmp.TheVariants.{Eq, Ne, Lt, Le, Gt, Ge}
-use Rattle.sm_syntax.specs.claim.Syntax.{Expression, Condition, Yes, No, Compare, Not, And, Or}
-use Rattle.sm_syntax.specs.text.MarkedSymbols.{Marked, word, opens, joins}
+use Rattle.sm_syntax.specs.claim.Syntax.{Expression, Condition, Yes, No, Compare, Not, And, Or, Cmp, Eq, Ne, Lt, Le, Gt, Ge}
+use Rattle.sm_syntax.specs.text.MarkedSymbols.{Marked, word, opens, joins, Mark}
 use Rattle.sm_syntax.specs.text.ExpressionGrammar.{Sum, IsExpression}
 
 -- the sign of a comparison

@@ -1,18 +1,13 @@
 -- The conditions on a task that the grammar spells. Public clauses cite them.
 -- The first that fails, in the order of this file, refuses the task.
-use Rattle.std.specs.Prelude.{ℕ, ◌+◌, ◌==◌, nat_lt, Bool, not, if◌then◌else◌, Option, Some, None}
-use Rattle.std.specs.Prelude.{option_map, List, [], ◌∷◌, ◌++◌, find, length, map, max}
+use Rattle.std.specs.Prelude.{ℕ, ◌+◌, ◌==◌, nat_lt, Bool, not, if◌then◌else◌, Option, Some, None, option_map, List, [], ◌∷◌, ◌++◌, find, length, map, max}
 use Rattle.std.specs.List.{list_any, flat_map}
 use Rattle.std.specs.Option.{option_or}
-use Rattle.sm_syntax.specs.declared.tree.Sort.{Sort}
-use Rattle.sm_syntax.specs.declared.tree.Sort.TheVariants.{Num, Arr}
-use Rattle.sm_syntax.specs.claim.Syntax.{Expression, Lit, Var, Read, Neg, Plus, Minus, Times}
-use Rattle.sm_syntax.specs.claim.Syntax.{Condition, Yes, No, Compare, Not, And, Or}
-use Rattle.sm_syntax.specs.claim.Syntax.{Code, End, Skip, Assign, Write, If, While, Hole}
+use Rattle.sm_syntax.specs.claim.Syntax.{Expression, Lit, Var, Read, Neg, Plus, Minus, Times, Condition, Yes, No, Compare, Not, And, Or, Code, End, Skip, Assign, Write, If, While, Hole}
 use Rattle.sm_syntax.specs.claim.Fill.{Fillings, fill}
 use Rattle.sm_syntax.specs.claim.ConflictFree.{Copy, O, A, B, M}
 use Rattle.sm_syntax.specs.text.Parts.{Parts, sort_of}
-use Rattle.sm_syntax.specs.text.Sorts.{Sorts}
+use Rattle.sm_syntax.specs.text.Sorts.{Sorts, Sort, Num, Arr}
 use Rattle.sm_syntax.specs.text.Uses.{names_tested, names_used}
 
 -- where a hole stands: in the shared program, or in the list of a copy

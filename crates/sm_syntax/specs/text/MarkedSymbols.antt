@@ -2,9 +2,10 @@
 -- The grammar has no limit on nesting: each symbol carries whether it nests too deep there, and in
 -- the text of a task none does.
 use Rattle.std.specs.Prelude.{ℕ, Bool, false, nat_le}
-use Rattle.sm_syntax.specs.declared.symbol.Mark.{Mark}
-use Rattle.sm_syntax.specs.declared.symbol.Symbol.{Symbol}
+pub use Rattle.sm_syntax.specs.declared.symbol.Mark.{Mark}
+pub use Rattle.sm_syntax.specs.declared.symbol.Symbol.{Symbol}
 use Rattle.sm_syntax.specs.declared.symbol.Symbol.TheVariants as s
+pub use Rattle.sm_syntax.specs.declared.symbol.Mark.TheVariants.{Semicolon}
 
 -- a symbol, and whether it nests too deep
 abbrev pub Marked : Type 0

@@ -1,8 +1,9 @@
 -- Sorts: where each name stands as what it is declared. Public clauses cite them.
 use Rattle.std.specs.Prelude.{◌≡◌, ℕ, Option, Some}
-use Rattle.sm_syntax.specs.declared.tree.Sort.{Sort}
+pub use Rattle.sm_syntax.specs.declared.tree.Sort.{Sort}
 use Rattle.sm_syntax.specs.claim.Syntax.{Expression, Condition, Code}
 use Rattle.sm_syntax.specs.text.Uses.{EachName, EachTested, EachUsed}
+pub use Rattle.sm_syntax.specs.declared.tree.Sort.TheVariants.{Arr, Num}
 
 -- declarations: the sort of each declared name
 abbrev pub Sorts : Type 0

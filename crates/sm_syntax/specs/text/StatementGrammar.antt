@@ -4,8 +4,7 @@ use Rattle.std.specs.Prelude.{ℕ, suc, pos, ◌≤◌, List, [], ◌∷◌, ◌
 use Rattle.sm_syntax.specs.declared.symbol.Mark.TheVariants as mark
 use Rattle.sm_syntax.specs.declared.symbol.Symbol.TheVariants as s
 use Rattle.sm_syntax.specs.declared.tree.Name.{Name}
-use Rattle.sm_syntax.specs.claim.Syntax.{Expression, Condition}
-use Rattle.sm_syntax.specs.claim.Syntax.{Code, End, Skip, Assign, Write, If, While, Hole}
+use Rattle.sm_syntax.specs.claim.Syntax.{Expression, Condition, Code, End, Skip, Assign, Write, If, While, Hole}
 use Rattle.sm_syntax.specs.text.MarkedSymbols.{Marked, plain, word, opens}
 use Rattle.sm_syntax.specs.text.ExpressionGrammar.{Sum, IsExpression}
 use Rattle.sm_syntax.specs.text.ConditionGrammar.{Disjunction, IsCondition}

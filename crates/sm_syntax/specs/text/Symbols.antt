@@ -1,7 +1,6 @@
 -- The symbols of a text: what the grammar sees of its tokens. Public clauses cite them.
 -- A name stands as a number, by first appearance.
-use Rattle.std.specs.Prelude.{ℕ, pos, Bool, false, not, if◌then◌else◌, Option, Some, None, is_some}
-use Rattle.std.specs.Prelude.{List, [], ◌∷◌, ◌++◌, map, take, drop}
+use Rattle.std.specs.Prelude.{ℕ, pos, Bool, false, not, if◌then◌else◌, Option, Some, None, is_some, List, [], ◌∷◌, ◌++◌, map, take, drop}
 use Rattle.std.specs.List.{list_any, position_or_len}
 use Rattle.std.specs.Str.{bytes_eq}
 use Rattle.std.specs.Str.Parse.{digits_value}
@@ -9,10 +8,7 @@ use Rattle.sm_syntax.specs.declared.symbol.Mark.{Mark}
 use Rattle.sm_syntax.specs.declared.symbol.Mark.TheVariants.{Semicolon}
 use Rattle.sm_syntax.specs.declared.symbol.Symbol.{Symbol}
 use Rattle.sm_syntax.specs.declared.symbol.Symbol.TheVariants as s
-use Rattle.sm_syntax.specs.declared.token.Token.{Token}
-use Rattle.sm_syntax.specs.declared.token.TokenKind.{TokenKind}
-use Rattle.sm_syntax.specs.declared.token.TokenKind.TheVariants.{Word, Number, Sign}
-use Rattle.sm_syntax.specs.text.Tokens.{mark_of_word, mark_of_sign, lexed}
+use Rattle.sm_syntax.specs.text.Tokens.{mark_of_word, mark_of_sign, lexed, TokenKind, Word, Number, Sign, Token}
 
 -- the bytes of a token
 abbrev pub text_of : List ℕ → Token → List ℕ

@@ -1,7 +1,6 @@
 -- The grammar of tasks, over symbols. Public clauses cite it.
 -- Over each constructor stands the production that it is.
 use Rattle.std.specs.Prelude.{ℕ, pos, Option, Some, None, List, [], ◌∷◌, ◌++◌, map}
-use Rattle.sm_syntax.specs.declared.symbol.Mark.{Mark}
 use Rattle.sm_syntax.specs.declared.symbol.Mark.TheVariants as mark
 use Rattle.sm_syntax.specs.declared.symbol.Symbol.TheVariants as s
 use Rattle.sm_syntax.specs.declared.tree.Name.{Name}
@@ -11,7 +10,7 @@ use Rattle.sm_syntax.specs.claim.Syntax.{Condition, Code}
 use Rattle.sm_syntax.specs.claim.Fill.{Fillings}
 use Rattle.sm_syntax.specs.claim.ConflictFree.{O, A, B, M}
 use Rattle.sm_syntax.specs.text.Parts.{Parts}
-use Rattle.sm_syntax.specs.text.MarkedSymbols.{Marked, plain, word, opens}
+use Rattle.sm_syntax.specs.text.MarkedSymbols.{Marked, plain, word, opens, Mark}
 use Rattle.sm_syntax.specs.text.ConditionGrammar.{Disjunction, IsCondition}
 use Rattle.sm_syntax.specs.text.StatementGrammar.{IsHoleNumber, IsBlock}
 

@@ -1,21 +1,20 @@
 -- The tokens of a text. Public clauses cite them.
 -- Between them stand white space and comments alone, and each token is the longest that fits. A
 -- comment runs from `#` to the end of its line.
-use Rattle.std.specs.Prelude.{ℕ, zero, suc, ◌+◌, ◌-◌, ◌^◌, ◌==◌, nat_lt, nat_le, Bool, not, ◌&&◌}
-use Rattle.std.specs.Prelude.{◌||◌, if◌then◌else◌, Option, Some, None, is_some, option_map, List}
-use Rattle.std.specs.Prelude.{[], ◌∷◌, find, length, take, codes}
+use Rattle.std.specs.Prelude.{ℕ, zero, suc, ◌+◌, ◌-◌, ◌^◌, ◌==◌, nat_lt, nat_le, Bool, not, ◌&&◌, ◌||◌, if◌then◌else◌, Option, Some, None, is_some, option_map, List, [], ◌∷◌, find, length, take, codes}
 use Rattle.std.specs.Char.{is_ascii_digit, is_ascii_alphabetic, is_ascii_alphanumeric}
 use Rattle.std.specs.List.{prefix_len}
 use Rattle.std.specs.Str.{bytes_eq}
 use Rattle.std.specs.Str.Parse.{digits_value}
 use Rattle.sm_syntax.specs.declared.symbol.Mark.{Mark}
 use Rattle.sm_syntax.specs.declared.symbol.Mark.TheVariants as mark
-use Rattle.sm_syntax.specs.declared.token.LexFault.{LexFault}
-use Rattle.sm_syntax.specs.declared.token.LexKind.{LexKind}
-use Rattle.sm_syntax.specs.declared.token.LexKind.TheVariants.{BadByte, BadToken, WideNumber}
-use Rattle.sm_syntax.specs.declared.token.Token.{Token}
-use Rattle.sm_syntax.specs.declared.token.TokenKind.{TokenKind}
+pub use Rattle.sm_syntax.specs.declared.token.LexFault.{LexFault}
+pub use Rattle.sm_syntax.specs.declared.token.LexKind.{LexKind}
+pub use Rattle.sm_syntax.specs.declared.token.LexKind.TheVariants.{BadByte, BadToken, WideNumber}
+pub use Rattle.sm_syntax.specs.declared.token.Token.{Token}
+pub use Rattle.sm_syntax.specs.declared.token.TokenKind.{TokenKind}
 use Rattle.sm_syntax.specs.declared.token.TokenKind.TheVariants as kind
+pub use Rattle.sm_syntax.specs.declared.token.TokenKind.TheVariants.{Number, Sign, Word}
 
 -- white space: a space, a tab, a line feed or a carriage return
 abbrev pub is_space : ℕ → Bool

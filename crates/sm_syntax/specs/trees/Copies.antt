@@ -5,7 +5,7 @@ use Rattle.sm_syntax.specs.claim.ConflictFree.{Copy, O, A, B, M}
 use Rattle.sm_syntax.specs.text.Parts.{by_copy}
 use Rattle.sm_syntax.specs.declared.copies.CopyName.{CopyName}
 use Rattle.sm_syntax.specs.declared.copies.CopyName.TheVariants as name
-use Rattle.sm_syntax.specs.declared.copies.PerCopy.{PerCopy}
+pub use Rattle.sm_syntax.specs.declared.copies.PerCopy.{PerCopy}
 
 -- the copy that a name names
 abbrev pub copy_named : CopyName → Copy

@@ -3,13 +3,16 @@
 use Rattle.std.specs.Prelude.{List, [], ◌∷◌}
 use Rattle.sm_syntax.specs.declared.tree.Expr.{Expr}
 use Rattle.sm_syntax.specs.declared.tree.Expr.TheVariants.{Num, Var, Read', Neg', Add', Sub', Mul'}
-use Rattle.sm_syntax.specs.declared.tree.Cond.{Cond}
+pub use Rattle.sm_syntax.specs.declared.tree.Cond.{Cond, And, Or}
 use Rattle.sm_syntax.specs.declared.tree.Cond.TheVariants.{Yes, No, Cmp, Not', And', Or'}
-use Rattle.sm_syntax.specs.declared.tree.Stmt.{Stmt, Stmt-F, fold-Stmt}
+use Rattle.sm_syntax.specs.declared.tree.Stmt.{fold-Stmt}
+pub use Rattle.sm_syntax.specs.declared.tree.Stmt.{Stmt, fold-roll-Stmt, fold_out-Stmt, size-Stmt, Assign, Stmt-F, Store}
 use Rattle.sm_syntax.specs.declared.tree.Stmt.TheOpen as layer
-use Rattle.sm_syntax.specs.declared.tree.Block.{Block, Block-F, fold-Block}
+use Rattle.sm_syntax.specs.declared.tree.Block.{Block-F, fold-Block}
+pub use Rattle.sm_syntax.specs.declared.tree.Block.{Block, fold_out-Block, size-Block}
 use Rattle.sm_syntax.specs.claim.Syntax as plain
 use Rattle.sm_syntax.specs.claim.Syntax.{Expression, Condition, Code}
+pub use Rattle.sm_syntax.specs.declared.tree.Stmt.TheVariants.{rolls-Assign, rolls-Hole, rolls-If, rolls-Skip, rolls-Store, rolls-While}
 
 -- the expression that a tree stands for
 abbrev pub expression_of : Expr → Expression

@@ -1,23 +1,18 @@
 -- The tokens of a text are those into which it is cut.
-use Rattle.std.proofs.Common.{◌≡◌, ℕ, zero, suc, ◌+◌, ◌<◌, Bool, true, false, true≢false, not, ◌||◌, Option, Some, None, is_some, List, []}
-use Rattle.std.proofs.Common.{◌∷◌, ◌++◌, length, length-append, nat_le, refl, sym, ap, subst, ◌∙◌, arith}
+use Rattle.std.proofs.Common.{◌≡◌, ℕ, zero, suc, ◌+◌, ◌<◌, Bool, true, false, true≢false, not, ◌||◌, Option, Some, None, is_some, List, [], ◌∷◌, ◌++◌, length, length-append, nat_le, refl, sym, ap, subst, ◌∙◌, arith}
 use Rattle.std.specs.Char.{is_ascii_digit}
 use Rattle.std.specs.List.{list_all}
+use Rattle.sm_syntax.specs.text.Tokens.{Front, Gap, Piece, Fault, Lexed, front_of, sign_at, is_space, is_hash, is_in_line, is_word_start, is_word_byte, mark_of_sign, by_front, with_token, lexed_after, lexed_from, lexed}
+use Rattle.sm_syntax.specs.declared.token.TokenKind.{TokenKind}
+use Rattle.sm_syntax.specs.declared.token.TokenKind.TheVariants.{Word, Number, Sign}
+use Rattle.sm_syntax.specs.declared.token.Token.{Token}
 use Rattle.sm_syntax.specs.declared.token.LexFault.{LexFault}
 use Rattle.sm_syntax.specs.declared.token.LexKind.{LexKind}
 use Rattle.sm_syntax.specs.declared.token.LexKind.TheVariants.{BadByte, BadToken, WideNumber}
-use Rattle.sm_syntax.specs.declared.token.Token.{Token}
-use Rattle.sm_syntax.specs.declared.token.TokenKind.{TokenKind}
-use Rattle.sm_syntax.specs.declared.token.TokenKind.TheVariants.{Word, Number, Sign}
-use Rattle.sm_syntax.specs.text.Tokens.{Front, Gap, Piece, Fault, Lexed, front_of, sign_at, is_space, is_hash, is_in_line, is_word_start}
-use Rattle.sm_syntax.specs.text.Tokens.{is_word_byte, mark_of_sign, by_front, with_token, lexed_after, lexed_from, lexed}
-use Rattle.sm_text.specs.lexing.Cutting.{begins, IsToken, Ends, IsStuck, is_half, HasNumber, IsFaultOf, IsCutInto, end, space, comment}
-use Rattle.sm_text.specs.lexing.Cutting.{token, fault}
+use Rattle.sm_text.specs.lexing.Cutting.{begins, IsToken, Ends, IsStuck, is_half, HasNumber, IsFaultOf, IsCutInto, end, space, comment, token, fault}
 use Rattle.sm_text.specs.Laws.{TokensAreCut}
-use Rattle.sm_text.proofs.RoundTrip.PieceTokens.{lexed_from-cons, behind_first, lexed-token, front-space, front-word, front-number}
-use Rattle.sm_text.proofs.RoundTrip.PieceTokens.{front-two, and-false, run_of}
-use Rattle.sm_text.proofs.Cut.Standing.{Stands, a_space, a_comment, a_token, a_fault, stands, opens_sign, is_sign_text, sign_text}
-use Rattle.sm_text.proofs.Cut.Standing.{first_of_text, number_begins, digit_in_word, or-left}
+use Rattle.sm_text.proofs.RoundTrip.PieceTokens.{lexed_from-cons, behind_first, lexed-token, front-space, front-word, front-number, front-two, and-false, run_of}
+use Rattle.sm_text.proofs.Cut.Standing.{Stands, a_space, a_comment, a_token, a_fault, stands, opens_sign, is_sign_text, sign_text, first_of_text, number_begins, digit_in_word, or-left}
 
 -- the front of any bytes; of no bytes it says nothing
 abbrev pub front : List ℕ → Front

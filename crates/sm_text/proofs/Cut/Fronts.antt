@@ -1,6 +1,5 @@
 -- Runs of bytes at the front of a text, and the numbers that digits write.
-use Rattle.std.proofs.Common.{◌≡◌, ℕ, ◌+◌, ◌*◌, ◌<◌, ◌≤◌, ◌^◌, ◌-◌, nat_lt, Bool, true, false, List, length, take, get_or, ap, ◌∙◌}
-use Rattle.std.proofs.Common.{get_or-take, length-take, arith}
+use Rattle.std.proofs.Common.{◌≡◌, ℕ, ◌+◌, ◌*◌, ◌<◌, ◌≤◌, ◌^◌, ◌-◌, nat_lt, Bool, true, false, List, length, take, get_or, ap, ◌∙◌, get_or-take, length-take, arith}
 use Rattle.std.proofs.lemmas.Bool.Decides.{nat_tests}
 use Rattle.std.proofs.lemmas.List.Sums.{prefix_len_passes}
 use Rattle.std.proofs.lemmas.Int.Digits.{digits_value_more}

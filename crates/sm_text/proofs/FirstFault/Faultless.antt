@@ -1,17 +1,14 @@
 -- A text in the grammar has no fault: its symbols can go on up to the end, are something whole, and nest nowhere too deep.
-use Rattle.std.proofs.Common.{◌≡◌, ℕ, refl, sym, ap, ◌∙◌, subst, Option, Some, None, Result, Ok, Err, List, [], ◌∷◌, ◌++◌, map}
-use Rattle.std.proofs.Common.{append_assoc}
+use Rattle.std.proofs.Common.{◌≡◌, ℕ, refl, sym, ap, ◌∙◌, subst, Option, Some, None, Result, Ok, Err, List, [], ◌∷◌, ◌++◌, map, append_assoc}
 use Rattle.std.proofs.lemmas.List.{append-nil, map-append}
-use Rattle.sm_syntax.specs.declared.symbol.Symbol.{Symbol}
 use Rattle.sm_syntax.specs.declared.token.Token.{Token}
 use Rattle.sm_syntax.specs.text.MarkedSymbols.{plain}
+use Rattle.sm_syntax.specs.declared.symbol.Symbol.{Symbol}
 use Rattle.sm_syntax.specs.text.Parts.{Parts}
 use Rattle.sm_syntax.specs.text.Spells.{IsInGrammar}
 use Rattle.sm_syntax.specs.text.Symbols.{names_of, symbols_of}
-use Rattle.sm_text.specs.declared.error.TextError.{TextError}
 use Rattle.sm_text.specs.declared.error.TextError.TheVariants as error
-use Rattle.sm_text.specs.parsing.Places.{Source, AreTasks, IsViable, IsWhole, IsUnexpected, NestsTooDeep, Stands, at_token, at_end, IsFault}
-use Rattle.sm_text.specs.parsing.Places.{all_symbols, whole_text}
+use Rattle.sm_text.specs.parsing.Places.{Source, AreTasks, IsViable, IsWhole, IsUnexpected, NestsTooDeep, Stands, at_token, at_end, IsFault, all_symbols, whole_text, TextError}
 use Rattle.sm_text.specs.rules.Reading as r
 use Rattle.sm_text.proofs.Complete.Parsers.{unmarked-plain}
 use Rattle.sm_text.proofs.Complete.Tasks.{spelled_read}

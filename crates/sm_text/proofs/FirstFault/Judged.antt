@@ -1,8 +1,8 @@
 -- The readings of tasks and of programs judge by their grammars.
 use Rattle.std.proofs.Common.{ℕ, sym, ◌≡◌, subst, Ok, List, [], map}
 use Rattle.std.proofs.lemmas.List.{append-nil}
-use Rattle.sm_syntax.specs.declared.symbol.Symbol.{Symbol}
 use Rattle.sm_syntax.specs.text.MarkedSymbols.{Marked, plain}
+use Rattle.sm_syntax.specs.declared.symbol.Symbol.{Symbol}
 use Rattle.sm_syntax.specs.text.TaskGrammar.{IsTask, task}
 use Rattle.sm_syntax.specs.text.Parts.{Parts}
 use Rattle.sm_text.specs.parsing.Fragments.{IsProgram, program}

@@ -3,9 +3,8 @@ use Rattle.std.proofs.Common.{◌≡◌, ℕ, sym, ap, ◌∙◌, arith, Some}
 use Rattle.sm_syntax.specs.declared.token.LexFault.{LexFault}
 use Rattle.sm_syntax.specs.declared.token.LexKind.{LexKind}
 use Rattle.sm_syntax.specs.declared.token.LexKind.TheVariants as kind
-use Rattle.sm_text.specs.declared.error.TextError.{TextError}
 use Rattle.sm_text.specs.declared.error.TextError.TheVariants as error
-use Rattle.sm_text.specs.parsing.Places.{Grammar, Source, IsFault, place_of, rank_of}
+use Rattle.sm_text.specs.parsing.Places.{Grammar, Source, IsFault, place_of, rank_of, TextError}
 use Rattle.sm_text.specs.Laws.{OneFirstFault}
 
 -- the error of a lexical fault

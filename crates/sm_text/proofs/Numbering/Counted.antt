@@ -1,6 +1,5 @@
 -- The names of the first tokens of a list stand first among the names of all, and their symbols count them.
-use Rattle.std.proofs.Common.{◌≡◌, ℕ, ◌+◌, ◌-◌, ◌<◌, ◌==◌, Bool, true, false, cond, not, ◌||◌, Option, Some, None, is_some, List, [], ◌∷◌}
-use Rattle.std.proofs.Common.{◌++◌, map, length, take, drop, refl, sym, ap, ap₂, ◌∙◌, true≢false, if◌then◌else◌, arith}
+use Rattle.std.proofs.Common.{◌≡◌, ℕ, ◌+◌, ◌-◌, ◌<◌, ◌==◌, Bool, true, false, cond, not, ◌||◌, Option, Some, None, is_some, List, [], ◌∷◌, ◌++◌, map, length, take, drop, refl, sym, ap, ap₂, ◌∙◌, true≢false, if◌then◌else◌, arith}
 use Rattle.std.proofs.Math.Seq.{take-append_seam}
 use Rattle.std.proofs.lemmas.Bool.Decides.{nat_tests}
 use Rattle.std.proofs.lemmas.List.{length_push, length-map, length-drop, map-append, take-append-drop, take-map}
@@ -10,11 +9,11 @@ use Rattle.sm_syntax.specs.declared.symbol.Mark.{Mark}
 use Rattle.sm_syntax.specs.declared.symbol.Mark.TheVariants.{Semicolon}
 use Rattle.sm_syntax.specs.declared.symbol.Symbol.{Symbol}
 use Rattle.sm_syntax.specs.declared.symbol.Symbol.TheVariants as s
-use Rattle.sm_syntax.specs.declared.token.Token.{Token}
-use Rattle.sm_syntax.specs.declared.token.TokenKind.{TokenKind}
-use Rattle.sm_syntax.specs.declared.token.TokenKind.TheVariants.{Word, Number, Sign}
 use Rattle.sm_syntax.specs.text.Symbols.{text_of, is_among, with_text, names_after, mark_or, symbol_by, symbol_of}
 use Rattle.sm_syntax.specs.text.Tokens.{mark_of_word, mark_of_sign}
+use Rattle.sm_syntax.specs.declared.token.TokenKind.{TokenKind}
+use Rattle.sm_syntax.specs.declared.token.TokenKind.TheVariants.{Word, Number, Sign}
+use Rattle.sm_syntax.specs.declared.token.Token.{Token}
 use Rattle.sm_syntax.proofs.Numbering.{with_text-among, with_text-new, number-last}
 use Rattle.sm_text.specs.parsing.BlockTokens.{token_symbols}
 use Rattle.sm_text.specs.parsing.Fragments.{IsKnown}

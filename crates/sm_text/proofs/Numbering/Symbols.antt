@@ -1,6 +1,5 @@
 -- The symbols of the tokens so far, where the names are numbered as in the whole text.
-use Rattle.std.proofs.Common.{◌≡◌, ℕ, ◌+◌, ◌<◌, ◌≤◌, Bool, true, false, not, List, [], ◌∷◌, ◌++◌, map, length, take, drop, get_or, Option}
-use Rattle.std.proofs.Common.{Some, None, is_some, Result, Ok, Err, if◌then◌else◌, refl, sym, ap, ◌∙◌, append_assoc, append-nil}
+use Rattle.std.proofs.Common.{◌≡◌, ℕ, ◌+◌, ◌<◌, ◌≤◌, Bool, true, false, not, List, [], ◌∷◌, ◌++◌, map, length, take, drop, get_or, Option, Some, None, is_some, Result, Ok, Err, if◌then◌else◌, refl, sym, ap, ◌∙◌, append_assoc, append-nil}
 use Rattle.std.proofs.Common.{take-append-drop, take_all}
 use Rattle.std.proofs.Math.Seq.{take-append_seam}
 use Rattle.std.proofs.lemmas.List.{take_more, map_more}
@@ -10,12 +9,11 @@ use Rattle.std.specs.Str.{bytes_eq}
 use Rattle.sm_syntax.specs.declared.symbol.Mark.{Mark}
 use Rattle.sm_syntax.specs.declared.symbol.Symbol.{Symbol}
 use Rattle.sm_syntax.specs.declared.symbol.Symbol.TheVariants.{Name}
-use Rattle.sm_syntax.specs.declared.token.Token.{Token}
+use Rattle.sm_syntax.specs.text.Tokens.{mark_of_word, lexed}
 use Rattle.sm_syntax.specs.declared.token.TokenKind.{TokenKind}
 use Rattle.sm_syntax.specs.declared.token.TokenKind.TheVariants.{Word, Number, Sign}
-use Rattle.sm_syntax.specs.text.Tokens.{mark_of_word, lexed}
-use Rattle.sm_syntax.specs.text.Symbols.{text_of, is_among, with_text, is_name, names_after, mark_or, symbol_by, symbol_of, names_among}
-use Rattle.sm_syntax.specs.text.Symbols.{symbols_among, names_of, symbols_of}
+use Rattle.sm_syntax.specs.declared.token.Token.{Token}
+use Rattle.sm_syntax.specs.text.Symbols.{text_of, is_among, with_text, is_name, names_after, mark_or, symbol_by, symbol_of, names_among, symbols_among, names_of, symbols_of}
 use Rattle.sm_syntax.proofs.Numbering.{is_among-with_text, number-append, grown-with_text}
 
 -- the names after one more token

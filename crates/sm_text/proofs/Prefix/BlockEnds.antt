@@ -1,7 +1,6 @@
 -- Where the curly braces of a block close: all that the grammar spells between them is balanced, so a block ends at the brace
 -- that closes its first, and no rule stops at the end of tokens that do so.
-use Rattle.std.proofs.Common.{◌≡◌, ℕ, ℤ, zero, suc, ◌+◌, ◌-◌, ◌<◌, ◌≤◌, Bool, true, false, refl, sym, ap, ◌∙◌, subst, arith, Option, Some}
-use Rattle.std.proofs.Common.{None, Result, Ok, Err, List, [], ◌∷◌, ◌++◌, map, length, take, append_assoc, cond, true≢false}
+use Rattle.std.proofs.Common.{◌≡◌, ℕ, ℤ, zero, suc, ◌+◌, ◌-◌, ◌<◌, ◌≤◌, Bool, true, false, refl, sym, ap, ◌∙◌, subst, arith, Option, Some, None, Result, Ok, Err, List, [], ◌∷◌, ◌++◌, map, length, take, append_assoc, cond, true≢false}
 use Rattle.std.proofs.lemmas.List.{append-nil, length-take-le, take-take}
 use Rattle.std.proofs.lemmas.List.Sums.{sum_by-cons}
 use Rattle.std.specs.List.{count_by, position_or_len}
@@ -9,28 +8,27 @@ use Rattle.std.specs.Prelude.{find, option_map}
 use Rattle.std.specs.Str.{bytes_eq}
 use denote.Enum.Bare.{sameb, same_true}
 use Rattle.sm_syntax.specs.contracts.symbol.Mark.{the_type}
-use Rattle.sm_syntax.specs.declared.symbol.Mark.{Mark}
 use Rattle.sm_syntax.specs.declared.symbol.Mark.TheVariants as mark
-use Rattle.sm_syntax.specs.declared.symbol.Symbol.{Symbol}
 use Rattle.sm_syntax.specs.declared.symbol.Symbol.TheVariants as s
-use Rattle.sm_syntax.specs.declared.token.Token.{Token}
-use Rattle.sm_syntax.specs.declared.token.TokenKind.{TokenKind}
-use Rattle.sm_syntax.specs.declared.token.TokenKind.TheVariants.{Word, Number, Sign}
-use Rattle.sm_syntax.specs.declared.tree.Cmp.{Cmp}
 use Rattle.sm_syntax.specs.declared.tree.Name.{Name}
 use Rattle.sm_syntax.specs.text.ExpressionGrammar as exp
 use Rattle.sm_syntax.specs.text.ConditionGrammar as cond
 use Rattle.sm_syntax.specs.text.StatementGrammar as stmt
 use Rattle.sm_syntax.specs.text.MarkedSymbols.{Marked, plain, word, opens}
+use Rattle.sm_syntax.specs.declared.symbol.Symbol.{Symbol}
+use Rattle.sm_syntax.specs.declared.symbol.Mark.{Mark}
 use Rattle.sm_syntax.specs.text.ExpressionGrammar.{Level, IsExpression}
 use Rattle.sm_syntax.specs.text.ConditionGrammar.{Rank, IsCondition}
 use Rattle.sm_syntax.specs.text.StatementGrammar.{AreStatements, IsBlock}
 use Rattle.sm_syntax.specs.text.Symbols.{text_of, mark_or, symbol_by, symbol_of, names_after}
 use Rattle.sm_syntax.specs.claim.Syntax.{Expression, Condition, Code}
+use Rattle.sm_syntax.specs.declared.tree.Cmp.{Cmp}
 use Rattle.sm_syntax.specs.text.Tokens.{Table, entry, mark_of_word, mark_of_sign, reserved_words}
-use Rattle.sm_text.specs.declared.rules.reading.Fault.{Fault}
+use Rattle.sm_syntax.specs.declared.token.TokenKind.{TokenKind}
+use Rattle.sm_syntax.specs.declared.token.TokenKind.TheVariants.{Word, Number, Sign}
+use Rattle.sm_syntax.specs.declared.token.Token.{Token}
 use Rattle.sm_text.specs.parsing.BlockTokens.{token_symbols, is_mark, is_sign, many, IsGroup}
-use Rattle.sm_text.specs.rules.Parsers.{first, fault}
+use Rattle.sm_text.specs.rules.Parsers.{first, fault, Fault}
 use Rattle.sm_text.specs.rules.Reading as r
 use Rattle.sm_text.specs.resolving.TokenTexts.{sign_by}
 use Rattle.sm_text.proofs.Sound.Conditions.{each_comparison}

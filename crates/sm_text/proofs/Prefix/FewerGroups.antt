@@ -1,7 +1,6 @@
 -- What the grammar spells where groups are open, and nothing nests too deep, it spells where fewer are open.
 use Rattle.std.proofs.Common.{◌≡◌, ℕ, suc, ◌≤◌, Bool, false, nat_le, sym, ap, ◌∙◌, subst, arith, List, [], ◌∷◌, ◌++◌}
 use Rattle.std.proofs.lemmas.Bool.Decides.{nat_tests}
-use Rattle.sm_syntax.specs.declared.symbol.Mark.{Mark}
 use Rattle.sm_syntax.specs.declared.symbol.Mark.TheVariants as mark
 use Rattle.sm_syntax.specs.declared.symbol.Symbol.TheVariants as s
 use Rattle.sm_syntax.specs.claim.Syntax.{Expression, Read, Condition, Code, Write, If, While}
@@ -9,6 +8,7 @@ use Rattle.sm_syntax.specs.text.ExpressionGrammar as exp
 use Rattle.sm_syntax.specs.text.ConditionGrammar as cond
 use Rattle.sm_syntax.specs.text.StatementGrammar as stmt
 use Rattle.sm_syntax.specs.text.MarkedSymbols.{Marked, plain, word, opens, joins}
+use Rattle.sm_syntax.specs.declared.symbol.Mark.{Mark}
 use Rattle.sm_syntax.specs.text.ExpressionGrammar.{Level, IsExpression}
 use Rattle.sm_syntax.specs.text.ConditionGrammar.{Rank, IsCondition}
 use Rattle.sm_syntax.specs.text.StatementGrammar.{AreStatements, IsBlock}

@@ -1,18 +1,16 @@
 -- What a parser reads of the first tokens it reads of them all. What it refuses before their end it refuses of them all.
-use Rattle.std.proofs.Common.{◌≡◌, ℕ, ◌+◌, ◌-◌, ◌≤◌, refl, sym, ap, ◌∙◌, subst, arith, Result, Ok, Err, List, [], ◌∷◌, ◌++◌, length, take}
-use Rattle.std.proofs.Common.{drop, append_assoc, length-append}
+use Rattle.std.proofs.Common.{◌≡◌, ℕ, ◌+◌, ◌-◌, ◌≤◌, refl, sym, ap, ◌∙◌, subst, arith, Result, Ok, Err, List, [], ◌∷◌, ◌++◌, length, take, drop, append_assoc, length-append}
 use Rattle.std.proofs.lemmas.List.{length-map, length-drop, length-take-le, take-take}
-use Rattle.sm_syntax.specs.declared.symbol.Symbol.{Symbol}
-use Rattle.sm_syntax.specs.declared.token.Token.{Token}
 use Rattle.sm_syntax.specs.text.MarkedSymbols.{Marked}
+use Rattle.sm_syntax.specs.declared.symbol.Symbol.{Symbol}
 use Rattle.sm_syntax.specs.text.StatementGrammar.{IsBlock}
 use Rattle.sm_syntax.specs.text.Symbols.{symbol_of, names_after}
 use Rattle.sm_syntax.specs.claim.Syntax.{Code}
 use Rattle.sm_syntax.specs.text.Tokens.{lexed}
-use Rattle.sm_text.specs.declared.rules.reading.Fault.{Fault}
+use Rattle.sm_syntax.specs.declared.token.Token.{Token}
 use Rattle.sm_text.specs.parsing.BlockTokens.{token_symbols, IsFirstBlock}
 use Rattle.sm_text.specs.resolving.NameCounts.{names_counted}
-use Rattle.sm_text.specs.rules.Parsers.{Parser, first}
+use Rattle.sm_text.specs.rules.Parsers.{Parser, first, Fault}
 use Rattle.sm_text.specs.parsing.Places.{Grammar}
 use Rattle.sm_text.specs.parsing.Prefix.{SpellsBlockAt}
 use Rattle.sm_text.specs.rules.Reading as r

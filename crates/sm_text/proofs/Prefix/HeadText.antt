@@ -1,14 +1,13 @@
 -- Each name of a head has a text. Where all that it assumes is declared, a text without the assumption spells its program.
-use Rattle.std.proofs.Common.{◌≡◌, ℕ, ◌==◌, Bool, true, false, true≢false, if◌then◌else◌, Option, Some, None, is_some, List, [], ◌∷◌, ◌++◌}
-use Rattle.std.proofs.Common.{map, unwrap_or, refl, sym, ap, ◌∙◌, subst, arith}
+use Rattle.std.proofs.Common.{◌≡◌, ℕ, ◌==◌, Bool, true, false, true≢false, if◌then◌else◌, Option, Some, None, is_some, List, [], ◌∷◌, ◌++◌, map, unwrap_or, refl, sym, ap, ◌∙◌, subst, arith}
 use Rattle.std.proofs.lemmas.Bool.Decides.{nat_tests}
 use Rattle.std.specs.List.{AllByRecursion}
 use Rattle.std.specs.Prelude.{slice_get}
-use Rattle.sm_syntax.specs.declared.symbol.Symbol.{Symbol}
 use Rattle.sm_syntax.specs.declared.symbol.Symbol.TheVariants as s
 use Rattle.sm_syntax.specs.declared.tree.Sort.{Sort}
 use Rattle.sm_syntax.specs.text.Uses.{names_in, names_tested}
 use Rattle.sm_syntax.specs.text.MarkedSymbols.{Marked, plain}
+use Rattle.sm_syntax.specs.declared.symbol.Symbol.{Symbol}
 use Rattle.sm_syntax.specs.text.Parts.{sort_of}
 use Rattle.sm_syntax.specs.text.Symbols.{is_among, with_text, symbol_of}
 use Rattle.sm_syntax.specs.claim.Syntax.{Expression, Lit, Var, Read, Neg, Plus, Minus, Times, Condition, Yes, No, Compare, Not, And, Or}
@@ -19,16 +18,14 @@ use Rattle.sm_text.specs.printing.Pieces.{pieces_text}
 use Rattle.sm_text.specs.parsing.Places.{unmarked}
 use Rattle.sm_text.specs.Tasks.{ProgramParts, HeadParts}
 use Rattle.sm_text.specs.parsing.Prefix.{tokens_between, IsHead, head, SpellsHead, AssumesDeclared, IsNamedHead}
-use Rattle.sm_text.proofs.RoundTrip.Content.{content, both, content_of, content_tested, content_used, content_listed, content_declared}
-use Rattle.sm_text.proofs.RoundTrip.Content.{content_assumed, declarations_content, outputs_content, assumption_content, shared_content}
+use Rattle.sm_text.proofs.RoundTrip.Content.{content, both, content_of, content_tested, content_used, content_listed, content_declared, content_assumed, declarations_content, outputs_content, assumption_content, shared_content}
 use Rattle.sm_text.proofs.RoundTrip.Fitting.{IsClean, clean_left, clean_right, clean_plain}
 use Rattle.sm_text.proofs.RoundTrip.Parts.{content_of_program, program_content}
 use Rattle.sm_text.proofs.RoundTrip.Tasks.{AllIn, all_spelled, content_in, content_all, names_by-content, IsContent, pieces_again}
 use Rattle.sm_text.proofs.RoundTrip.TextTokens.{relexed}
 use Rattle.sm_text.proofs.RoundTrip.Symbols.{names_by, among_more, known_behind, names_are}
 use Rattle.sm_text.proofs.Prefix.Spaced.{spaced, spaced-symbols, spaced_apart, part_in}
-use Rattle.sm_text.proofs.RoundTrip.Spelled.{all_left, all_right, declared_written, listed_written, assumed_written, code_written}
-use Rattle.sm_text.proofs.RoundTrip.Spelled.{declared_named, outputs_named, assumed_named, code_named}
+use Rattle.sm_text.proofs.RoundTrip.Spelled.{all_left, all_right, declared_written, listed_written, assumed_written, code_written, declared_named, outputs_named, assumed_named, code_named}
 
 -- the text of a name
 abbrev text : List (List ℕ) → ℕ → List ℕ

@@ -1,6 +1,5 @@
 -- In canonical pieces nothing after a token goes on with it.
-use Rattle.std.proofs.Common.{◌≡◌, ℕ, ℤ, pos, negsuc, ◌^◌, lit<, ◌<◌, Bool, true, false, ◌==◌, List, [], ◌∷◌, ◌++◌, length, unwrap_or}
-use Rattle.std.proofs.Common.{if◌then◌else◌, refl, sym, subst, append_assoc, arith}
+use Rattle.std.proofs.Common.{◌≡◌, ℕ, ℤ, pos, negsuc, ◌^◌, lit<, ◌<◌, Bool, true, false, ◌==◌, List, [], ◌∷◌, ◌++◌, length, unwrap_or, if◌then◌else◌, refl, sym, subst, append_assoc, arith}
 use Rattle.std.proofs.lemmas.Bool.Decides.{nat_tests}
 use Rattle.std.proofs.lemmas.Fmt.{decimal_is_IsNumeral_wide}
 use Rattle.std.specs.Char.{is_ascii_digit}
@@ -11,9 +10,9 @@ use Rattle.sm_syntax.specs.declared.symbol.Mark.{Mark}
 use Rattle.sm_syntax.specs.declared.symbol.Mark.TheVariants as mark
 use Rattle.sm_syntax.specs.declared.symbol.Symbol.{Symbol}
 use Rattle.sm_syntax.specs.declared.symbol.Symbol.TheVariants as s
-use Rattle.sm_syntax.specs.declared.tree.Cmp.{Cmp}
 use Rattle.sm_syntax.specs.text.ConditionGrammar.{comparison}
 use Rattle.sm_syntax.specs.claim.Syntax.{Expression, Lit, Var, Read, Neg, Plus, Minus, Times, Condition, Yes, No, Compare, Not, And, Or}
+use Rattle.sm_syntax.specs.declared.tree.Cmp.{Cmp}
 use Rattle.sm_syntax.specs.text.Tokens.{is_word_start, is_word_byte}
 use Rattle.sm_text.specs.printing.Pieces.{Piece, pieces_text, mark_piece, number_piece, name_piece, space}
 use Rattle.sm_text.specs.printing.Canonical.{between, is_atom, operand, expression_pieces, is_test, part, condition_pieces}

@@ -1,6 +1,5 @@
 -- In canonical code nothing after a token goes on with it.
-use Rattle.std.proofs.Common.{◌≡◌, ℕ, lit<, ◌^◌, ◌<◌, true, false, ◌==◌, List, [], ◌∷◌, ◌++◌, unwrap_or, refl, sym, subst, append_assoc}
-use Rattle.std.proofs.Common.{arith}
+use Rattle.std.proofs.Common.{◌≡◌, ℕ, lit<, ◌^◌, ◌<◌, true, false, ◌==◌, List, [], ◌∷◌, ◌++◌, unwrap_or, refl, sym, subst, append_assoc, arith}
 use Rattle.std.proofs.lemmas.Fmt.{decimal_is_IsNumeral_wide}
 use Rattle.std.specs.Fmt.{decimal}
 use Rattle.std.specs.List.{list_all}
@@ -10,12 +9,10 @@ use Rattle.sm_syntax.specs.declared.symbol.Symbol.TheVariants as s
 use Rattle.sm_syntax.specs.claim.Syntax.{Condition, Code, End, Skip, Assign, Write, If, While, Hole}
 use Rattle.sm_syntax.specs.text.Tokens.{is_space}
 use Rattle.sm_text.specs.printing.Pieces.{Piece, Gap, pieces_text, mark_piece, name_piece, space, line_end, deeper, line}
-use Rattle.sm_text.specs.printing.Canonical.{element_pieces, expression_pieces, condition_pieces, braces, branches, guard_pieces}
-use Rattle.sm_text.specs.printing.Canonical.{code_pieces}
+use Rattle.sm_text.specs.printing.Canonical.{element_pieces, expression_pieces, condition_pieces, braces, branches, guard_pieces, code_pieces}
 use Rattle.sm_text.proofs.RoundTrip.PieceTokens.{begins, digits_of_decimal}
 use Rattle.sm_text.proofs.RoundTrip.TextTokens.{IsNameText, AreApart}
-use Rattle.sm_text.proofs.RoundTrip.Apart.{decimal_safe, IsClosed, Runs, RunsBefore, IsWritten, IsTested, closed_at, name_runs, square_runs}
-use Rattle.sm_text.proofs.RoundTrip.Apart.{expression_runs, condition_runs, space_closed}
+use Rattle.sm_text.proofs.RoundTrip.Apart.{decimal_safe, IsClosed, Runs, RunsBefore, IsWritten, IsTested, closed_at, name_runs, square_runs, expression_runs, condition_runs, space_closed}
 
 -- pieces before a semicolon
 pub ended_runs : (names : List (List ℕ)) (ps : List Piece) → RunsBefore names ps → RunsBefore names (ps ++ mark_piece mark.Semicolon ∷ [])

@@ -2,7 +2,6 @@
 use Rattle.std.proofs.Common.{◌≡◌, ℕ, suc, ◌+◌, ◌<◌, ◌≤◌, false, max, List, [], ◌∷◌, ◌++◌, map, nat_le, refl, arith}
 use Rattle.std.proofs.lemmas.Bool.Decides.{nat_tests}
 use Rattle.sm_syntax.specs.declared.symbol.Mark.TheVariants as mark
-use Rattle.sm_syntax.specs.declared.symbol.Symbol.{Symbol}
 use Rattle.sm_syntax.specs.claim.Syntax.{Expression, Condition, Code, End, Skip, Assign, Write, If, While, Hole, append}
 use Rattle.sm_syntax.specs.text.Conditions.{code_depth}
 use Rattle.sm_syntax.specs.claim.Fill.{Fillings, filling, fill}
@@ -11,6 +10,7 @@ use Rattle.sm_syntax.specs.text.ExpressionGrammar as exp
 use Rattle.sm_syntax.specs.text.ConditionGrammar as cond
 use Rattle.sm_syntax.specs.text.StatementGrammar as stmt
 use Rattle.sm_syntax.specs.text.MarkedSymbols.{Marked, plain}
+use Rattle.sm_syntax.specs.declared.symbol.Symbol.{Symbol}
 use Rattle.sm_syntax.specs.text.ExpressionGrammar.{Level, IsExpression}
 use Rattle.sm_syntax.specs.text.ConditionGrammar.{Rank, IsCondition}
 use Rattle.sm_syntax.specs.text.StatementGrammar.{IsHoleNumber, AreStatements, IsBlock}

@@ -1,19 +1,17 @@
 -- The canonical text of a program, a condition or a block that some text spells, spells it again.
 use Rattle.std.proofs.Common.{◌≡◌, ℕ, zero, suc, ◌≤◌, true, List, [], ◌++◌, length, map, refl, sym, ap, ◌∙◌, subst, append-nil, arith}
 use Rattle.std.specs.List.{AllByRecursion, list_all}
-use Rattle.sm_syntax.specs.declared.symbol.Symbol.{Symbol}
 use Rattle.sm_syntax.specs.text.Conditions.{condition_depth, code_depth}
 use Rattle.sm_syntax.specs.text.MarkedSymbols.{Marked, plain}
+use Rattle.sm_syntax.specs.declared.symbol.Symbol.{Symbol}
 use Rattle.sm_syntax.specs.text.ConditionGrammar.{Disjunction, IsCondition}
 use Rattle.sm_syntax.specs.text.StatementGrammar.{IsBlock}
 use Rattle.sm_syntax.specs.text.Symbols.{names_of, symbols_of}
 use Rattle.sm_syntax.specs.claim.Syntax.{Condition, Code}
 use Rattle.sm_syntax.specs.text.Tokens.{Lexed, is_space}
-use Rattle.sm_text.specs.printing.Canonical.{condition_pieces, block_pieces, declaration_pieces, output_pieces, shared_pieces}
-use Rattle.sm_text.specs.printing.Canonical.{program_pieces}
+use Rattle.sm_text.specs.printing.Canonical.{condition_pieces, block_pieces, declaration_pieces, output_pieces, shared_pieces, program_pieces}
 use Rattle.sm_text.specs.Tasks.{ProgramParts}
-use Rattle.sm_text.specs.parsing.Fragments.{IsProgram, program, SpellsProgram, HasProgramText, IsNamedProgram, IsKnown, symbols_under}
-use Rattle.sm_text.specs.parsing.Fragments.{IsCutUnder, SpellsCondition, HasConditionText, SpellsBlock, HasBlockText}
+use Rattle.sm_text.specs.parsing.Fragments.{IsProgram, program, SpellsProgram, HasProgramText, IsNamedProgram, IsKnown, symbols_under, IsCutUnder, SpellsCondition, HasConditionText, SpellsBlock, HasBlockText}
 use Rattle.sm_text.specs.printing.Named.{IsTestedIn, IsUsedIn}
 use Rattle.sm_text.specs.printing.Pieces.{Piece, pieces_text, symbols_in, margin_at}
 use Rattle.sm_text.proofs.RoundTrip.CodeSpelled.{marked, marked-append, told}
@@ -21,14 +19,11 @@ use Rattle.sm_text.proofs.RoundTrip.TaskSpelled.{block_told, declarations_shown,
 use Rattle.sm_text.proofs.RoundTrip.TextTokens.{AreApart, relexed}
 use Rattle.sm_text.proofs.RoundTrip.Apart.{IsClosed, condition_runs}
 use Rattle.sm_text.proofs.RoundTrip.CodeApart.{IsCode}
-use Rattle.sm_text.proofs.RoundTrip.TaskApart.{AreTexts, AreDeclaredTexts, both_apart, declarations_apart, outputs_apart, block_runs}
-use Rattle.sm_text.proofs.RoundTrip.TaskApart.{shared_apart}
-use Rattle.sm_text.proofs.RoundTrip.Content.{content, both, content_tested, content_used, content_listed, content_declared}
-use Rattle.sm_text.proofs.RoundTrip.Content.{condition_content, block_content, declarations_content, outputs_content, shared_content}
+use Rattle.sm_text.proofs.RoundTrip.TaskApart.{AreTexts, AreDeclaredTexts, both_apart, declarations_apart, outputs_apart, block_runs, shared_apart}
+use Rattle.sm_text.proofs.RoundTrip.Content.{content, both, content_tested, content_used, content_listed, content_declared, condition_content, block_content, declarations_content, outputs_content, shared_content}
 use Rattle.sm_text.proofs.RoundTrip.Fitting.{IsClean, clean_right, clean_plain, condition_reads, block_fits}
 use Rattle.sm_text.proofs.RoundTrip.Printable.{some_outputs, shared_fits}
-use Rattle.sm_text.proofs.RoundTrip.Spelled.{left, right, condition_written, code_written, listed_written, declared_written}
-use Rattle.sm_text.proofs.RoundTrip.Spelled.{condition_named, code_named, declared_named, outputs_named}
+use Rattle.sm_text.proofs.RoundTrip.Spelled.{left, right, condition_written, code_written, listed_written, declared_written, condition_named, code_named, declared_named, outputs_named}
 use Rattle.sm_text.proofs.RoundTrip.Symbols.{under_in, printed_under, tokens_known}
 use Rattle.sm_text.proofs.RoundTrip.Tasks.{AllIn, all_spelled, content_in, content_all, IsContent, text_content, pieces_again}
 

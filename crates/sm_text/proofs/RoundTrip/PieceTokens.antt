@@ -1,6 +1,5 @@
 -- The tokens of a printed text: each piece is cut as it was put.
-use Rattle.std.proofs.Common.{◌≡◌, ℕ, ◌+◌, ◌-◌, ◌^◌, ◌==◌, ◌<◌, ◌≤◌, Bool, true, false, ◌&&◌, if◌then◌else◌, List, [], ◌∷◌, ◌++◌, length}
-use Rattle.std.proofs.Common.{take, nat_le, nat_lt, ◌%◌, refl, sym, ap, subst, ◌∙◌, is_some, eq-eqb, lit<, arith}
+use Rattle.std.proofs.Common.{◌≡◌, ℕ, ◌+◌, ◌-◌, ◌^◌, ◌==◌, ◌<◌, ◌≤◌, Bool, true, false, ◌&&◌, if◌then◌else◌, List, [], ◌∷◌, ◌++◌, length, take, nat_le, nat_lt, ◌%◌, refl, sym, ap, subst, ◌∙◌, is_some, eq-eqb, lit<, arith}
 use Rattle.std.proofs.lemmas.Bool.Decides.{nat_tests}
 use Rattle.std.proofs.lemmas.Fmt.{decimal_by_steps_wide, decimal_is_IsNumeral_wide}
 use Rattle.std.proofs.lemmas.List.Folds.{list_all-append}
@@ -10,11 +9,10 @@ use Rattle.std.specs.List.{prefix_len, list_all}
 use Rattle.std.specs.Str.Parse.{digits_value}
 use Rattle.sm_syntax.specs.declared.symbol.Mark.{Mark}
 use Rattle.sm_syntax.specs.declared.symbol.Mark.TheVariants as mark
-use Rattle.sm_syntax.specs.declared.token.LexKind.TheVariants.{BadToken, WideNumber}
-use Rattle.sm_syntax.specs.declared.token.TokenKind.{TokenKind}
 use Rattle.sm_syntax.specs.declared.token.TokenKind.TheVariants as kind
-use Rattle.sm_syntax.specs.text.Tokens.{Front, Gap, Piece, Fault, front_of, word_at, number_at, sign_at, is_space, is_hash, is_word_start}
-use Rattle.sm_syntax.specs.text.Tokens.{is_word_byte, mark_of_sign, signs, by_front, with_token, lexed_after, lexed_from}
+use Rattle.sm_syntax.specs.text.Tokens.{Front, Gap, Piece, Fault, front_of, word_at, number_at, sign_at, is_space, is_hash, is_word_start, is_word_byte, mark_of_sign, signs, by_front, with_token, lexed_after, lexed_from}
+use Rattle.sm_syntax.specs.declared.token.TokenKind.{TokenKind}
+use Rattle.sm_syntax.specs.declared.token.LexKind.TheVariants.{BadToken, WideNumber}
 use Rattle.sm_text.specs.printing.Pieces.{spelling}
 
 pub both-left : (a b : Bool) → (a && b) ≡ true → a ≡ true

@@ -1,14 +1,12 @@
 -- Trees whose names and numbers a text may have.
-use Rattle.std.proofs.Common.{◌≡◌, ℕ, ◌<◌, ◌≤◌, Bool, true, false, nat_lt, Option, Some, None, List, [], ◌∷◌, ◌++◌, length, unwrap_or, refl}
-use Rattle.std.proofs.Common.{ap, subst, arith}
+use Rattle.std.proofs.Common.{◌≡◌, ℕ, ◌<◌, ◌≤◌, Bool, true, false, nat_lt, Option, Some, None, List, [], ◌∷◌, ◌++◌, length, unwrap_or, refl, ap, subst, arith}
 use Rattle.std.proofs.lemmas.Bool.Decides.{nat_tests}
 use Rattle.std.proofs.lemmas.Option.{slice_get_past}
 use Rattle.std.specs.List.{AllByRecursion}
 use Rattle.std.specs.Prelude.{slice_get}
 use Rattle.sm_syntax.specs.declared.symbol.Symbol.{Symbol}
 use Rattle.sm_syntax.specs.declared.tree.Sort.{Sort}
-use Rattle.sm_syntax.specs.claim.Syntax.{Expression, Lit, Var, Read, Neg, Plus, Minus, Times, Condition, Yes, No, Compare, Not, And, Or}
-use Rattle.sm_syntax.specs.claim.Syntax.{Code, End, Skip, Assign, Write, If, While, Hole}
+use Rattle.sm_syntax.specs.claim.Syntax.{Expression, Lit, Var, Read, Neg, Plus, Minus, Times, Condition, Yes, No, Compare, Not, And, Or, Code, End, Skip, Assign, Write, If, While, Hole}
 use Rattle.sm_syntax.specs.claim.Fill.{Fillings}
 use Rattle.sm_syntax.specs.claim.ConflictFree.{Copy, O, A, B, M}
 use Rattle.sm_syntax.specs.text.Parts.{Parts}
@@ -17,8 +15,7 @@ use Rattle.sm_text.proofs.RoundTrip.TextTokens.{IsNameText, IsSpelled}
 use Rattle.sm_text.proofs.RoundTrip.Apart.{IsWritten, IsTested}
 use Rattle.sm_text.proofs.RoundTrip.CodeApart.{IsCode}
 use Rattle.sm_text.proofs.RoundTrip.TaskApart.{AreTexts, AreDeclaredTexts, IsAssumedText, AreFillingTexts, IsTaskText}
-use Rattle.sm_text.proofs.RoundTrip.Content.{content_of, content_tested, content_used, content_listed, content_declared, content_assumed}
-use Rattle.sm_text.proofs.RoundTrip.Content.{content_filled, content_of_lists, content_of_task}
+use Rattle.sm_text.proofs.RoundTrip.Content.{content_of, content_tested, content_used, content_listed, content_declared, content_assumed, content_filled, content_of_lists, content_of_task}
 
 -- each of two lists
 pub all_left : {T : Type 0} (P : T → Type 0) (xs ys : List T) → AllByRecursion P (xs ++ ys) → AllByRecursion P xs

@@ -1,6 +1,5 @@
 -- The names and symbols of a printed text: they are those of its pieces, where the names are the ones of a text.
-use Rattle.std.proofs.Common.{◌≡◌, ℕ, ℤ, pos, negsuc, ◌+◌, ◌^◌, ◌<◌, Bool, true, false, not, ◌||◌, if◌then◌else◌, Option, Some, None}
-use Rattle.std.proofs.Common.{is_some, List, [], ◌∷◌, ◌++◌, map, length, take, drop, unwrap_or, refl, sym, ap, ap₂, ◌∙◌, subst}
+use Rattle.std.proofs.Common.{◌≡◌, ℕ, ℤ, pos, negsuc, ◌+◌, ◌^◌, ◌<◌, Bool, true, false, not, ◌||◌, if◌then◌else◌, Option, Some, None, is_some, List, [], ◌∷◌, ◌++◌, map, length, take, drop, unwrap_or, refl, sym, ap, ap₂, ◌∙◌, subst}
 use Rattle.std.proofs.Common.{append_assoc, arith, lit<, true≢false}
 use Rattle.std.proofs.Math.Seq.{take-append_seam, drop-append_seam}
 use Rattle.std.proofs.lemmas.Fmt.{decimal_is_IsNumeral_wide}
@@ -14,12 +13,11 @@ use Rattle.sm_syntax.specs.declared.symbol.Mark.TheVariants as mark
 use Rattle.sm_syntax.specs.declared.symbol.Symbol.{Symbol}
 use Rattle.sm_syntax.specs.declared.symbol.Symbol.TheVariants as s
 use Rattle.sm_syntax.specs.declared.token.Token as lexical
-use Rattle.sm_syntax.specs.declared.token.TokenKind.{TokenKind}
 use Rattle.sm_syntax.specs.declared.token.TokenKind.TheVariants as kind
 use Rattle.sm_syntax.specs.text.Tokens.{mark_of_word, reserved_words, mark_of_sign, signs, Lexed, lexed}
+use Rattle.sm_syntax.specs.declared.token.TokenKind.{TokenKind}
 use Rattle.sm_syntax.specs.text.Symbols as symbol
-use Rattle.sm_syntax.specs.text.Symbols.{is_among, with_text, is_name, names_after, mark_or, symbol_by, symbol_of, names_among}
-use Rattle.sm_syntax.specs.text.Symbols.{symbols_among, names_of, symbols_of}
+use Rattle.sm_syntax.specs.text.Symbols.{is_among, with_text, is_name, names_after, mark_or, symbol_by, symbol_of, names_among, symbols_among, names_of, symbols_of}
 use Rattle.sm_syntax.proofs.Numbering.{slice_get-number}
 use Rattle.sm_text.specs.parsing.Fragments.{IsKnown, symbols_under}
 use Rattle.sm_text.specs.printing.Pieces as pieces

@@ -1,6 +1,5 @@
 -- In a canonical task nothing after a token goes on with it, so its tokens are cut as they were put.
-use Rattle.std.proofs.Common.{◌≡◌, ℕ, pos, ◌^◌, ◌<◌, true, false, Option, Some, None, List, [], ◌∷◌, ◌++◌, unwrap_or, refl, sym, subst}
-use Rattle.std.proofs.Common.{append_assoc, append-nil}
+use Rattle.std.proofs.Common.{◌≡◌, ℕ, pos, ◌^◌, ◌<◌, true, false, Option, Some, None, List, [], ◌∷◌, ◌++◌, unwrap_or, refl, sym, subst, append_assoc, append-nil}
 use Rattle.std.specs.List.{list_all}
 use Rattle.std.specs.Prelude.{slice_get}
 use Rattle.sm_syntax.specs.declared.symbol.Mark.{Mark}
@@ -15,9 +14,8 @@ use Rattle.sm_syntax.specs.text.TaskGrammar.{declares}
 use Rattle.sm_syntax.specs.text.Parts.{Parts}
 use Rattle.sm_syntax.specs.text.Tokens.{is_space, lexed}
 use Rattle.sm_text.specs.printing.Pieces.{Piece, pieces_text, mark_piece, number_piece, space, line_end, margin_at, deeper, line}
-use Rattle.sm_text.specs.printing.Canonical.{condition_pieces, code_pieces, block_pieces, declaration_pieces, more_names_pieces}
-use Rattle.sm_text.specs.printing.Canonical.{names_pieces, output_pieces, assumption_pieces, shared_pieces, filling_pieces, list_pieces}
-use Rattle.sm_text.specs.printing.Canonical.{lists_pieces, task_pieces}
+use Rattle.sm_text.specs.printing.Canonical.{condition_pieces, code_pieces, block_pieces, declaration_pieces, more_names_pieces, names_pieces, output_pieces, assumption_pieces, shared_pieces, filling_pieces, list_pieces, lists_pieces}
+use Rattle.sm_text.specs.printing.Canonical.{task_pieces}
 use Rattle.sm_text.proofs.RoundTrip.PieceTokens.{begins, goes_on_mark}
 use Rattle.sm_text.proofs.RoundTrip.TextTokens.{IsNameText, AreApart, tokens_at, relexed}
 use Rattle.sm_text.proofs.RoundTrip.Apart.{IsClosed, RunsBefore, IsTested, closed_at, name_runs, condition_runs}

@@ -1,6 +1,5 @@
 -- One turn, the end and a fault of each loop that reads a list.
-use Rattle.std.proofs.Common.{◌≡◌, ℕ, zero, suc, ◌+◌, ◌-◌, ◌<◌, ◌≤◌, refl, sym, ap, ◌∙◌, subst, arith, Bool, true, false, Option, Some, None, if◌then◌else◌}
-use Rattle.std.proofs.Common.{Result, Ok, Err, List, [], ◌∷◌, ◌++◌, length}
+use Rattle.std.proofs.Common.{◌≡◌, ℕ, zero, suc, ◌+◌, ◌-◌, ◌<◌, ◌≤◌, refl, sym, ap, ◌∙◌, subst, arith, Bool, true, false, Option, Some, None, if◌then◌else◌, Result, Ok, Err, List, [], ◌∷◌, ◌++◌, length}
 use Rattle.std.specs.Borrow.{Bor}
 use Rattle.std.specs.Result.{IfOk, IfErr}
 use Rattle.sm_syntax.specs.declared.symbol.Mark.TheVariants as mark
@@ -14,16 +13,14 @@ use Rattle.sm_text.specs.declared.rules.conditions.CondChain.{CondChain}
 use Rattle.sm_text.specs.declared.rules.conditions.CondChain.TheVariants.{Conjunction, Disjunction}
 use Rattle.sm_text.specs.declared.rules.expressions.ExprChain.{ExprChain}
 use Rattle.sm_text.specs.declared.rules.expressions.ExprChain.TheVariants.{Product, Sum}
-use Rattle.sm_text.specs.declared.rules.reading.Fault.{Fault}
-use Rattle.sm_text.specs.declared.rules.reading.FaultKind.TheVariants.{Nested}
 use Rattle.sm_text.specs.declared.rules.reading.ReadError.{ReadError}
 use Rattle.sm_text.specs.declared.rules.reading.ReadError.TheVariants as error
 use Rattle.sm_text.specs.rules.Answers.{Fails, Gives, Parses}
-use Rattle.sm_text.specs.rules.Parsers.{first, rest, fault, go_on, pure, expect, Parser, stands, chain_limit, chain, inside_group}
+use Rattle.sm_text.specs.rules.Parsers.{first, rest, fault, go_on, pure, expect, Parser, stands, chain_limit, chain, inside_group, Fault, Nested}
 use Rattle.sm_text.specs.rules.Reading as r
 use Rattle.sm_text.specs.rules.Written.{statements_before}
-use Rattle.sm_syntax.specs.declared.tree.Stmt.{Stmt}
 use Rattle.sm_syntax.specs.trees.Views.{statement_of}
+use Rattle.sm_syntax.specs.declared.tree.Stmt.{Stmt}
 use Rattle.sm_syntax.proofs.Blocks.{sequence-push}
 use Rattle.std.proofs.Math.Path.{fun_ext}
 use Rattle.sm_text.proofs.Sound.Parsers.{shorter}

@@ -1,10 +1,7 @@
 -- What is read of the sections of a task is what the grammar says.
-use Rattle.std.proofs.Common.{◌≡◌, ℕ, ◌<◌, pos, refl, sym, ap, ◌∙◌, subst, arith, Bool, true, false, Option, Some, None, Ok, List, []}
-use Rattle.std.proofs.Common.{◌∷◌, ◌++◌, length, map, append_assoc}
+use Rattle.std.proofs.Common.{◌≡◌, ℕ, ◌<◌, pos, refl, sym, ap, ◌∙◌, subst, arith, Bool, true, false, Option, Some, None, Ok, List, [], ◌∷◌, ◌++◌, length, map, append_assoc}
 use Rattle.std.proofs.lemmas.List.{append-nil}
-use Rattle.sm_syntax.specs.declared.symbol.Mark.{Mark}
 use Rattle.sm_syntax.specs.declared.symbol.Mark.TheVariants as mark
-use Rattle.sm_syntax.specs.declared.symbol.Symbol.{Symbol}
 use Rattle.sm_syntax.specs.declared.symbol.Symbol.TheVariants as s
 use Rattle.sm_syntax.specs.claim.Syntax.{Condition, Code}
 use Rattle.sm_syntax.specs.claim.Fill.{Fillings}
@@ -12,6 +9,8 @@ use Rattle.sm_syntax.specs.claim.ConflictFree as claim
 use Rattle.sm_syntax.specs.claim.ConflictFree.{Copy}
 use Rattle.sm_syntax.specs.text.TaskGrammar as task
 use Rattle.sm_syntax.specs.text.MarkedSymbols.{Marked, plain, word}
+use Rattle.sm_syntax.specs.declared.symbol.Symbol.{Symbol}
+use Rattle.sm_syntax.specs.declared.symbol.Mark.{Mark}
 use Rattle.sm_syntax.specs.text.StatementGrammar.{IsBlock}
 use Rattle.sm_syntax.specs.text.TaskGrammar.{AreDeclarations, AreOutputs, IsAssumption, IsShared, AreFillings, IsList, IsTask}
 use Rattle.sm_syntax.specs.text.Parts.{Parts, by_copy}

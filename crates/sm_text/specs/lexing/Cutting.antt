@@ -1,19 +1,17 @@
 -- Public clauses cite this file.
 -- The tokens of a text, read a second way: white space, comments and tokens follow each other to
 -- the end of the text, or to bytes where none of these stands.
-use Rattle.std.specs.Prelude.{◌≡◌, ℕ, ◌+◌, ◌^◌, ◌<◌, ◌≤◌, ◌==◌, Bool, true, false}
-use Rattle.std.specs.Prelude.{◌||◌, Option, Some, None, is_some, List, [], ◌∷◌, ◌++◌, length}
+use Rattle.std.specs.Prelude.{◌≡◌, ℕ, ◌+◌, ◌^◌, ◌<◌, ◌≤◌, ◌==◌, Bool, true, false, ◌||◌, Option, Some, None, is_some, List, [], ◌∷◌, ◌++◌, length}
 use Rattle.std.specs.Char.{is_ascii_digit}
 use Rattle.std.specs.List.{list_all}
 use Rattle.std.specs.Str.Parse.{digits_value}
+use Rattle.sm_syntax.specs.text.Tokens.{is_space, is_hash, is_in_line, is_word_start, is_word_byte, mark_of_sign}
+use Rattle.sm_syntax.specs.declared.token.TokenKind.{TokenKind}
+use Rattle.sm_syntax.specs.declared.token.TokenKind.TheVariants.{Word, Number, Sign}
+use Rattle.sm_syntax.specs.declared.token.Token.{Token}
 use Rattle.sm_syntax.specs.declared.token.LexFault.{LexFault}
 use Rattle.sm_syntax.specs.declared.token.LexKind.{LexKind}
 use Rattle.sm_syntax.specs.declared.token.LexKind.TheVariants.{BadByte, BadToken, WideNumber}
-use Rattle.sm_syntax.specs.declared.token.Token.{Token}
-use Rattle.sm_syntax.specs.declared.token.TokenKind.{TokenKind}
-use Rattle.sm_syntax.specs.declared.token.TokenKind.TheVariants.{Word, Number, Sign}
-use Rattle.sm_syntax.specs.text.Tokens.{is_space, is_hash, is_in_line}
-use Rattle.sm_syntax.specs.text.Tokens.{is_word_start, is_word_byte, mark_of_sign}
 
 -- whether the text has a first byte, and that is such a byte
 abbrev pub begins : (ℕ → Bool) → List ℕ → Bool

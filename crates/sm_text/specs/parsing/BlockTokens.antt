@@ -1,7 +1,6 @@
 -- No public clause cites this file.
 -- What the tokens from one on give where a block is read by them.
-use Rattle.std.specs.Prelude.{◌≡◌, ℕ, ◌-◌, ◌<◌, ◌≤◌, Bool, false, Option, Some, None, Ok, List, map}
-use Rattle.std.specs.Prelude.{length, take}
+use Rattle.std.specs.Prelude.{◌≡◌, ℕ, ◌-◌, ◌<◌, ◌≤◌, Bool, false, Option, Some, None, Ok, List, map, length, take}
 use Rattle.std.specs.List.{count_by}
 use denote.Enum.Bare.{sameb}
 use Rattle.sm_syntax.specs.contracts.symbol.Mark.{the_type}

@@ -3,13 +3,13 @@
 -- judged by a grammar alone, whatever nests too deep in them.
 pub mod Sources
 use Rattle.std.specs.Prelude.{◌≡◌, ℕ, ◌≤◌, true, Option, Some, None, List, [], ◌∷◌, ◌++◌, map}
-use Rattle.sm_syntax.specs.declared.symbol.Symbol.{Symbol}
 use Rattle.sm_syntax.specs.declared.token.LexKind.TheVariants as kind
 use Rattle.sm_syntax.specs.declared.token.Token.{Token}
 use Rattle.sm_syntax.specs.text.MarkedSymbols.{Marked}
+use Rattle.sm_syntax.specs.declared.symbol.Symbol.{Symbol}
 use Rattle.sm_syntax.specs.text.TaskGrammar.{IsTask}
 use Rattle.sm_syntax.specs.text.Parts.{Parts}
-use Rattle.sm_text.specs.declared.error.TextError.{TextError}
+pub use Rattle.sm_text.specs.declared.error.TextError.{TextError}
 use Rattle.sm_text.specs.declared.error.TextError.TheVariants as error
 use Rattle.sm_text.specs.parsing.Fragments.{IsProgram}
 use Rattle.sm_text.specs.Tasks.{ProgramParts}

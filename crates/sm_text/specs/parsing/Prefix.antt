@@ -2,24 +2,22 @@
 -- Which tokens of a text spell a head or a block, whatever stands after them. The names that were
 -- known before keep their numbers, and the others have the numbers after these, by first
 -- appearance.
-use Rattle.std.specs.Prelude.{◌≡◌, ℕ, ◌-◌, ◌≤◌, true, Option, Some, None, is_some}
-use Rattle.std.specs.Prelude.{Result, MatchResult, List, [], ◌++◌, map, length, take, drop}
+use Rattle.std.specs.Prelude.{◌≡◌, ℕ, ◌-◌, ◌≤◌, true, Option, Some, None, is_some, Result, MatchResult, List, [], ◌++◌, map, length, take, drop}
 use Rattle.std.specs.List.{AllByRecursion}
 use Rattle.sm_syntax.specs.declared.program.Program.{Program}
-use Rattle.sm_syntax.specs.declared.token.Token.{Token}
-use Rattle.sm_syntax.specs.declared.tree.Block.{Block}
-use Rattle.sm_syntax.specs.declared.tree.Cond.{Cond}
 use Rattle.sm_syntax.specs.declared.tree.Sort.{Sort}
 use Rattle.sm_syntax.specs.text.Uses.{names_tested}
 use Rattle.sm_syntax.specs.text.MarkedSymbols.{Marked, plain}
-use Rattle.sm_syntax.specs.text.TaskGrammar.{AreDeclarations, AreOutputs, IsAssumption}
+use Rattle.sm_syntax.specs.text.TaskGrammar.{AreDeclarations, AreOutputs, IsAssumption, IsShared}
 use Rattle.sm_syntax.specs.text.StatementGrammar.{IsBlock}
-use Rattle.sm_syntax.specs.text.TaskGrammar.{IsShared}
 use Rattle.sm_syntax.specs.text.Parts.{sort_of}
 use Rattle.sm_syntax.specs.text.Symbols.{symbol_of, names_after}
 use Rattle.sm_syntax.specs.claim.Syntax.{Condition, Code}
 use Rattle.sm_syntax.specs.text.Tokens.{lexed}
+use Rattle.sm_syntax.specs.declared.token.Token.{Token}
 use Rattle.sm_syntax.specs.trees.Views.{code_of}
+use Rattle.sm_syntax.specs.declared.tree.Block.{Block}
+use Rattle.sm_syntax.specs.declared.tree.Cond.{Cond}
 use Rattle.sm_text.specs.declared.error.TextError.{TextError}
 use Rattle.sm_text.specs.declared.error.TextError.TheVariants as error
 use Rattle.sm_text.specs.declared.lexing.token_list.Tokens.{Tokens}

@@ -3,8 +3,7 @@
 -- What is read is stated by the grammar.
 use Rattle.std.specs.Prelude.{ℕ, Result, List}
 use Rattle.sm_syntax.specs.declared.symbol.Symbol.{Symbol}
-use Rattle.sm_text.specs.declared.rules.reading.Fault.{Fault}
-use Rattle.sm_text.specs.rules.Parsers.{Parser, ◌>>=◌, pure}
+use Rattle.sm_text.specs.rules.Parsers.{Parser, ◌>>=◌, pure, Fault}
 use Rattle.sm_text.specs.rules.Reading.{declarations, outputs, shared, to_end}
 use Rattle.sm_text.specs.Tasks.{ProgramParts}
 

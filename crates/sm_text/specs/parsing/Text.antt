@@ -8,8 +8,7 @@ use Rattle.sm_text.specs.declared.error.TextError.{TextError}
 use Rattle.sm_text.specs.declared.error.TextError.TheVariants as error
 use Rattle.sm_text.specs.declared.rules.reading.FaultKind.{FaultKind}
 use Rattle.sm_text.specs.declared.rules.reading.FaultKind.TheVariants.{Expected, Nested}
-use Rattle.sm_text.specs.declared.task.Task.{Task}
-use Rattle.sm_text.specs.Tasks.{parts_of}
+use Rattle.sm_text.specs.Tasks.{parts_of, Task}
 
 -- the lexical fault that an error names, if it names one
 abbrev pub lexical_fault : TextError → Option LexFault

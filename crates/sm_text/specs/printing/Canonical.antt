@@ -10,8 +10,7 @@ use Rattle.sm_syntax.specs.claim.Fill.{Fillings}
 use Rattle.sm_syntax.specs.claim.ConflictFree.{Copy, O, A, B, M}
 use Rattle.sm_syntax.specs.text.TaskGrammar.{declares}
 use Rattle.sm_syntax.specs.text.Parts.{Parts}
-use Rattle.sm_text.specs.printing.Pieces.{Piece, mark_piece, number_piece, name_piece, space}
-use Rattle.sm_text.specs.printing.Pieces.{line_end, margin_at, line}
+use Rattle.sm_text.specs.printing.Pieces.{Piece, mark_piece, number_piece, name_piece, space, line_end, margin_at, line}
 unfoldable pub use Expressions.*
 unfoldable pub use Statements.*
 

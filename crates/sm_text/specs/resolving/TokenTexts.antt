@@ -6,11 +6,11 @@ use Rattle.std.specs.List.{AllPass}
 use Rattle.std.specs.Str.{IsAscii}
 use Rattle.std.specs.Str.Parse.{digits_value}
 use Rattle.sm_syntax.specs.declared.symbol.Mark.{Mark}
-use Rattle.sm_syntax.specs.declared.token.Token.{Token}
-use Rattle.sm_syntax.specs.declared.token.TokenKind.{TokenKind}
-use Rattle.sm_syntax.specs.declared.token.TokenKind.TheVariants.{Word, Number, Sign}
 use Rattle.sm_syntax.specs.text.Symbols.{text_of}
 use Rattle.sm_syntax.specs.text.Tokens.{mark_of_sign}
+use Rattle.sm_syntax.specs.declared.token.TokenKind.{TokenKind}
+use Rattle.sm_syntax.specs.declared.token.TokenKind.TheVariants.{Word, Number, Sign}
+use Rattle.sm_syntax.specs.declared.token.Token.{Token}
 
 -- ASCII, digits of a number that is not too wide, or a sign
 abbrev pub IsText : TokenKind → List ℕ → Type 0

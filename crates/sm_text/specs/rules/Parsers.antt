@@ -1,15 +1,14 @@
 -- No public clause cites this file.
 -- Parsers over the symbols of a text, of which the rules of the grammar are made.
-use Rattle.std.specs.Prelude.{ℕ, zero, suc, Bool, true, false, if◌then◌else◌, Option, Some, None}
-use Rattle.std.specs.Prelude.{Result, Ok, Err, List, [], ◌∷◌, length}
+use Rattle.std.specs.Prelude.{ℕ, zero, suc, Bool, true, false, if◌then◌else◌, Option, Some, None, Result, Ok, Err, List, [], ◌∷◌, length}
 use denote.Enum.Bare.{sameb}
 use Rattle.sm_syntax.specs.contracts.symbol.Mark.{the_type}
 use Rattle.sm_syntax.specs.declared.symbol.Mark.{Mark}
 use Rattle.sm_syntax.specs.declared.symbol.Symbol.{Symbol}
 use Rattle.sm_syntax.specs.declared.symbol.Symbol.TheVariants as s
-use Rattle.sm_text.specs.declared.rules.reading.Fault.{Fault}
-use Rattle.sm_text.specs.declared.rules.reading.FaultKind.{FaultKind}
-use Rattle.sm_text.specs.declared.rules.reading.FaultKind.TheVariants.{Expected, Nested}
+pub use Rattle.sm_text.specs.declared.rules.reading.Fault.{Fault}
+pub use Rattle.sm_text.specs.declared.rules.reading.FaultKind.{FaultKind}
+pub use Rattle.sm_text.specs.declared.rules.reading.FaultKind.TheVariants.{Expected, Nested}
 
 -- the first symbol, if there is one
 abbrev pub first : List Symbol → Option Symbol

@@ -5,8 +5,7 @@ pub mod Names
 pub mod Expressions
 pub mod Conditions
 pub mod Statements
-use Rattle.std.specs.Prelude.{ℕ, Bool, true, false, Option, Some, None, Result, Ok, Err}
-use Rattle.std.specs.Prelude.{List, [], ◌∷◌, ◌++◌}
+use Rattle.std.specs.Prelude.{ℕ, Bool, true, false, Option, Some, None, Result, Ok, Err, List, [], ◌∷◌, ◌++◌}
 use Rattle.sm_syntax.specs.declared.symbol.Mark.{Mark}
 use Rattle.sm_syntax.specs.declared.symbol.Mark.TheVariants as mark
 use Rattle.sm_syntax.specs.declared.symbol.Symbol.{Symbol}
@@ -14,11 +13,7 @@ use Rattle.sm_syntax.specs.claim.ConflictFree.{Copy}
 use Rattle.sm_syntax.specs.claim.Fill.{Fillings}
 use Rattle.sm_syntax.specs.text.Parts.{Parts, by_copy}
 use Rattle.sm_syntax.specs.claim.Syntax.{Condition, Code}
-use Rattle.sm_text.specs.declared.rules.reading.Fault.{Fault}
-use Rattle.sm_text.specs.declared.rules.reading.FaultKind.TheVariants.{Expected}
-use Rattle.sm_text.specs.rules.Parsers.{first, Parser, fault, ◌>>=◌, ◌>>◌, pure}
-use Rattle.sm_text.specs.rules.Parsers.{skip, expect, stands}
-use Rattle.sm_text.specs.rules.Parsers.{gather}
+use Rattle.sm_text.specs.rules.Parsers.{first, Parser, fault, ◌>>=◌, ◌>>◌, pure, skip, expect, stands, gather, Fault, Expected}
 use Rattle.sm_text.specs.Tasks.{HeadParts}
 unfoldable pub use Names.*
 unfoldable pub use Expressions.*

@@ -4,7 +4,6 @@ use Rattle.std.specs.Prelude.{ℕ, List, map}
 use Rattle.sm_syntax.specs.declared.program.Filling.{Filling}
 use Rattle.sm_syntax.specs.declared.tree.Name.{Name}
 use Rattle.sm_syntax.specs.declared.tree.Sort.{Sort}
-use Rattle.sm_syntax.specs.declared.tree.Stmt.{Stmt}
 use Rattle.sm_syntax.specs.claim.Fill.{Fillings}
 use Rattle.sm_syntax.specs.text.TaskGrammar.{with_sort}
 use Rattle.sm_syntax.specs.claim.Syntax as plain
@@ -15,6 +14,7 @@ use Rattle.sm_text.specs.declared.rules.expressions.Operator.{Operator}
 use Rattle.sm_text.specs.declared.rules.expressions.Operator.TheVariants.{Plus, Minus, Times}
 use Rattle.sm_text.specs.declared.rules.names.Declared.{Declared}
 use Rattle.sm_syntax.specs.trees.Views.{statement_of, code_of, sequence}
+use Rattle.sm_syntax.specs.declared.tree.Stmt.{Stmt}
 
 -- the numbers of names
 abbrev pub numbers_of : List Name → List ℕ

@@ -1,6 +1,5 @@
 // The front of a text, and a block in it, read by the tokens alone that they have.
-ghost use Rattle.std.specs.Prelude.{◌≡◌, ◌<◌, ◌≤◌, ◌+◌, ◌-◌, ◌^◌, ℕ, if◌then◌else◌};
-ghost use Rattle.std.specs.Prelude.{List, length, option_map, take, IfOk, IfErr, OnErr};
+ghost use Rattle.std.specs.Prelude.{◌≡◌, ◌<◌, ◌≤◌, ◌+◌, ◌-◌, ◌^◌, ℕ, if◌then◌else◌, List, length, option_map, take, IfOk, IfErr, OnErr};
 ghost use Rattle.std.specs.List.{AllByRecursion};
 ghost use Rattle.sm_syntax.specs.declared.symbol.Mark.TheVariants.{OpenCurly, CloseCurly};
 ghost use Rattle.sm_syntax.specs.claim.Syntax.{Code};
@@ -12,10 +11,7 @@ ghost use Rattle.sm_text.specs.parsing.Fragments.{HasBlockText, HasProgramText};
 ghost use Rattle.sm_text.specs.resolving.NameCounts as spec;
 ghost use Rattle.sm_text.specs.printing.Named.{IsUsedIn};
 ghost use Rattle.sm_text.specs.parsing.Places.{IsRefusal, whole_text, text_from};
-ghost use Rattle.sm_text.specs.parsing.Prefix.{AreTokensOf};
-ghost use Rattle.sm_text.specs.parsing.Prefix.{AreHeads, SpellsHead, IsHeadReadAs};
-ghost use Rattle.sm_text.specs.parsing.Prefix.{IsNamedHead, AssumesDeclared};
-ghost use Rattle.sm_text.specs.parsing.Prefix.{SpellsBlockAt, IsBlockReadAs, AreBlocks};
+ghost use Rattle.sm_text.specs.parsing.Prefix.{AreTokensOf, AreHeads, SpellsHead, IsHeadReadAs, IsNamedHead, AssumesDeclared, SpellsBlockAt, IsBlockReadAs, AreBlocks};
 ghost use Rattle.sm_text.specs.rules.Reading as grammar;
 ghost use Rattle.sm_text.specs.resolving.TokenTexts.{IsTokenOf};
 ghost use Rattle.sm_text.specs.Tasks.{HeadParts, head_parts, program_parts};

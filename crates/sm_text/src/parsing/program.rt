@@ -1,8 +1,7 @@
 // A whole text, read as a program.
 ghost use Rattle.std.specs.Prelude.{◌<◌, ◌^◌, length, IfOk, IfErr};
 ghost use Rattle.sm_text.specs.rules.Answers.{Gives};
-ghost use Rattle.sm_text.specs.parsing.Fragments.{HasProgramText, IsNamedProgram, IsProgramReadAs};
-ghost use Rattle.sm_text.specs.parsing.Fragments.{SpellsProgram};
+ghost use Rattle.sm_text.specs.parsing.Fragments.{HasProgramText, IsNamedProgram, IsProgramReadAs, SpellsProgram};
 ghost use Rattle.sm_text.specs.parsing.Places.{ArePrograms, IsRefusal, whole_text};
 ghost use Rattle.sm_text.specs.parsing.Program as spec;
 ghost use Rattle.sm_text.specs.Tasks.{ProgramParts, program_parts};

@@ -1,10 +1,8 @@
 // Makes symbols of tokens.
-ghost use Rattle.std.specs.Prelude.{◌≡◌, ◌<◌, ◌≤◌, ◌+◌, ◌^◌, length, map, take, if◌then◌else◌};
-ghost use Rattle.std.specs.Prelude.{IfOk, OnOk, OnErr};
+ghost use Rattle.std.specs.Prelude.{◌≡◌, ◌<◌, ◌≤◌, ◌+◌, ◌^◌, length, map, take, if◌then◌else◌, IfOk, OnOk, OnErr};
 ghost use Rattle.std.specs.List.{position_or_len, AllByRecursion};
 ghost use Rattle.std.specs.Str.{bytes_eq};
-ghost use Rattle.sm_syntax.specs.text.Symbols.{is_name, with_text, names_after, symbol_by};
-ghost use Rattle.sm_syntax.specs.text.Symbols.{symbols_of, names_of};
+ghost use Rattle.sm_syntax.specs.text.Symbols.{is_name, with_text, names_after, symbol_by, symbols_of, names_of};
 ghost use Rattle.sm_syntax.specs.text.Symbols as spec;
 ghost use Rattle.sm_syntax.specs.text.Tokens.{lexed};
 ghost use Rattle.sm_text.specs.resolving.TokenTexts.{IsText, IsTokenOf, sign_by};

@@ -2,8 +2,8 @@
 use Rattle.std.proofs.Common.{length, subst}
 use Rattle.std.proofs.lemmas.Bool.{OnTrue_at, OnTrue_from}
 use Rattle.sm_term.specs.Tables.{trees_in}
-use Rattle.sm_cert.specs.declared.tree.CertTree.{CertTree}
 use Rattle.sm_cert.specs.Views.{lines_of, AreLinesWithin}
+use Rattle.sm_cert.specs.declared.tree.CertTree.{CertTree}
 use Rattle.calls.proofs.WithinLemmas.{closed_within, split_within}
 use Rattle.calls.proofs.certificate.+is_tree_within.Goals as goal
 

@@ -8,8 +8,8 @@ use Rattle.sm_plan.specs.Plans.{Plan, obligations}
 use Rattle.sm_plan.specs.Plans as plain
 use Rattle.sm_plan.specs.States.{start_state}
 use Rattle.sm_plan.proofs.TablesWiden.{widens_twice}
-use Rattle.sm_expand.specs.declared.due.Due.{Due}
 use Rattle.sm_expand.specs.Views.{AreDuesReady, dues_in, numbered_plan, plan_in}
+use Rattle.sm_expand.specs.declared.due.Due.{Due}
 use Rattle.sm_expand.proofs.PlansWiden.{dues_ready, dues_stay, plan_ready, plan_stays}
 use Rattle.sm_write.specs.PlanStates.{plan_states}
 use Rattle.sm_write.specs.Writable.{all_goals}

@@ -3,8 +3,8 @@ use Rattle.std.proofs.Common.{◌≡◌, ◌+◌, List, [], drop, eqb-true, leng
 use Rattle.std.proofs.lemmas.List.{drop_all, nil_from_length}
 use Rattle.sm_term.specs.Tables.{trees_in, sorts_in}
 use Rattle.sm_cert.specs.declared.tree.CertTree.{CertTree}
-use Rattle.sm_expand.specs.declared.due.Due.{Due}
 use Rattle.sm_expand.specs.Views.{dues_in}
+use Rattle.sm_expand.specs.declared.due.Due.{Due}
 use Rattle.sm_write.specs.Writable.{all_goals}
 use Rattle.sm_audit.specs.Fit.{AreGoalsFit}
 use Rattle.sm_audit.proofs.BranchLemmas.{due_before, due_ready_at}

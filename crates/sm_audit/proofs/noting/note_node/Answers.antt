@@ -5,13 +5,13 @@ use Rattle.std.specs.declared.alloc.Global.{Global}
 use Rattle.std.proofs.lemmas.List.{length-append}
 use Rattle.sm_plan.specs.declared.opening.Opened.{Opened}
 use Rattle.sm_plan.proofs.TablesWiden.{widens_same}
-use Rattle.sm_expand.specs.declared.cursor.Cursor.{Cursor}
 use Rattle.sm_expand.specs.Cursors.{numbered_at}
+use Rattle.sm_expand.specs.declared.cursor.Cursor.{Cursor}
 use Rattle.sm_expand.specs.NumberedPlans.{below}
 use Rattle.sm_expand.proofs.PlansWiden.{plans_ready}
-use Rattle.sm_expand.specs.declared.placed.PlacedState.{PlacedState}
 use Rattle.sm_audit.specs.Walks.{IsUnderway}
 use Rattle.sm_expand.specs.PlacedStates.{ArePlacedReady, placed_with}
+use Rattle.sm_expand.specs.declared.placed.PlacedState.{PlacedState}
 use Rattle.sm_audit.proofs.NodesMet.{node_met}
 use Rattle.sm_expand.proofs.PlacedLemmas.{opened_fewer, opened_ready, plans_of}
 use Rattle.sm_audit.proofs.UnderwayLemmas.{underway_next}

@@ -3,9 +3,9 @@ use Rattle.std.proofs.Common.{◌≡◌, List, [], ◌∷◌, ◌++◌, length, 
 use Rattle.std.proofs.lemmas.List.{nil_from_length}
 use Rattle.sm_plan.proofs.TablesWiden.{widens_same, widens_twice}
 use Rattle.sm_plan.specs.declared.node.NodeRow.{NodeRow}
-use Rattle.sm_expand.specs.declared.placed.PlacedState.{PlacedState}
 use Rattle.sm_audit.specs.Walks.{IsUnderway, nodes_with}
 use Rattle.sm_expand.specs.PlacedStates.{ArePlacedReady}
+use Rattle.sm_expand.specs.declared.placed.PlacedState.{PlacedState}
 use Rattle.sm_audit.proofs.NodesMet.{all_met}
 use Rattle.sm_expand.proofs.PlacedLemmas.{popped}
 use Rattle.sm_audit.proofs.noting.note_nodes.Goals as goal

@@ -14,9 +14,9 @@ use Rattle.sm_expand.proofs.PlansWiden.{plan_ready, plan_stays}
 use Rattle.sm_write.specs.PlanStates.{plan_states}
 use Rattle.sm_expand.specs.declared.placed.PlacedState.{PlacedState}
 use Rattle.sm_audit.proofs.SinceLemmas.{since_none}
-use Rattle.sm_audit.proofs.TaskParts.{start_is}
 use Rattle.sm_audit.proofs.UnderwayLemmas.{starts_underway}
 use Rattle.sm_audit.proofs.walking.walk.Goals as goal
+use Rattle.sm_write.proofs.TaskStarts.{start_is}
 
 pub note_nodes-requires : goal.note_nodes-requires
 note_nodes-requires c =

@@ -3,9 +3,10 @@ use Rattle.std.specs.Str.{bytes_eq}
 use Rattle.lru.specs.LruCache.{LruCache}
 use Rattle.sm_batch.specs.declared.batch.Kept.{Kept}
 use Rattle.sm_batch.specs.Views.{entries_of, entry_of}
-use Rattle.sm_batch.proofs.LookupLemmas.{none_found, not_well}
+use Rattle.sm_batch.proofs.LookupLemmas.{none_found}
 use Rattle.sm_batch.proofs.MapLemmas.{images-put}
 use Rattle.sm_batch.proofs.settling.put_entry.Goals as goal
+use Rattle.sm_lemmas.proofs.Tests.{never_true}
 
 pub returns-in-Ok-clause-entries : goal.returns-in-Ok-clause-entries
 returns-in-Ok-clause-entries c =
@@ -18,5 +19,5 @@ pub returns-clause-entries : goal.returns-clause-entries
 returns-clause-entries c =
     inr (
       ap (λ (v : LruCache (Vec ℕ Global) Kept). entries_of v.entries) c.in-Err.ensures.err,
-      none_found c.args.cache.now.entries c.args.key.items (λ some. not_well (c.in-Err.ensures.succeeds some)),
+      none_found c.args.cache.now.entries c.args.key.items (λ some. never_true (c.in-Err.ensures.succeeds some)),
     )

@@ -2,8 +2,9 @@
 use Rattle.sm_expand.specs.NumberedPlans.{below}
 use Rattle.sm_expand.specs.Cursors.{numbered_at}
 use Rattle.sm_expand.proofs.PlansWiden.{plan_ready}
-use Rattle.sm_candidates.proofs.WaitsLemmas.{all_stay, places_of, below_ready}
+use Rattle.sm_candidates.proofs.WaitsLemmas.{all_stay, places_of}
 use Rattle.sm_candidates.proofs.walking.take_node.Goals as goal
+use Rattle.sm_expand.proofs.PlacedLemmas.{plans_of}
 
 pub returns-clause-ready : goal.returns-clause-ready
 returns-clause-ready c =
@@ -14,4 +15,4 @@ returns-clause-ready c =
     let plan = numbered_at c.args.next.cursor in
     c.in_ok-put_states.ensures w (all_stay v w wider c.args.waiting.now.items c.requires.waiting) opens.states
     (places_of w c.in_ok-opened.cursors.items (below plan) opens.plans
-    (below_ready w plan (plan_ready v w wider plan c.requires.next.place)))
+    (plans_of w plan (plan_ready v w wider plan c.requires.next.place)))

@@ -1,16 +1,16 @@
 use Rattle.std.proofs.Common.{◌≡◌, false, List, map, subst, length, arith}
 use Rattle.std.proofs.lemmas.Option.{slice_get_read}
-use Rattle.sm_cc.specs.declared.log.Given.{Given}
 use Rattle.sm_cc.specs.Rows.{is_listed}
-use Rattle.sm_cc.specs.Closures.{placed_of, are_together, pair_of, GivenHere}
-use Rattle.sm_cc.proofs.CausesLemmas.{get_there, cause_at}
+use Rattle.sm_cc.specs.Closures.{placed_of, are_together, pair_of, GivenHere, Given}
+use Rattle.sm_cc.proofs.CausesLemmas.{cause_at}
 use Rattle.sm_cc.proofs.cause.cause_of.Goals as goal
+use Rattle.sm_lemmas.proofs.Lists.{get_below}
 
 pub returns-in-Some : goal.returns-in-Some
 returns-in-Some c =
     let rows = c.args.c.now.rows.items in
-    let r = get_there rows c.args.i c.requires.left in
-    let s = get_there rows c.args.j c.requires.right in
+    let r = get_below rows c.args.i c.requires.left in
+    let s = get_below rows c.args.j c.requires.right in
     record {
       first = r.0;
       second = s.0;

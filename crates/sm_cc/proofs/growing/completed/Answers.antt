@@ -1,9 +1,7 @@
 -- One more place has its own entry and root.
 use Rattle.std.proofs.Common.{◌≡◌, List, [], ◌∷◌, ◌++◌, length, length-append, refl, sym, ap, subst, arith}
-use Rattle.sm_cc.specs.declared.log.Entry.{Entry}
-use Rattle.sm_cc.specs.declared.log.Equation.{Equation}
-use Rattle.sm_cc.specs.Log.{AllFollow}
-use Rattle.sm_cc.specs.Closures.{AllRooted}
+use Rattle.sm_cc.specs.Log.{AllFollow, Entry}
+use Rattle.sm_cc.specs.Closures.{AllRooted, Equation}
 use Rattle.sm_cc.specs.Exact.{placed_with}
 use Rattle.sm_cc.proofs.GrowingLemmas.{own_entry, own_follow, own_rooted}
 use Rattle.sm_cc.proofs.growing.completed.Goals as goal

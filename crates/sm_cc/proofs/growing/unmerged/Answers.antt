@@ -1,9 +1,7 @@
 -- Nothing was logged.
 use Rattle.std.proofs.Common.{◌≡◌, ℕ, ◌≤◌, None, Some, List, [], length, slice_get, sym, ap, ◌∙◌, subst, arith}
-use Rattle.sm_cc.specs.declared.log.Entry.{Entry}
-use Rattle.sm_cc.specs.declared.log.Equation.{Equation}
-use Rattle.sm_cc.specs.Log.{AllFollow}
-use Rattle.sm_cc.specs.Closures.{AllRooted}
+use Rattle.sm_cc.specs.Log.{AllFollow, Entry}
+use Rattle.sm_cc.specs.Closures.{AllRooted, Equation}
 use Rattle.sm_cc.specs.Exact.{placed_with}
 use Rattle.sm_cc.proofs.growing.unmerged.Goals as goal
 

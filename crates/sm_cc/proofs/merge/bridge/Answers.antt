@@ -1,6 +1,5 @@
 use Rattle.std.proofs.lemmas.Result.{IfOk-weaker}
-use Rattle.sm_cc.specs.declared.log.Equation.{Equation}
-use Rattle.sm_cc.specs.Closures.{AddsEquation}
+use Rattle.sm_cc.specs.Closures.{AddsEquation, Equation}
 use Rattle.sm_cc.specs.Merges.{Bridges}
 use Rattle.sm_cc.proofs.MergesLemmas.{bridge_from, root_get}
 use Rattle.std.proofs.Common.{◌∙◌, sym}

@@ -1,7 +1,6 @@
 use Rattle.std.proofs.Common.{subst, sym, arith}
-use Rattle.sm_cc.specs.declared.closure.Closure.{Closure}
 use Rattle.sm_cc.specs.Rows.{ArePlacesClosed}
-use Rattle.sm_cc.specs.Closures.{board_of, are_together}
+use Rattle.sm_cc.specs.Closures.{board_of, are_together, Closure}
 use Rattle.sm_cc.proofs.RoundsLemmas.{closed_from}
 use Rattle.sm_cc.proofs.rounds.settle.Goals as goal
 

@@ -1,21 +1,19 @@
 use Rattle.std.proofs.Common.{rules, ◌≡◌, ◌+◌, ◌*◌, ◌<◌, ◌++◌, ◌∷◌, [], arith, suc, List, Option, length, sym, ap, ◌∙◌, subst}
 use Rattle.sm_term.specs.Tables.{trees_in, sorts_in}
+use Rattle.sm_theory.specs.Views.{line_in, AllStand}
 use Rattle.sm_theory.specs.declared.line.CertLine.{CertLine}
 use Rattle.sm_theory.specs.declared.fact.Fact.{Fact}
-use Rattle.sm_theory.specs.Views.{line_in, AllStand}
 use Rattle.sm_theory.specs.Ways.{ways_with}
-use Rattle.sm_cert.specs.declared.tree.CertTree.{CertTree}
 use Rattle.sm_cert.specs.declared.error.CertFault.{CertFault}
 use Rattle.sm_cert.specs.declared.error.CertFault.TheVariants as fault
 use Rattle.sm_cert.specs.Certificates.{Certificate, Closed, Split, first_of_three, first_bad, bad_line, lines_in}
-use Rattle.sm_cert.specs.Views.{lines_before, certificate_in, lines_of, AreLinesWithin, FaultTells}
+use Rattle.sm_cert.specs.Views.{lines_before, certificate_in, lines_of, AreLinesWithin, FaultTells, CertTree}
 use Rattle.sm_cert.specs.Ways.{SplitsInto}
 use Rattle.sm_cert.specs.Check.{line_number, Passes}
 use Rattle.sm_cert.proofs.CheckLemmas.{tree_closed, tree_split, three_sound, line_sorted, counted_more}
 use Rattle.sm_cert.proofs.WaysLemmas.{stand_append}
 use Rattle.std.proofs.lemmas.Result.{IfOk-weaker, IfErr-weaker}
-use Rattle.sm_cert.proofs.TreeLemmas.{own_within, split_within, first_within, second_within, first_fewer, second_fewer, closed_passes}
-use Rattle.sm_cert.proofs.TreeLemmas.{open_tells, whole_tells, halves, err_is, split_passes, split_first, split_second}
+use Rattle.sm_cert.proofs.TreeLemmas.{own_within, split_within, first_within, second_within, first_fewer, second_fewer, closed_passes, open_tells, whole_tells, halves, err_is, split_passes, split_first, split_second}
 use Rattle.sm_cert.proofs.check.+check.Goals as goal
 
 pub check_at-add_lines-requires-clause-within : goal.check_at-add_lines-requires-clause-within

@@ -1,7 +1,6 @@
 use Rattle.std.proofs.Common.{◌≡◌, ◌-◌, nat_lt, true, false, length, sym, ap, ◌∙◌, subst}
-use Rattle.sm_cert.specs.declared.tree.CertTree.{CertTree}
 use Rattle.sm_cert.specs.Certificates.{splits_above}
-use Rattle.sm_cert.specs.Views.{certificate_in, lines_of, AreLinesWithin}
+use Rattle.sm_cert.specs.Views.{certificate_in, lines_of, AreLinesWithin, CertTree}
 use Rattle.sm_cert.specs.NamedTerms.{IsCertificateSorted}
 use Rattle.sm_cert.proofs.NamedLemmas.{closed_sorted, split_sorted}
 use Rattle.sm_cert.proofs.TreeLemmas.{split_within}

@@ -1,8 +1,8 @@
 use Rattle.std.proofs.Common.{◌≡◌, ◌∷◌, [], List, Option, IfOk, true, false, take, length, sym, subst}
 use Rattle.sm_term.specs.Tables.{trees_in, sorts_in}
-use Rattle.sm_theory.specs.declared.fact.Fact.{Fact}
-use Rattle.sm_theory.specs.declared.line.CertLine.{CertLine}
 use Rattle.sm_theory.specs.Views.{line_in, StandsIf}
+use Rattle.sm_theory.specs.declared.line.CertLine.{CertLine}
+use Rattle.sm_theory.specs.declared.fact.Fact.{Fact}
 use Rattle.sm_theory.specs.Lines.{equation_at, contrary_at}
 use Rattle.sm_theory.specs.Ways.{Ways, ways_with, adding}
 use Rattle.sm_cert.specs.Certificates.{first_of_three}

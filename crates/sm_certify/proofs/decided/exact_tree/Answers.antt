@@ -12,8 +12,8 @@ use Rattle.sm_certify.specs.Deciding.{Decides}
 use Rattle.sm_certify.specs.Given.{branch_of}
 use Rattle.sm_certify.proofs.BranchLeadsLemmas.{item_left}
 use Rattle.sm_certify.proofs.DecidedLemmas.{decides_first, decides_usable, source_in_order, decided_refutes, decided_within}
-use Rattle.sm_certify.proofs.LeadsLemmas.{no_split}
 use Rattle.sm_certify.proofs.decided.exact_tree.Goals as goal
+use Rattle.sm_cert.proofs.CheckLemmas.{splits_before}
 
 pub loop-source-init : goal.loop-source-init
 loop-source-init c =
@@ -73,4 +73,4 @@ pub returns-clause-splits : goal.returns-clause-splits
 returns-clause-splits c =
     let trees = trees_in c.args.table.now in
     ap splits_above (c.closed_tree-tree.ensures.certificate trees)
-    ∙ no_split trees c.push.new.self.items (Closed (Close c.next_number-number.result))
+    ∙ splits_before trees c.push.new.self.items (Closed (Close c.next_number-number.result))

@@ -1,7 +1,7 @@
 -- Terms of one label are equal on the branch.
 use Rattle.std.proofs.Common.{◌≡◌, ◌<◌, true, length, sym, subst}
-use Rattle.sm_term.specs.declared.formula.Formula.{Formula}
 use Rattle.sm_term.specs.Formulas.{numbered, assertion_in, IsFormulaWithin}
+use Rattle.sm_term.specs.declared.formula.Formula.{Formula}
 use Rattle.sm_term.specs.Tables.{trees_in, sorts_in}
 use Rattle.sm_certify.specs.Given.{branch_of}
 use Rattle.sm_judge.specs.Holding.{is_refuted}

@@ -8,9 +8,10 @@ use Rattle.sm_cert.specs.Certificates.{Certificate, Closed, first_bad, splits_ab
 use Rattle.sm_cert.specs.Views.{AreLinesWithin}
 use Rattle.sm_certify.specs.Given.{branch_of}
 use Rattle.sm_certify.specs.Refuting.{Leads, mark_at}
-use Rattle.sm_certify.proofs.LeadsLemmas.{leads_first, leads_bad, no_split, places_first}
+use Rattle.sm_certify.proofs.LeadsLemmas.{leads_first, leads_bad, places_first}
 use Rattle.sm_certify.proofs.BranchLeadsLemmas.{closed_step, closed_within}
 use Rattle.sm_certify.proofs.refute.refutation_tree.Goals as goal
+use Rattle.sm_cert.proofs.CheckLemmas.{splits_before}
 
 pub add_sources-requires-clause-leads : goal.add_sources-requires-clause-leads
 add_sources-requires-clause-leads c =
@@ -51,7 +52,7 @@ pub returns-clause-splits : goal.returns-clause-splits
 returns-clause-splits c =
     let trees = trees_in c.args.table.now in
     ap splits_above (c.closed_tree-tree.ensures.certificate trees)
-    ∙ no_split trees c.add_sums.new.draft.lines.items (Closed (Close c.number_at-bad.result))
+    ∙ splits_before trees c.add_sums.new.draft.lines.items (Closed (Close c.number_at-bad.result))
 
 pub marks_of-requires : goal.marks_of-requires
 marks_of-requires c =

@@ -6,16 +6,15 @@ use Rattle.sm_theory.specs.Facts.{BranchFact}
 use Rattle.sm_theory.specs.Ways.{ways}
 use Rattle.sm_theory.specs.Views.{line_in}
 use Rattle.sm_plan.specs.Views.{stores_in}
-use Rattle.sm_proof.specs.declared.word.Head.{Head}
-use Rattle.sm_proof.specs.declared.word.Word.{Word}
-use Rattle.sm_proof.specs.declared.word.Word.TheVariants.{Deep, First}
 use Rattle.sm_proof.specs.Lines.{numbered_line}
 use Rattle.sm_proof.specs.Named.{found_or, named_line}
+use Rattle.sm_proof.specs.declared.word.Word.{Word}
+use Rattle.sm_proof.specs.declared.word.Word.TheVariants.{Deep, First}
+use Rattle.sm_proof.specs.declared.word.Head.{Head}
 use Rattle.sm_proof.specs.Passing.{Pending, branches_before}
-use Rattle.sm_check.specs.declared.pending.Due.{Due}
 use Rattle.sm_check.specs.CertsTaken.{pending_after}
 use Rattle.sm_check.specs.LineKinds.{Misses}
-use Rattle.sm_check.specs.Pending.{PendingStands}
+use Rattle.sm_check.specs.Pending.{PendingStands, Due}
 use Rattle.sm_check.specs.Walks.{terms_in}
 use Rattle.sm_check.proofs.CertTaken.{misses_told, cert_deep, cert_tried}
 use Rattle.sm_check.proofs.NodesLemmas.{tells_word}

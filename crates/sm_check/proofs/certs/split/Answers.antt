@@ -4,6 +4,7 @@ use Rattle.sm_term.specs.Tables.{trees_in, sorts_in}
 use Rattle.sm_theory.specs.Facts.{BranchFact}
 use Rattle.sm_theory.specs.Ways.{ways, adds}
 use Rattle.sm_theory.specs.Views.{line_in}
+use Rattle.sm_theory.specs.declared.fact.Fact.{Fact}
 use Rattle.sm_theory.proofs.ArithmeticKept.{arithmetic_sorted}
 use Rattle.sm_theory.proofs.TheoriesLemmas.{ways_are_sorted_from}
 use Rattle.sm_cert.specs.Ways.{SplitsInto}
@@ -12,7 +13,6 @@ use Rattle.sm_check.specs.declared.pending.Waiting.TheVariants as waits
 use Rattle.sm_check.specs.Pending.{AreWaitingReady}
 use Rattle.sm_syntax.specs.declared.copies.PerCopy.{PerCopy}
 use Rattle.sm_term.specs.declared.symbolic.SymStore.{SymStore}
-use Rattle.sm_theory.specs.declared.fact.Fact.{Fact}
 use Rattle.sm_plan.specs.ReadyStates.{AreStoresReady}
 use Rattle.sm_check.proofs.PendingLemmas.{stand_long, ready_append}
 use Rattle.sm_check.proofs.CertsLemmas.{two_go}

@@ -5,8 +5,8 @@ use Rattle.std.proofs.Crossing.{crosses}
 use Rattle.std.specs.List.{slice_get, slice_index_or}
 use Rattle.sm_term.proofs.term.TermId.TheSendSync as id
 use Rattle.sm_term.specs.Tables.{trees_in, sorts_in}
-use Rattle.sm_term.specs.Terms.{Tree}
 use Rattle.sm_term.specs.declared.term.TermId.{TermId}
+use Rattle.sm_term.specs.Terms.{Tree}
 use Rattle.sm_check.specs.declared.openings.Opening.{Opening}
 use Rattle.sm_check.specs.Aside.{certificates_of}
 use Rattle.sm_check.specs.Closing.{CloseFirst}

@@ -2,11 +2,10 @@
 use Rattle.std.proofs.Common.{Ok, List, sym, subst, ◌∙◌}
 use Rattle.std.proofs.lemmas.Result.{err_from_is_err_and}
 use Rattle.sm_term.specs.Tables.{TableValue, trees_in, sorts_in}
-use Rattle.sm_proof.specs.declared.word.Word.TheVariants.{BadNumber}
 use Rattle.sm_proof.specs.Named.{found_or, named_node}
+use Rattle.sm_proof.specs.declared.word.Word.TheVariants.{BadNumber}
 use Rattle.sm_proof.specs.Passing.{Progress, after_node}
-use Rattle.sm_check.specs.declared.forms.FormRow.{FormRow}
-use Rattle.sm_check.specs.FormRows.{RowsStand}
+use Rattle.sm_check.specs.FormRows.{RowsStand, FormRow}
 use Rattle.sm_check.specs.NodesTaken.{OpensAs, WalksAt}
 use Rattle.sm_check.specs.Tells.{Tells}
 use Rattle.sm_check.specs.Walks.{WalkValue, Walks}

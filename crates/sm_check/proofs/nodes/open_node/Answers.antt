@@ -1,15 +1,14 @@
 -- What a line opens, or why it doesn't.
 use Rattle.std.proofs.Common.{◌≡◌, Option, Some, None, Ok, refl, sym, ap, ◌∙◌, subst}
-use Rattle.std.specs.Prelude.{IfSome}
-use Rattle.std.specs.Prelude.{option_map}
+use Rattle.std.specs.Prelude.{IfSome, option_map}
 use Rattle.sm_term.specs.declared.formula.Formula.{Formula}
 use Rattle.sm_term.specs.Assertions.{Assertion}
 use Rattle.sm_term.specs.Tables.{trees_in, sorts_in}
 use Rattle.sm_plan.specs.Nodes.{opened_by}
 use Rattle.sm_plan.specs.ReadyStates.{IsFormReady}
 use Rattle.sm_plan.specs.Views.{state_in, opened_in}
-use Rattle.sm_proof.specs.declared.word.Word.TheVariants.{Deep, First}
 use Rattle.sm_proof.specs.Named.{node_head}
+use Rattle.sm_proof.specs.declared.word.Word.TheVariants.{Deep, First}
 use Rattle.sm_check.specs.Kept.{keep_of, node_with, KeepsOrFails}
 use Rattle.sm_check.specs.NodesTaken.{OpensAs}
 use Rattle.sm_check.specs.Tells.{Tells}

@@ -4,9 +4,8 @@ use Rattle.sm_syntax.specs.text.Sorts.{Sorts}
 use Rattle.sm_term.specs.declared.formula.Formula.{Formula}
 use Rattle.sm_term.specs.Terms.{Tree}
 use Rattle.sm_plan.specs.ReadyStates.{AreStoresReady}
-use Rattle.sm_check.specs.declared.pending.Waiting.{Waiting}
 use Rattle.sm_check.specs.Opened.{AreDenied}
-use Rattle.sm_check.specs.Pending.{AreWaitingReady}
+use Rattle.sm_check.specs.Pending.{AreWaitingReady, Waiting}
 use Rattle.sm_check.proofs.opened.put_goals.Given as goal
 
 abbrev pub invariant-loop-goal : goal.invariant-loop-goal

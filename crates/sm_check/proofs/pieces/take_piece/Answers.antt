@@ -1,6 +1,5 @@
 -- One line more, and at the end the bytes that no end follows.
-use Rattle.std.proofs.Common.{◌≡◌, ◌<◌, ◌≤◌, ◌+◌, ◌-◌, ◌++◌, ◌∷◌, [], ℕ, List, refl, sym, ap, subst, take, drop, length}
-use Rattle.std.proofs.Common.{length-take, length-drop, append-nil, ◌∙◌, arith}
+use Rattle.std.proofs.Common.{◌≡◌, ◌<◌, ◌≤◌, ◌+◌, ◌-◌, ◌++◌, ◌∷◌, [], ℕ, List, refl, sym, ap, subst, take, drop, length, length-take, length-drop, append-nil, ◌∙◌, arith}
 use Rattle.std.proofs.lemmas.List.{length-append, take_rest}
 use Rattle.sm_proof.specs.Verdicts.{FileLines}
 use Rattle.sm_check.specs.Aside.{AreRead, lines_aside}

@@ -9,24 +9,23 @@ use Rattle.sm_syntax.specs.trees.Copies.{of_copy}
 use Rattle.sm_syntax.specs.trees.Programs.{declared_of}
 use Rattle.sm_syntax.specs.trees.Views.{code_of}
 use Rattle.sm_term.specs.Assertions.{Assertion}
-use Rattle.sm_term.specs.declared.term.TermId.{TermId}
 use Rattle.sm_term.specs.Tables.{trees_in, sorts_in, AreBefore}
+use Rattle.sm_term.specs.declared.term.TermId.{TermId}
 use Rattle.sm_text.specs.Tasks.{parts_of}
 use Rattle.sm_theory.specs.Facts.{as_facts}
 use Rattle.sm_plan.specs.States as plain
 use Rattle.sm_plan.specs.States.{State, start_of}
 use Rattle.sm_plan.specs.Views.{forms_in, state_in}
 use Rattle.sm_proof.specs.Passing as passing
-use Rattle.sm_check.specs.declared.forms.FormRow.{FormRow}
 use Rattle.sm_check.specs.declared.pending.Due.TheVariants as due
-use Rattle.sm_check.specs.declared.pending.Waiting.{Waiting}
-use Rattle.sm_check.specs.FormRows.{RowsStand, AreRowsReady}
-use Rattle.sm_check.specs.Pending.{AllPending, AreWaitingReady}
+use Rattle.sm_check.specs.FormRows.{RowsStand, AreRowsReady, FormRow}
+use Rattle.sm_check.specs.Pending.{AllPending, AreWaitingReady, Waiting}
 use Rattle.sm_check.specs.Walks as walk
 use Rattle.sm_check.specs.Walks.{terms_in}
 use Rattle.sm_check.proofs.PendingLemmas.{forms_sorted}
-use Rattle.sm_check.proofs.StartLemmas.{numbered_walk, assumed_same, no_rows, no_rows_ready}
+use Rattle.sm_check.proofs.StartLemmas.{numbered_walk, no_rows, no_rows_ready}
 use Rattle.sm_check.proofs.start.start.Goals as goal
+use Rattle.sm_syntax.proofs.Assumed.{assumed_same}
 
 pub invariant_of-result : goal.invariant_of-result
 invariant_of-result c =

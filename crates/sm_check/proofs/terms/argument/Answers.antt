@@ -6,8 +6,8 @@ use Rattle.sm_term.specs.Tables.{trees_in, tree_at}
 use Rattle.sm_term.specs.Terms.{Tree}
 use Rattle.sm_term.proofs.TermsLemmas.{part_before}
 use Rattle.sm_proof.specs.declared.word.Head.TheVariants as head
-use Rattle.sm_proof.specs.declared.word.Word.TheVariants.{BadNumber, First}
 use Rattle.sm_proof.specs.Named.{found_or}
+use Rattle.sm_proof.specs.declared.word.Word.TheVariants.{BadNumber, First}
 use Rattle.sm_proof.specs.Passing.{with_tree}
 use Rattle.sm_check.specs.TermsMade.{IsTerm}
 use Rattle.sm_check.specs.Walks.{terms_in}

@@ -1,8 +1,6 @@
 use Rattle.std.proofs.Common.{Result, ap, subst, sym}
 use Rattle.sm_proof.specs.Verdicts.{lines_in, verdict}
-use Rattle.sm_check.specs.declared.verifying.Checked.{Checked}
-use Rattle.sm_check.specs.declared.verifying.CheckError.{CheckError}
-use Rattle.sm_check.specs.Files.{Judged, TellsAnswer}
+use Rattle.sm_check.specs.Files.{Judged, TellsAnswer, Checked, CheckError}
 use Rattle.sm_check.specs.Pieces.{reach}
 use Rattle.sm_check.proofs.AnswerLemmas.{stopped_verdict}
 use Rattle.sm_check.proofs.MemoryLemmas.{none_left}

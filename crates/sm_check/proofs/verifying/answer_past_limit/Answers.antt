@@ -1,7 +1,5 @@
 use Rattle.std.proofs.Common.{Result, ap, subst, sym}
-use Rattle.sm_check.specs.declared.verifying.Checked.{Checked}
-use Rattle.sm_check.specs.declared.verifying.CheckError.{CheckError}
-use Rattle.sm_check.specs.Files.{cut_answer, TellsAnswer}
+use Rattle.sm_check.specs.Files.{cut_answer, TellsAnswer, Checked, CheckError}
 use Rattle.sm_check.proofs.AnswerLemmas.{stopped_tells}
 use Rattle.sm_check.proofs.verifying.answer_past_limit.Goals as goal
 

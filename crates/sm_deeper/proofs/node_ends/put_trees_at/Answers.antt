@@ -1,7 +1,7 @@
 use Rattle.sm_term.specs.Tables.{trees_in, sorts_in}
 use Rattle.sm_plan.proofs.TablesWiden.{forms_ready, form_ready}
-use Rattle.sm_goals.proofs.FormsLemmas.{form_at}
 use Rattle.sm_deeper.proofs.node_ends.put_trees_at.Goals as goal
+use Rattle.sm_plan.proofs.FillingForms.{ready_at}
 
 pub walked-requires-clause-facts : goal.walked-requires-clause-facts
 walked-requires-clause-facts c =
@@ -13,4 +13,4 @@ walked-requires-clause-goal c =
     let f = c.goal-item.result in
     let i = c.loop-goal.goal-index in
     form_ready v c.loop-goal.table c.loop-goal.invariant.widens f
-    (form_at (sorts_in v) (trees_in v) c.args.goals.now i f c.requires.goals c.loop-goal-test.true c.goal-item.is)
+    (ready_at (sorts_in v) (trees_in v) c.args.goals.now i f c.requires.goals c.loop-goal-test.true c.goal-item.is)

@@ -1,9 +1,9 @@
 -- Before a block: the statements from i on were gone over. Before turns: some rounds were made.
 use Rattle.std.proofs.Common.{◌+◌, ◌-◌, ◌*◌, ◌^◌, ◌≤◌, max, length, map, drop}
-use Rattle.sm_syntax.specs.declared.tree.Block.{size-Block}
-use Rattle.sm_syntax.specs.declared.tree.Stmt.{size-Stmt}
 use Rattle.sm_syntax.specs.claim.Syntax.{End}
 use Rattle.sm_syntax.specs.trees.Views.{sequence, statement_of, code_of}
+use Rattle.sm_syntax.specs.declared.tree.Stmt.{size-Stmt}
+use Rattle.sm_syntax.specs.declared.tree.Block.{size-Block}
 use Rattle.sm_deps.specs.Loops.{GoesOver}
 use Rattle.sm_deps.specs.Members.{members}
 use Rattle.sm_deps.proofs.LoopsExact.{Turns}

@@ -6,8 +6,10 @@ use mir.Val.{SFits}
 use Rattle.sm_num.specs.Range.{fits_form}
 use Rattle.sm_num.specs.Forms.{coefficient, AreParts}
 use Rattle.sm_num.specs.FormLaws.{same_atom}
-use Rattle.sm_exact.proofs.CoefficientLemmas.{coefficient_there, coefficient_past, part_fits}
+use Rattle.sm_exact.proofs.CoefficientLemmas.{part_fits}
 use Rattle.sm_exact.proofs.coefficients.coefficient.Goals as goal
+use Rattle.sm_num.proofs.KeptForms.{coefficient_at}
+use Rattle.sm_num.proofs.OneForm.{coefficient_past}
 
 pub returns-then-part-t-clause-value : goal.returns-then-part-t-clause-value
 returns-then-part-t-clause-value c =
@@ -24,7 +26,7 @@ returns-then-part-t-2-clause-value c =
     let found = get_or items c.loop-part.part-index (0, pos 0) in
     let fits : SFits w128 found.1 = search rules in
     to_z-of_z w128 found.1 fits
-    ∙ sym (coefficient_there c.args.t c.loop-part.part-index items kept c.loop-part-test.true c.if-part-t-2.true)
+    ∙ sym (coefficient_at c.args.t c.loop-part.part-index items kept c.loop-part-test.true c.if-part-t-2.true)
     ∙ sym c.loop-part.invariant
     ∙ ap (coefficient same_atom c.args.t) c.parts-parts.ensures.parts
 

@@ -2,8 +2,8 @@
 use Rattle.std.proofs.Common.{◌≡◌, ◌-◌, ◌+ℤ◌, ◌*ℤ◌, ℕ, ℤ, pos, List, ◌∷◌, suc, get_or, drop, sym, ap, subst, ◌∙◌, arith}
 use Rattle.std.proofs.lemmas.Int.{ints}
 use Rattle.std.proofs.Math.Seq.{drop-cons}
-use Rattle.sm_num.specs.declared.kind.Kind.TheVariants.{Eq}
 use Rattle.sm_num.specs.Forms.{AreParts, coefficient}
+use Rattle.sm_num.specs.declared.kind.Kind.TheVariants.{Eq}
 use Rattle.sm_num.specs.FormLaws.{same_atom}
 use Rattle.sm_theory.specs.LinearTerms.{atom_form}
 use Rattle.sm_exact.specs.Placing.{HasNoPlace, ArePlaced}

@@ -5,9 +5,10 @@ use Rattle.std.specs.Int.{w128}
 use mir.Val.{SFits, to_z, of_z}
 use Rattle.sm_num.specs.declared.op.Op.TheVariants.{Mul}
 use Rattle.sm_num.specs.Errors.{Returns}
-use Rattle.sm_exact.proofs.BoundsLemmas.{turned_fits, less_one_fits, passed, zero_less_fits, passed_turned, passed_less}
+use Rattle.sm_exact.proofs.BoundsLemmas.{less_one_fits, passed, zero_less_fits, passed_turned, passed_less}
 use Rattle.sm_exact.proofs.ShadowsLemmas.{shadow_fails, product_fails, shadow_ends, computed_in_range}
 use Rattle.sm_exact.proofs.shadows.shadow.Goals as goal
+use Rattle.sm_num.proofs.ResultsReduced.{neg_fits}
 
 pub overflow_sub-b : goal.overflow_sub-b
 overflow_sub-b c = zero_less_fits c.coefficient-b.result c.coefficient-b.ensures.range
@@ -21,7 +22,7 @@ pub overflow_sub-b-2 : goal.overflow_sub-b-2
 overflow_sub-b-2 c =
     let b = c.coefficient-b.result in
     subst (λ (x : ℤ). SFits w128 (x -ℤ pos 1)) (sym (passed_turned b b c.coefficient-b.ensures.range refl))
-    (less_one_fits (neg_ℤ b) (turned_fits b c.coefficient-b.ensures.range))
+    (less_one_fits (neg_ℤ b) (neg_fits b c.coefficient-b.ensures.range))
 
 pub returns-in_err-h : goal.returns-in_err-h
 returns-in_err-h c =
@@ -45,7 +46,7 @@ returns-in_err-y c =
     (to_z w128 (of_z w128 (below -ℤ pos 1))) c.in_err-y.field-0.0 (passed a c.coefficient-a.ensures.range ∙ c.coefficient-a.ensures.value)
     (passed_turned b _ c.coefficient-b.ensures.range c.coefficient-b.ensures.value)
     (passed_less above a c.coefficient-a.ensures.range (passed a c.coefficient-a.ensures.range))
-    (passed_less below (neg_ℤ b) (turned_fits b c.coefficient-b.ensures.range) (passed_turned b b c.coefficient-b.ensures.range refl))
+    (passed_less below (neg_ℤ b) (neg_fits b c.coefficient-b.ensures.range) (passed_turned b b c.coefficient-b.ensures.range refl))
     c.in_ok-h.ensures c.in_err-y.ensures)
 
 pub number-requires : goal.number-requires
@@ -77,7 +78,7 @@ returns c =
     (passed a c.coefficient-a.ensures.range ∙ c.coefficient-a.ensures.value)
     (passed_turned b _ c.coefficient-b.ensures.range c.coefficient-b.ensures.value)
     (passed_less above a c.coefficient-a.ensures.range (passed a c.coefficient-a.ensures.range))
-    (passed_less below (neg_ℤ b) (turned_fits b c.coefficient-b.ensures.range) (passed_turned b b c.coefficient-b.ensures.range refl))
+    (passed_less below (neg_ℤ b) (neg_fits b c.coefficient-b.ensures.range) (passed_turned b b c.coefficient-b.ensures.range refl))
     c.in_ok-h.ensures c.in_ok-y.ensures c.in_ok-number.ensures.ok (to_z-of_z w128 y fits) c.parts-lower.ensures.kept
     c.parts-upper.ensures.kept))
     c.combine-3.ensures

@@ -3,9 +3,9 @@ use Rattle.std.proofs.lemmas.Int.{to_z-of_z}
 use Rattle.std.proofs.lemmas.Result.{err_from_is_err_and}
 use Rattle.std.specs.Int.{w128}
 use mir.Val.{SFits, to_z, of_z}
-use Rattle.sm_exact.proofs.SplintersLemmas.{count_fails_first, count_fails_second, count_fails_third, count_is, numbers_below}
-use Rattle.sm_exact.proofs.SplintersLemmas.{numbers_above, few_above, size_fits}
+use Rattle.sm_exact.proofs.SplintersLemmas.{count_fails_first, count_fails_second, count_fails_third, count_is, numbers_below, numbers_above, few_above}
 use Rattle.sm_exact.proofs.splinters.splinter_count.Goals as goal
+use Rattle.sm_num.proofs.KeptForms.{size_below}
 
 pub returns-in_err-x : goal.returns-in_err-x
 returns-in_err-x c =
@@ -40,7 +40,7 @@ returns-in_err-z c =
     })
 
 pub floor-last-requires : goal.floor-last-requires
-floor-last-requires c = subst (λ (n : ℕ). n < 2 ^ 127) (sym c.size.ensures) (size_fits c.args.m.now c.requires)
+floor-last-requires c = subst (λ (n : ℕ). n < 2 ^ 127) (sym c.size.ensures) (size_below c.args.m.now c.requires)
 
 pub returns-then-last-lt0 : goal.returns-then-last-lt0
 returns-then-last-lt0 c =

@@ -3,11 +3,9 @@ use Rattle.std.proofs.Common.{◌≡◌, [], ◌∷◌, ◌++◌, map, sym, ◌�
 use Rattle.std.proofs.lemmas.Result.{IfOk-weaker}
 use Rattle.std.specs.Prelude.{Vec}
 use Rattle.std.specs.declared.alloc.Global.{Global}
-use Rattle.sm_expand.specs.declared.cursor.Cursor.{Cursor}
-use Rattle.sm_expand.specs.declared.plan.Plans.{out-Plans}
 use Rattle.sm_expand.specs.NumberedPlans.{below, list_of}
-use Rattle.sm_expand.specs.Cursors.{numbered_at}
-use Rattle.sm_expand.specs.Views.{numbered_plan, numbered_last}
+use Rattle.sm_expand.specs.Cursors.{numbered_at, Cursor}
+use Rattle.sm_expand.specs.Views.{numbered_plan, numbered_last, out-Plans}
 use Rattle.sm_expand.proofs.RowsLemmas.{loop_below}
 use Rattle.sm_expand.proofs.cursor.below_last.Goals as goal
 

@@ -3,10 +3,10 @@ use Rattle.std.proofs.Common.{◌≡◌, ℕ, suc, ◌∷◌, ◌++◌, take, re
 use Rattle.std.specs.Prelude.{Vec}
 use Rattle.std.specs.declared.alloc.Global.{Global}
 use Rattle.sm_term.specs.Tables.{trees_in, sorts_in}
-use Rattle.sm_plan.specs.declared.opening.Opened.{Opened}
 use Rattle.sm_plan.specs.declared.state.Formulas.{Formulas}
 use Rattle.sm_plan.specs.ReadyStates.{AreFormsReady}
 use Rattle.sm_plan.specs.Views.{forms_in}
+use Rattle.sm_plan.specs.declared.opening.Opened.{Opened}
 use Rattle.sm_plan.proofs.TablesWiden.{forms_ready}
 use Rattle.sm_expand.specs.declared.cursor.Cursor.{Cursor}
 use Rattle.sm_expand.specs.declared.fault.PlanFault.{PlanFault}

@@ -1,7 +1,8 @@
 -- One more state waits.
 use Rattle.std.proofs.Common.{[], reverse, refl, sym, append-nil}
-use Rattle.sm_expand.proofs.FormsLemmas.{state_put, fewer_left}
+use Rattle.sm_expand.proofs.FormsLemmas.{state_put}
 use Rattle.sm_expand.proofs.walk.put_states.Goals as goal
+use Rattle.sm_expand.proofs.PlacedLemmas.{fewer_left}
 
 pub loop-next-init : goal.loop-next-init
 loop-next-init c = record {

@@ -1,9 +1,9 @@
 -- Name by name.
 use Rattle.std.proofs.Common.{◌≢◌, ◌+◌, None, take, get_or, sym, subst}
 use Rattle.sm_syntax.specs.declared.tree.Name.{Name}
+use Rattle.sm_syntax.specs.text.Sorts.{Sorts}
 use Rattle.sm_syntax.specs.declared.tree.Sort.{Sort}
 use Rattle.sm_syntax.specs.declared.tree.Sort.TheVariants.{Num}
-use Rattle.sm_syntax.specs.text.Sorts.{Sorts}
 use Rattle.sm_eval.specs.StoredValues.{meaning}
 use Rattle.sm_explain.specs.Starts.{numbered, AreStartLines}
 use Rattle.sm_explain.proofs.StartNames.{names_more, names_all, declared_sort}

@@ -1,8 +1,8 @@
 use Rattle.std.proofs.Common.{List, length, sym, subst, ◌∙◌, ap}
 use Rattle.std.specs.Prelude.{IfSome}
-use Rattle.sm_term.specs.declared.formula.Formula.{Formula}
 use Rattle.sm_term.specs.Assertions.{Assertion}
 use Rattle.sm_term.specs.Formulas.{numbered, assertion_in}
+use Rattle.sm_term.specs.declared.formula.Formula.{Formula}
 use Rattle.sm_term.specs.Sorted.{AreFormsSorted}
 use Rattle.sm_term.specs.Tables.{trees_in, sorts_in}
 use Rattle.sm_list.specs.Parts.{all_numbered, assertions_in, AreFormulasWithin}

@@ -3,9 +3,9 @@ use Rattle.sm_term.specs.Assertions.{Assertion}
 use Rattle.sm_houdini.specs.Collected.{AreCollected}
 use Rattle.sm_term.specs.Tables.{trees_in, sorts_in}
 use Rattle.sm_plan.proofs.TablesWiden.{widens_twice, forms_ready, form_ready}
-use Rattle.sm_goals.proofs.FormsLemmas.{form_at}
 use Rattle.sm_houdini.proofs.EndLemmas.{goal_passed, goal_ended, goal_left, goals_done}
 use Rattle.sm_houdini.proofs.ending.end_run_at.Goals as goal
+use Rattle.sm_plan.proofs.FillingForms.{ready_at}
 
 pub end_goal-requires-clause-facts : goal.end_goal-requires-clause-facts
 end_goal-requires-clause-facts c =
@@ -17,7 +17,7 @@ end_goal-requires-clause-goal c =
     let f = c.goal-item.result in
     let i = c.loop-goal.goal-index in
     form_ready v c.loop-goal.table c.loop-goal.invariant.widens f
-    (form_at (sorts_in v) (trees_in v) c.args.run.now i f c.requires.goals
+    (ready_at (sorts_in v) (trees_in v) c.args.run.now i f c.requires.goals
     c.loop-goal-test.true c.goal-item.is)
 
 pub returns-in_err-end-clause-widens : goal.returns-in_err-end-clause-widens

@@ -1,7 +1,6 @@
 use Rattle.std.proofs.Common.{◌≡◌, ◌≤◌, ℕ, List, length, ap, ◌∙◌, arith}
 use Rattle.std.proofs.lemmas.List.{take_all}
-use Rattle.sm_houdini.specs.declared.marks.Marked.{Marked}
-use Rattle.sm_houdini.specs.Marks.{marked, joins}
+use Rattle.sm_houdini.specs.Marks.{marked, joins, Marked}
 use Rattle.sm_houdini.proofs.ShareLemmas.{length_marked, joined_put}
 use Rattle.sm_houdini.proofs.marks.joined_at.Goals as goal
 

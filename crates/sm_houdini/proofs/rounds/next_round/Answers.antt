@@ -1,8 +1,8 @@
 use Rattle.std.proofs.Common.{ℕ, Bool, Option, Some, List, ap, sym, ◌∙◌, subst}
 use Rattle.sm_plan.proofs.TablesWiden.{widens_twice}
 use Rattle.sm_term.specs.Tables.{trees_in, sorts_in}
-use Rattle.sm_expand.specs.declared.due.Due.{Due}
 use Rattle.sm_expand.specs.Views.{dues_in}
+use Rattle.sm_expand.specs.declared.due.Due.{Due}
 use Rattle.sm_text.specs.Tasks.{parts_of}
 use Rattle.sm_sketch.specs.ChoiceViews.{choice_in}
 use Rattle.sm_houdini.specs.declared.asked.Asked.{Asked}

@@ -1,6 +1,7 @@
 -- The site of a node comes before those of the sketches below it.
 use Rattle.std.proofs.Common.{◌≤◌, length, arith}
-use Rattle.sm_houdini.proofs.SitesLemmas.{sketch_put, fork_put, loop_put, block_put, next_put, all_put, on_ok}
+use Rattle.sm_houdini.proofs.SitesLemmas.{sketch_put, fork_put, loop_put, block_put, next_put, all_put}
+use Rattle.sm_lemmas.proofs.Options.{on_ok}
 use Rattle.sm_houdini.proofs.sites.+sites.Goals as goal
 
 pub add_sketch-returns : goal.add_sketch-returns

@@ -1,8 +1,8 @@
 -- 1 more of the difference.
 use Rattle.std.proofs.Common.{ℕ, Result, subst}
 use Rattle.sm_num.specs.declared.error.NumError.{NumError}
-use Rattle.sm_num.specs.declared.kind.Kind.TheVariants.{Le}
 use Rattle.sm_num.specs.Forms.{Linear}
+use Rattle.sm_num.specs.declared.kind.Kind.TheVariants.{Le}
 use Rattle.sm_term.specs.Tables.{trees_in, tree_at}
 use Rattle.sm_theory.specs.Arithmetic.{difference}
 use Rattle.sm_lia.specs.Computing.{ReturnsFor}

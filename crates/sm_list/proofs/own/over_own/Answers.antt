@@ -1,9 +1,9 @@
 -- The terms of the facts are the table's, so each fact is the same there.
 use Rattle.std.proofs.Common.{◌≡◌, List, [], length, sym, ap, ◌∙◌, subst}
 use Rattle.sm_syntax.specs.text.Sorts.{Sorts}
-use Rattle.sm_term.specs.declared.term.TermId.{TermId}
 use Rattle.sm_term.specs.Terms.{Tree}
 use Rattle.sm_term.specs.Tables.{trees_in, sorts_in}
+use Rattle.sm_term.specs.declared.term.TermId.{TermId}
 use Rattle.sm_theory.specs.Views.{number_under}
 use Rattle.sm_list.specs.Branches.{terms_of}
 use Rattle.sm_terms.specs.Listing.{trees_at, numbers_of}

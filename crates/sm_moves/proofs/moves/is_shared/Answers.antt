@@ -5,11 +5,11 @@ use Rattle.sm_syntax.specs.claim.ConflictFree.{Copy}
 use Rattle.sm_syntax.specs.trees.Copies.{copy_named, of_copy}
 use Rattle.sm_syntax.specs.trees.Views.{statement_of}
 use Rattle.sm_term.specs.SameTerms.{same_code}
-use Rattle.sm_plan.specs.declared.rest.Continuation.{Continuation}
 use Rattle.sm_plan.specs.Copies.{each, has}
 use Rattle.sm_plan.specs.Masks.{set_of}
 use Rattle.sm_plan.specs.Statements.{front}
 use Rattle.sm_plan.specs.Views.{rest_code}
+use Rattle.sm_plan.specs.declared.rest.Continuation.{Continuation}
 use Rattle.sm_moves.proofs.MovesMade.{shared_by, front_is}
 use Rattle.sm_moves.proofs.moves.is_shared.Goals as goal
 

@@ -1,14 +1,13 @@
 -- The divisor of all numbers divides each, so the quotients ascend and keep to the range.
 use Rattle.std.proofs.Common.{◌≡◌, ◌<◌, ◌^◌, ℕ, ℤ, nat_abs, IsTrue, rules, sym, ap, subst, ◌∙◌}
 use Rattle.std.proofs.lemmas.Int.{to_z-of_z}
-use Rattle.std.specs.Int.{w128}
+use Rattle.std.specs.Int.{w128, ◌∣◌}
 use mir.Val.{SFits}
 use Rattle.sm_num.specs.Range.{fits_form}
 use Rattle.sm_num.specs.Eliminating.{gcd, divisor_of_parts}
 use Rattle.sm_num.proofs.KeptForms.{divided_items, divisor_of_all_below}
 use Rattle.sm_num.proofs.DivisionLemmas.{gcd_is, divisor_divides}
 use Rattle.sm_num.proofs.ResultsReduced.{floor_fits}
-use Rattle.std.specs.Int.{◌∣◌}
 use Rattle.sm_num.proofs.eliminating.divide.Goals as goal
 
 pub divide_parts-requires : goal.divide_parts-requires

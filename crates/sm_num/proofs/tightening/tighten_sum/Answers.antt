@@ -1,7 +1,7 @@
 -- The divisor of the parts divides each, so the quotients ascend and keep to the range.
 use Rattle.std.proofs.Common.{◌≡◌, ◌<◌, ◌^◌, ℕ, ℤ, IsTrue, rules, sym, ap, subst, ◌∙◌}
 use Rattle.std.proofs.lemmas.Int.{to_z-of_z}
-use Rattle.std.specs.Int.{w128}
+use Rattle.std.specs.Int.{w128, ◌∣◌}
 use mir.Val.{SFits}
 use Rattle.sm_num.specs.Range.{fits_form}
 use Rattle.sm_num.specs.Forms.{Linear}
@@ -9,7 +9,6 @@ use Rattle.sm_num.specs.Eliminating.{divisor_of_parts}
 use Rattle.sm_num.proofs.KeptForms.{divided_items, divisor_below}
 use Rattle.sm_num.proofs.DivisionLemmas.{divisor_divides}
 use Rattle.sm_num.proofs.ResultsReduced.{ceiling_fits}
-use Rattle.std.specs.Int.{◌∣◌}
 use Rattle.std.proofs.lemmas.Nat.Gcd.{dvd_refl}
 use Rattle.sm_num.proofs.tightening.tighten_sum.Goals as goal
 

@@ -1,10 +1,10 @@
 -- A name that stands in the declarations is declared.
 use Rattle.std.proofs.Common.{List, get_or, sym, ap, subst, ◌∙◌}
 use Rattle.sm_syntax.specs.declared.tree.Name.{Name}
-use Rattle.sm_syntax.specs.declared.tree.Sort.{Sort}
-use Rattle.sm_syntax.specs.declared.tree.Sort.TheVariants.{Num}
 use Rattle.sm_syntax.specs.text.Parts.{sort_of}
 use Rattle.sm_syntax.specs.text.Sorts.{Sorts}
+use Rattle.sm_syntax.specs.declared.tree.Sort.{Sort}
+use Rattle.sm_syntax.specs.declared.tree.Sort.TheVariants.{Num}
 use Rattle.sm_term.specs.Sorted.{IsDeclaredIn}
 use Rattle.sm_plan.proofs.StartsMade.{pairs, declared_at}
 use Rattle.sm_observed.proofs.names.places_in.Goals as goal

@@ -2,9 +2,8 @@
 use Rattle.std.proofs.Common.{◌≡◌}
 use Rattle.sm_syntax.specs.claim.ConflictFree.{Copy}
 use Rattle.sm_syntax.specs.trees.Copies.{of_copy}
-use Rattle.sm_plan.specs.declared.rest.Continuation.{Continuation}
 use Rattle.sm_plan.specs.Statements.{front}
-use Rattle.sm_plan.specs.Views.{rest_code}
+use Rattle.sm_plan.specs.Views.{rest_code, Continuation}
 use Rattle.sm_plan.proofs.EachMade.{each_made}
 use Rattle.sm_plan.proofs.blocks.fronts.Goals as goal
 

@@ -6,12 +6,11 @@ use Rattle.sm_term.specs.declared.formula.Formula.{Formula}
 use Rattle.sm_term.specs.Assertions.{Assertion}
 use Rattle.sm_term.specs.Slots.{all_at_stores}
 use Rattle.sm_term.specs.Tables.{trees_in, sorts_in}
-use Rattle.sm_plan.specs.declared.state.SymState.{SymState}
 use Rattle.sm_plan.specs.Copies.{each}
 use Rattle.sm_plan.specs.Nodes as plan
 use Rattle.sm_plan.specs.ReadyStates.{AreStoresReady, AreSuccessorsReady}
 use Rattle.sm_plan.specs.Statements.{is_over}
-use Rattle.sm_plan.specs.Views.{rest_code, forms_in, stores_in, successor_in}
+use Rattle.sm_plan.specs.Views.{rest_code, forms_in, stores_in, successor_in, SymState}
 use Rattle.sm_plan.proofs.TablesWiden.{stores_stay, stores_ready}
 use Rattle.sm_plan.proofs.ends.open_end.Goals as goal
 

@@ -8,8 +8,7 @@ use Rattle.sm_term.specs.Tables.{trees_in}
 use Rattle.sm_plan.specs.declared.filling.Filling.{Filling}
 use Rattle.sm_plan.specs.Filling.{IsFilling, IsSummary}
 use Rattle.sm_plan.specs.Views.{stores_in}
-use Rattle.sm_plan.proofs.FillingLemmas.{stands_as, slot_filled, read_filled, write_filled, neg_filled, add_filled, sub_filled, mul_filled}
-use Rattle.sm_plan.proofs.FillingLemmas.{summary_filled}
+use Rattle.sm_plan.proofs.FillingLemmas.{stands_as, slot_filled, read_filled, write_filled, neg_filled, add_filled, sub_filled, mul_filled, summary_filled}
 use Rattle.sm_plan.proofs.filling.filling_of.Goals as goal
 
 pub returns-in-Slot : goal.returns-in-Slot

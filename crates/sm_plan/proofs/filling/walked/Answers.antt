@@ -8,9 +8,9 @@ use Rattle.sm_term.proofs.TablesLemmas.{grows-twice}
 use Rattle.sm_plan.specs.Filling.{IsFound, IsWay, AreOpen, unknown_below}
 use Rattle.sm_plan.specs.Views.{stores_in}
 use Rattle.sm_plan.proofs.FillingGrows.{longer, stores_ready, known_more, filled_from}
-use Rattle.sm_plan.proofs.FillingWalk.{way_below, way_pushed, way_popped, open_pushed, open_popped, way_open, known_gains, unknown_less}
-use Rattle.sm_plan.proofs.FillingWalk.{rounds_less, way_start}
+use Rattle.sm_plan.proofs.FillingWalk.{way_below, way_pushed, way_popped, open_pushed, open_popped, way_open, known_gains, unknown_less, way_start}
 use Rattle.sm_plan.proofs.filling.walked.Goals as goal
+use Rattle.sm_lemmas.proofs.Numbers.{rounds_less}
 
 pub number_of-requires-clause-inside : goal.number_of-requires-clause-inside
 number_of-requires-clause-inside c =

@@ -2,16 +2,14 @@
 use Rattle.std.proofs.Common.{◌≡◌, Bool, true, List, [], ◌∷◌, ◌++◌, Some, sym, ap, ◌∙◌, subst, refl}
 use Rattle.sm_syntax.specs.trees.Copies.{copy_named, of_copy}
 use Rattle.sm_term.specs.SymStores.{store_in}
+use Rattle.sm_term.specs.declared.symbolic.SymStore.{SymStore}
 use Rattle.sm_term.specs.Tables.{trees_in, sorts_in}
 use Rattle.sm_plan.specs.Nodes as plan
 use Rattle.sm_plan.specs.Openings.{done_if}
 use Rattle.sm_plan.specs.Successors.{stepped}
-use Rattle.sm_plan.specs.Views.{rest_code, forms_in, state_in}
+use Rattle.sm_plan.specs.Views.{rest_code, forms_in, state_in, SymState, Continuation}
 use Rattle.sm_plan.specs.Copies.{with_copy}
 use Rattle.sm_plan.specs.ReadyStates.{AreFormsReady}
-use Rattle.sm_plan.specs.declared.rest.Continuation.{Continuation}
-use Rattle.sm_plan.specs.declared.state.SymState.{SymState}
-use Rattle.sm_term.specs.declared.symbolic.SymStore.{SymStore}
 use Rattle.sm_term.specs.declared.formula.Formula.{Formula}
 use Rattle.sm_plan.proofs.OpeningsMade.{opening_states}
 use Rattle.sm_plan.proofs.PartsMoved.{numbers_of, exchanged}

@@ -10,9 +10,10 @@ use Rattle.sm_term.specs.Symbolic.{SymbolicStore, with_term}
 use Rattle.sm_term.specs.SymStores.{store_in}
 use Rattle.sm_term.specs.Tables.{trees_in, sorts_in}
 use Rattle.sm_term.proofs.TablesLemmas.{grows-twice}
-use Rattle.sm_plan.proofs.RenewedStores.{copy_numbered, number_below, name_among, place_inside, new_push}
+use Rattle.sm_plan.proofs.RenewedStores.{number_below, name_among, place_inside, new_push}
 use Rattle.sm_plan.proofs.StoresSet.{store_written, within_written}
 use Rattle.sm_plan.proofs.renew.renew.Goals as goal
+use Rattle.sm_plan.proofs.TargetsMade.{copy_back}
 
 pub made-requires-clause-within : goal.made-requires-clause-within
 made-requires-clause-within c =
@@ -39,7 +40,7 @@ loop-name-preserved c =
     let declared = c.requires.declared x (name_among c.args.names.now c.loop-name.name-index _ c.loop-name-test.true) in
     let same = c.loop-name.invariant.len in
     let inside : x < length c.loop-name.store.list.items = let first = c.requires.full x declared in omega arith in
-    let stored = c.in_ok-t.ensures.stored ∙ ap (λ (d : Copy). Some (Havoc k d x)) (ap copy_of c.number.ensures ∙ copy_numbered copy) in
+    let stored = c.in_ok-t.ensures.stored ∙ ap (λ (d : Copy). Some (Havoc k d x)) (ap copy_of c.number.ensures ∙ copy_back copy) in
     let items = c.put.ensures in
     record {
       made = store_written v w c.made.ensures.grows c.loop-name.store c.put.new.store x c.in_ok-t.t (Havoc k copy x)

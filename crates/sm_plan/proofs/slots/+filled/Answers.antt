@@ -1,7 +1,7 @@
 -- By the kind of the formula, and the second of two over the table with the first.
 use Rattle.std.proofs.Common.{rules, length, sym, ap, subst, ◌∙◌}
-use Rattle.sm_term.specs.declared.formula.Formula.{Formula}
 use Rattle.sm_term.specs.Formulas.{numbered, assertion_in, IsFormulaWithin}
+use Rattle.sm_term.specs.declared.formula.Formula.{Formula}
 use Rattle.sm_term.specs.Slots.{at_stores}
 use Rattle.sm_term.specs.Tables.{trees_in, sorts_in}
 use Rattle.sm_term.proofs.FormsLemmas.{assertion-more, form_kept}

@@ -12,10 +12,10 @@ use Rattle.sm_term.specs.Tables.{trees_in, sorts_in}
 use Rattle.sm_term.proofs.TablesLemmas.{grows-not, grows-twice}
 use Rattle.sm_plan.specs.Views.{forms_in, stores_in}
 use Rattle.sm_plan.proofs.FillingGrows.{stores_ready, known_none}
-use Rattle.sm_plan.proofs.FillingForms.{AreFormsWithin, wider, form_ready, ready_at, ready_sorted, ready_from, within_push, within_later}
-use Rattle.sm_plan.proofs.FillingForms.{forms_more, at_more, made_push}
+use Rattle.sm_plan.proofs.FillingForms.{AreFormsWithin, form_ready, ready_at, ready_sorted, ready_from, within_push, within_later, forms_more, at_more, made_push}
 use Rattle.sm_plan.proofs.SortedTerms.{all_at_stores_sorted}
 use Rattle.sm_plan.proofs.slots.at_stores.Goals as goal
+use Rattle.sm_plan.proofs.TablesWiden.{widens_grown}
 
 pub loop-form-init : goal.loop-form-init
 loop-form-init c =
@@ -44,12 +44,12 @@ filled_form-requires-clause-known c = c.loop-form.invariant.known
 
 pub returns-in_err-filled_form-clause-widens : goal.returns-in_err-filled_form-clause-widens
 returns-in_err-filled_form-clause-widens c =
-    wider c.args.table.now c.filled_form.new.table
+    widens_grown c.args.table.now c.filled_form.new.table
     (grows-twice c.args.table.now c.loop-form.table c.filled_form.new.table c.loop-form.invariant.grows c.filled_form.ensures.grows)
 
 pub returns-in_err-push-clause-widens : goal.returns-in_err-push-clause-widens
 returns-in_err-push-clause-widens c =
-    wider c.args.table.now c.filled_form.new.table
+    widens_grown c.args.table.now c.filled_form.new.table
     (grows-twice c.args.table.now c.loop-form.table c.filled_form.new.table c.loop-form.invariant.grows c.filled_form.ensures.grows)
 
 pub loop-form-preserved : goal.loop-form-preserved
@@ -103,4 +103,4 @@ returns-clause-ready c =
     (sym c.loop-form.invariant.grows.sorts) sorted))
 
 pub returns-clause-widens : goal.returns-clause-widens
-returns-clause-widens c = wider c.args.table.now c.loop-form.table c.loop-form.invariant.grows
+returns-clause-widens c = widens_grown c.args.table.now c.loop-form.table c.loop-form.invariant.grows

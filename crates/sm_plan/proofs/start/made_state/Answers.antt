@@ -3,13 +3,12 @@ use Rattle.std.proofs.Common.{◌≡◌, ℕ, true, List, length, sym, ap, subst
 use Rattle.std.specs.List.{flat_map}
 use Rattle.std.proofs.Math.Path.{fun_ext}
 use Rattle.sm_syntax.specs.claim.ConflictFree.{Copy}
-use Rattle.sm_syntax.specs.declared.tree.Sort.{Sort}
 use Rattle.sm_syntax.specs.text.Parts.{sort_of, sorted_outputs}
 use Rattle.sm_syntax.specs.text.Sorts.{Sorts, IsWellSorted}
+use Rattle.sm_syntax.specs.declared.tree.Sort.{Sort}
 use Rattle.sm_syntax.specs.trees.Copies.{of_copy}
 use Rattle.sm_syntax.specs.trees.Programs.{declared_of, outputs_of}
 use Rattle.sm_term.specs.declared.symbolic.SymStore.{SymStore}
-use Rattle.sm_plan.specs.declared.state.SymState.{SymState}
 use Rattle.sm_term.specs.Assertions.{Assertion}
 use Rattle.sm_term.specs.Sorted.{IsStoreSorted, IsDeclaredIn}
 use Rattle.sm_term.specs.Tables.{trees_in, sorts_in}
@@ -18,7 +17,7 @@ use Rattle.sm_plan.specs.ReadyStates.{IsStoreReady, AreFormsReady}
 use Rattle.sm_plan.specs.SortedStates.{AreOutputsDeclared}
 use Rattle.sm_plan.specs.Starts.{with_sorts}
 use Rattle.sm_plan.specs.States.{place, keeps_goals}
-use Rattle.sm_plan.specs.Views.{rest_code, forms_in}
+use Rattle.sm_plan.specs.Views.{rest_code, forms_in, SymState}
 use Rattle.sm_plan.proofs.PartsMoved.{listed, AreListed}
 use Rattle.sm_plan.proofs.SortedStates.{start_store_sorted}
 use Rattle.sm_plan.proofs.StartsMade.{declared_below}

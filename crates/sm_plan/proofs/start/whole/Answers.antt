@@ -3,8 +3,7 @@ use Rattle.std.proofs.Common.{◌≡◌}
 use Rattle.sm_syntax.specs.claim.ConflictFree.{Copy}
 use Rattle.sm_syntax.specs.trees.Copies.{of_copy}
 use Rattle.sm_syntax.specs.trees.Views.{code_of}
-use Rattle.sm_plan.specs.declared.rest.Continuation.{Continuation}
-use Rattle.sm_plan.specs.Views.{rest_code}
+use Rattle.sm_plan.specs.Views.{rest_code, Continuation}
 use Rattle.sm_plan.proofs.EachMade.{each_made}
 use Rattle.sm_plan.proofs.start.whole.Goals as goal
 

@@ -3,8 +3,8 @@ use Rattle.std.proofs.Common.{◌≡◌, sym, ap, subst, ◌∙◌}
 use Rattle.sm_syntax.specs.claim.Syntax.{Code}
 use Rattle.sm_syntax.specs.text.Sorts.{Sorts, IsWellSorted}
 use Rattle.sm_syntax.specs.trees.Views.{code_of}
-use Rattle.sm_term.specs.declared.symbolic.SymStore.{SymStore}
 use Rattle.sm_term.specs.SymStores.{store_in}
+use Rattle.sm_term.specs.declared.symbolic.SymStore.{SymStore}
 use Rattle.sm_term.specs.Tables.{trees_in, sorts_in}
 use Rattle.sm_plan.specs.Statements.{front, last_guard}
 use Rattle.sm_plan.specs.Successors.{summarized, false_guard}

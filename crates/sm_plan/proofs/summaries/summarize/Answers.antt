@@ -1,6 +1,5 @@
 -- One name more has its summary.
-use Rattle.std.proofs.Common.{◌≡◌, ℕ, ◌<◌, true, List, [], Some, length, take, get_or, slice_get, refl, sym, ap, subst, ◌∙◌, arith}
-use Rattle.std.proofs.Common.{append-nil}
+use Rattle.std.proofs.Common.{◌≡◌, ℕ, ◌<◌, true, List, [], Some, length, take, get_or, slice_get, refl, sym, ap, subst, ◌∙◌, arith, append-nil}
 use Rattle.std.proofs.lemmas.List.{take_all}
 use Rattle.std.proofs.Math.ListN.{length-set}
 use Rattle.sm_syntax.specs.declared.tree.Name.{Name}
@@ -10,12 +9,12 @@ use Rattle.sm_syntax.specs.trees.Views.{code_of}
 use Rattle.sm_syntax.specs.Assigns.{assigns}
 use Rattle.sm_deps.specs.Inputs.{inputs}
 use Rattle.sm_deps.proofs.InputsDeclared.{assigned_declared}
-use Rattle.sm_term.specs.declared.term.TermId.{TermId}
-use Rattle.sm_term.specs.declared.symbolic.SymStore.{SymStore}
 use Rattle.sm_term.specs.Sorted.{IsDeclaredIn}
 use Rattle.sm_term.specs.Symbolic.{SymbolicStore, with_term}
 use Rattle.sm_term.specs.SymStores.{store_in}
+use Rattle.sm_term.specs.declared.symbolic.SymStore.{SymStore}
 use Rattle.sm_term.specs.Tables.{trees_in, sorts_in, AreBefore}
+use Rattle.sm_term.specs.declared.term.TermId.{TermId}
 use Rattle.sm_term.specs.TableLaws.{ExtendsTable}
 use Rattle.sm_term.specs.Terms.{Fun}
 use Rattle.sm_term.proofs.AdoptionLemmas.{widens}

@@ -5,11 +5,11 @@ use Rattle.sm_syntax.specs.text.Conditions.{is_in}
 use Rattle.sm_syntax.specs.trees.Views.{code_of}
 use Rattle.sm_deps.specs.Inputs.{inputs}
 use Rattle.sm_deps.proofs.InputsDeclared.{inputs_declared}
-use Rattle.sm_term.specs.declared.term.TermId.{TermId}
 use Rattle.sm_term.specs.Terms.{Tree, Fun}
 use Rattle.sm_term.specs.Fitting.{arguments_fit}
 use Rattle.sm_term.specs.SymStores.{store_in}
 use Rattle.sm_term.specs.Tables.{trees_in, sorts_in, codes_in, code_at, arguments_in, AreNamesDeclared, AreBefore}
+use Rattle.sm_term.specs.declared.term.TermId.{TermId}
 use Rattle.std.proofs.lemmas.Option.{slice_get_within, get_or_from_slice_get}
 use Rattle.sm_syntax.specs.claim.Syntax.{End}
 use Rattle.sm_plan.specs.Openings.{terms_named, AreNamesBelow}

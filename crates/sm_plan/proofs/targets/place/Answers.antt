@@ -2,14 +2,14 @@
 use Rattle.std.proofs.Common.{◌≡◌, Some, refl, IfOk, slice_get, sym, ap, subst, ◌∙◌}
 use Rattle.std.proofs.lemmas.Bool.{and_from}
 use Rattle.sm_syntax.specs.claim.ConflictFree.{Copy, copy_of}
+use Rattle.sm_syntax.specs.text.Sorts.{Sorts}
 use Rattle.sm_syntax.specs.declared.tree.Sort.{Sort}
 use Rattle.sm_syntax.specs.declared.tree.Sort.TheVariants.{Num, Arr}
-use Rattle.sm_syntax.specs.text.Sorts.{Sorts}
 use Rattle.sm_syntax.specs.trees.Copies.{copy_named}
-use Rattle.sm_term.specs.declared.term.TermId.{TermId}
 use Rattle.sm_term.specs.Terms.{Tree, Slot, Cell, Read}
 use Rattle.sm_term.specs.Sorted.{sort_named}
 use Rattle.sm_term.specs.Tables.{trees_in, sorts_in, tree_at}
+use Rattle.sm_term.specs.declared.term.TermId.{TermId}
 use Rattle.sm_term.proofs.ExpressionLemmas.{stays_got, tree_got, sort_got}
 use Rattle.sm_term.proofs.TablesLemmas.{grows-twice}
 use Rattle.sm_plan.specs.States.{place}

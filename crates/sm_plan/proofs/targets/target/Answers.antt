@@ -4,17 +4,17 @@ use Rattle.std.specs.List.{flat_map}
 use Rattle.std.proofs.lemmas.List.{take_all, map-append}
 use Rattle.sm_syntax.specs.claim.ConflictFree.{Copy}
 use Rattle.sm_syntax.specs.declared.tree.Name.{Name}
+use Rattle.sm_syntax.specs.text.Sorts.{Sorts}
 use Rattle.sm_syntax.specs.declared.tree.Sort.{Sort}
 use Rattle.sm_syntax.specs.declared.tree.Sort.TheVariants.{Num}
-use Rattle.sm_syntax.specs.declared.copies.PerCopy.{PerCopy}
-use Rattle.sm_syntax.specs.text.Sorts.{Sorts}
 use Rattle.sm_syntax.specs.trees.Copies.{of_copy}
+use Rattle.sm_syntax.specs.declared.copies.PerCopy.{PerCopy}
 use Rattle.sm_syntax.specs.trees.Programs.{outputs_of}
-use Rattle.sm_term.specs.declared.term.TermId.{TermId}
 use Rattle.sm_term.specs.Assertions.{Assertion}
 use Rattle.sm_term.specs.Formulas.{NumberedFormula, numbered, assertion_in}
 use Rattle.sm_term.specs.Sorted.{sort_named, tree_sort, AreFormsSorted}
 use Rattle.sm_term.specs.Tables.{trees_in, sorts_in}
+use Rattle.sm_term.specs.declared.term.TermId.{TermId}
 use Rattle.sm_term.proofs.TablesLemmas.{grows-twice}
 use Rattle.sm_term.proofs.ExpressionLemmas.{tree_got, there}
 use Rattle.sm_plan.specs.SortedStates.{AreOutputsDeclared}
@@ -24,9 +24,9 @@ use Rattle.sm_plan.specs.Views.{forms_in}
 use Rattle.sm_plan.proofs.SortedStates.{place_sorted, goals_sorted}
 use Rattle.sm_plan.proofs.SummariesLemmas.{numbers}
 use Rattle.sm_plan.proofs.TablesWiden.{widens_grown}
-use Rattle.sm_plan.proofs.TargetsMade.{forms_map, goals_are, goals_within, all_append, all_stay, all_within, ready_from, output_at}
-use Rattle.sm_plan.proofs.TargetsMade.{outputs_more, goals_more, long-outputs}
+use Rattle.sm_plan.proofs.TargetsMade.{goals_are, goals_within, all_append, all_stay, all_within, ready_from, output_at, outputs_more, goals_more, long-outputs}
 use Rattle.sm_plan.proofs.targets.target.Goals as goal
+use Rattle.sm_plan.proofs.KeptLemmas.{by_numbers}
 
 pub places-requires : goal.places-requires
 places-requires c =
@@ -107,7 +107,7 @@ returns-clause-made c =
     let goals : List (ℕ × Sort) → List Assertion = flat_map (λ (p : ℕ × Sort). keeps_goals (place p)) in
     let os = with_sorts (sorts_in v) (numbers ns) in
     let made : forms_in (sorts_in u) (trees_in u) c.loop-x.list.items ≡ goals (with_sorts (sorts_in v) (outputs_of c.args.outputs.now)) =
-    forms_map (sorts_in u) (trees_in u) c.loop-x.list.items
+    by_numbers (sorts_in u) (trees_in u) c.loop-x.list.items
     ∙ c.loop-x.invariant.made
     ∙ ap goals (take_all c.loop-x.x-index os (omega (arith, long-outputs (sorts_in v) ns, c.loop-x-test.false)))
     ∙ ap (λ (l : List Name). goals (with_sorts (sorts_in v) (numbers l))) c.deref-x-items.ensures.value in
@@ -121,7 +121,7 @@ returns-clause-ready c =
     let goals : List (ℕ × Sort) → List Assertion = flat_map (λ (p : ℕ × Sort). keeps_goals (place p)) in
     let os = with_sorts (sorts_in v) (numbers ns) in
     let made : forms_in (sorts_in u) (trees_in u) c.loop-x.list.items ≡ goals (with_sorts (sorts_in v) (outputs_of c.args.outputs.now)) =
-    forms_map (sorts_in u) (trees_in u) c.loop-x.list.items
+    by_numbers (sorts_in u) (trees_in u) c.loop-x.list.items
     ∙ c.loop-x.invariant.made
     ∙ ap goals (take_all c.loop-x.x-index os (omega (arith, long-outputs (sorts_in v) ns, c.loop-x-test.false)))
     ∙ ap (λ (l : List Name). goals (with_sorts (sorts_in v) (numbers l))) c.deref-x-items.ensures.value in

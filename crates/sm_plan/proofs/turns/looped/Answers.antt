@@ -1,8 +1,7 @@
 -- What comes after the loops stands behind the turns.
 use Rattle.std.proofs.Common.{List, [], ◌∷◌, ◌++◌, map, sym, ap, ◌∙◌, subst}
 use Rattle.std.proofs.lemmas.List.{map-append}
-use Rattle.sm_plan.specs.declared.opening.Successor.{Successor}
-use Rattle.sm_plan.specs.ReadyStates.{AreSuccessorsReady}
+use Rattle.sm_plan.specs.ReadyStates.{AreSuccessorsReady, Successor}
 use Rattle.sm_plan.specs.States.{State}
 use Rattle.sm_plan.specs.Views.{successor_in}
 use Rattle.sm_plan.proofs.TurnsMade.{successors_push}

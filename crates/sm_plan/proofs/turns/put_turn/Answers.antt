@@ -7,11 +7,10 @@ use Rattle.sm_syntax.specs.text.Sorts.{Sorts}
 use Rattle.sm_syntax.specs.trees.Copies.{of_copy}
 use Rattle.sm_term.specs.Assertions.{Assertion}
 use Rattle.sm_term.specs.Terms.{Tree}
-use Rattle.sm_plan.specs.declared.opening.Successor.{Successor}
 use Rattle.sm_plan.specs.Heads as heads
 use Rattle.sm_plan.specs.LoopHeads.{IsHeadReady}
 use Rattle.sm_plan.specs.Masks.{set_of}
-use Rattle.sm_plan.specs.ReadyStates.{AreFormsReady, AreSuccessorsReady}
+use Rattle.sm_plan.specs.ReadyStates.{AreFormsReady, AreSuccessorsReady, Successor}
 use Rattle.sm_plan.specs.States.{State}
 use Rattle.sm_plan.specs.Views.{rest_code, forms_in, stores_in, successor_in}
 use Rattle.sm_plan.proofs.TurnsMade.{successors_push}

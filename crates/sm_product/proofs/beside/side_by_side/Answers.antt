@@ -5,8 +5,8 @@ use Rattle.sm_term.specs.Tables.{trees_in, sorts_in}
 use Rattle.sm_plan.specs.Masks.{set_of}
 use Rattle.sm_moves.specs.Rests.{codes_in}
 use Rattle.sm_template.specs.Sites.{IsSiteOf}
-use Rattle.sm_sketch.specs.declared.error.ProductError.{ProductError}
 use Rattle.sm_sketch.specs.Errors.{TellsSketch}
+use Rattle.sm_sketch.specs.declared.error.ProductError.{ProductError}
 use Rattle.sm_sketch.specs.SketchViews.{sketch_in}
 use Rattle.sm_product.specs.MiniProducts.{side_by_side}
 use Rattle.sm_product.specs.Rooms.{TellsBeyond}

@@ -1,9 +1,9 @@
 -- A copy of the set is asked for its block.
 use Rattle.std.proofs.Common.{◌≡◌, Bool, not, ◌||◌, sym, ap, ◌∙◌}
 use Rattle.std.proofs.lemmas.Bool.Decides.{same_from_decides}
-use Rattle.sm_syntax.specs.declared.tree.Block.{Block}
 use Rattle.sm_syntax.specs.trees.Copies.{copy_named}
 use Rattle.sm_syntax.specs.trees.Views.{code_of}
+use Rattle.sm_syntax.specs.declared.tree.Block.{Block}
 use Rattle.sm_term.specs.SameCodeLaws.{same_code_is}
 use Rattle.sm_term.specs.SameTerms.{same_code}
 use Rattle.sm_moves.specs.FilledCode.{block_codes}

@@ -2,9 +2,9 @@
 use Rattle.std.proofs.Common.{not, ◌||◌, sym, ap, ◌∙◌}
 use Rattle.sm_syntax.specs.claim.ConflictFree.{Copy}
 use Rattle.sm_syntax.specs.claim.Syntax.{Code}
-use Rattle.sm_syntax.specs.declared.tree.Block.{Block}
 use Rattle.sm_syntax.specs.trees.Copies.{copy_named}
 use Rattle.sm_syntax.specs.trees.Views.{code_of}
+use Rattle.sm_syntax.specs.declared.tree.Block.{Block}
 use Rattle.sm_term.specs.SameTerms.{same_code}
 use Rattle.sm_plan.specs.Copies.{each, has}
 use Rattle.sm_plan.specs.Masks.{set_of}

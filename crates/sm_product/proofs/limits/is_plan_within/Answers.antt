@@ -4,9 +4,9 @@ use Rattle.sm_syntax.specs.text.Parts.{task_of}
 use Rattle.sm_text.specs.Tasks.{parts_of}
 use Rattle.sm_term.specs.Tables.{trees_in, sorts_in}
 use Rattle.sm_plan.specs.Plans.{obligations}
-use Rattle.sm_expand.specs.declared.due.Due.{Due}
 use Rattle.sm_expand.specs.declared.fault.PlanFault.{PlanFault}
 use Rattle.sm_expand.specs.Views.{plan_in, dues_in, FaultTells}
+use Rattle.sm_expand.specs.declared.due.Due.{Due}
 use Rattle.sm_product.specs.Sizes.{is_within}
 use Rattle.sm_product.proofs.SizesLemmas.{fault_within}
 use Rattle.sm_product.proofs.limits.is_plan_within.Goals as goal

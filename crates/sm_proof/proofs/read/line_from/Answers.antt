@@ -1,7 +1,6 @@
 use Rattle.std.proofs.Common.{◌≤◌, length, arith}
 use Rattle.sm_proof.specs.Lines.{line_of}
-use Rattle.sm_proof.proofs.ReadLemmas.{answer_bad_line, answer_bad_number, answer_ended, answer_ok, answer_within, long_line, same_answer}
-use Rattle.sm_proof.proofs.ReadLemmas.{short_line}
+use Rattle.sm_proof.proofs.ReadLemmas.{answer_bad_line, answer_bad_number, answer_ended, answer_ok, answer_within, long_line, same_answer, short_line}
 use Rattle.sm_proof.proofs.read.line_from.Goals as goal
 
 pub returns-then-bytes-gt-MOST_BYTES-clause-bad_line : goal.returns-then-bytes-gt-MOST_BYTES-clause-bad_line

@@ -1,7 +1,7 @@
 -- The last mark is that of what the line makes.
 use Rattle.std.proofs.Common.{◌≡◌, ℕ, Bool, List, sym, subst}
-use Rattle.sm_proof.specs.declared.line.Line.{Line}
 use Rattle.sm_proof.specs.Lines.{ProofLine, line_of}
+use Rattle.sm_proof.specs.declared.line.Line.{Line}
 use Rattle.sm_prune.specs.LeftLines.{forms_after, is_left, left_passes, terms_after}
 use Rattle.sm_prune.specs.LineNumbers.{names_form, names_term}
 use Rattle.sm_prune.specs.Marks.{AreMarked}

@@ -3,8 +3,8 @@ use Rattle.std.proofs.Common.{Option, Some, option_map, Bor, sym, ap, subst, ◌
 use Rattle.std.proofs.lemmas.Result.{on_ok_weaker}
 use Rattle.serde_json.specs.View.{view}
 use Rattle.serde_json.specs.declared.value.Value.{Value}
-use Rattle.sm_syntax.specs.declared.tree.Sort.{Sort}
 use Rattle.sm_syntax.specs.text.Sorts.{Sorts}
+use Rattle.sm_syntax.specs.declared.tree.Sort.{Sort}
 use Rattle.sm_eval.specs.StoredValues.{meaning}
 use Rattle.sm_eval.specs.Zeros.{zero_of}
 use Rattle.sm_replay.specs.Updates.{GivesValue, Overrides}

@@ -1,10 +1,10 @@
 -- At the end each name has its value.
 use Rattle.std.proofs.Common.{◌≡◌, ◌<◌, ◌≤◌, ℕ, zero, suc, None, List, length, drop, sym, ap, ◌∙◌, arith}
 use Rattle.sm_syntax.specs.declared.tree.Name.{Name}
-use Rattle.sm_syntax.specs.declared.tree.Sort.{Sort}
 use Rattle.sm_syntax.specs.text.Parts.{sort_of}
 use Rattle.sm_syntax.specs.trees.Programs.{declared_of}
 use Rattle.sm_syntax.specs.text.Sorts.{Sorts}
+use Rattle.sm_syntax.specs.declared.tree.Sort.{Sort}
 use Rattle.sm_syntax.specs.claim.Stores.{Store}
 use Rattle.sm_eval.specs.StoredValues.{meaning}
 use Rattle.sm_eval.specs.Zeros.{zero_of}

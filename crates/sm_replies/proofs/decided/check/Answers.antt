@@ -10,8 +10,7 @@ use Rattle.sm_answers.specs.declared.status.Status.TheVariants.{Unknown}
 use Rattle.sm_why.specs.declared.stop.Manner.TheVariants as manner
 use Rattle.sm_why.specs.declared.stop.Stop.TheVariants.{Goal, TooMany}
 use Rattle.sm_replies.specs.Check.{reach_of}
-use Rattle.sm_replies.proofs.CheckAnswers.{shown_answers, shown_rests, conflict_answers, conflict_comes, conflict_rests}
-use Rattle.sm_replies.proofs.CheckAnswers.{undecided_answers, undecided_comes, undecided_rests}
+use Rattle.sm_replies.proofs.CheckAnswers.{shown_answers, shown_rests, conflict_answers, conflict_comes, conflict_rests, undecided_answers, undecided_comes, undecided_rests}
 use Rattle.sm_replies.proofs.SpelledLemmas.{is_spelled, least_trial, noted_by, outcome_so}
 use Rattle.sm_replies.proofs.decided.check.Goals as goal
 

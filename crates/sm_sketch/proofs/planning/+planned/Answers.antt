@@ -6,18 +6,16 @@ use Rattle.sm_term.specs.Terms.{Tree}
 use Rattle.sm_plan.specs.declared.state.Formulas.{Formulas}
 use Rattle.sm_plan.specs.ReadyStates.{AreFormsReady}
 use Rattle.sm_plan.specs.Views.{forms_in}
-use Rattle.sm_expand.specs.declared.plan.Plans.{roll-Plans}
 use Rattle.sm_expand.specs.Views.{plan_in}
-use Rattle.sm_sketch.specs.declared.sketch.Sketch.{Sketch}
+use Rattle.sm_expand.specs.declared.plan.Plans.{roll-Plans}
 use Rattle.sm_sketch.specs.Choices.{kept_by}
 use Rattle.sm_sketch.specs.ChoiceViews.{choice_in, plans_from, sites_among, AreSomeReady, AreAllReady}
 use Rattle.sm_sketch.specs.NumberedSketches.{AreNodesReady}
 use Rattle.sm_sketch.specs.Sketches as tree
 use Rattle.sm_sketch.specs.Sketches.{plan_with, sites_of}
-use Rattle.sm_sketch.specs.SketchViews.{numbered_sketch, sketch_in}
-use Rattle.sm_sketch.proofs.EndsPlanned.{rolled_plans, all_over, loop_planned, loop_sites, loop_few, loop_forms, loop_turns}
-use Rattle.sm_sketch.proofs.EndsPlanned.{loop_follows, loop_all_ready}
-use Rattle.sm_sketch.proofs.EndsPlanned.{next_plans, next_sites, some_at, all_more, block_planned, block_sites, block_inner, block_after}
+use Rattle.sm_sketch.specs.SketchViews.{numbered_sketch, sketch_in, Sketch}
+use Rattle.sm_sketch.proofs.EndsPlanned.{rolled_plans, all_over, loop_planned, loop_sites, loop_few, loop_forms, loop_turns, loop_follows, loop_all_ready, next_plans, next_sites, some_at, all_more, block_planned, block_sites, block_inner}
+use Rattle.sm_sketch.proofs.EndsPlanned.{block_after}
 use Rattle.sm_sketch.proofs.SketchEnds.{sketches_are}
 use Rattle.sm_sketch.proofs.PlansOfSketches.{last_ready, all_planned, all_ready, all_sites}
 use Rattle.sm_sketch.proofs.planning.+planned.Goals as goal

@@ -1,8 +1,8 @@
 use Rattle.std.proofs.Common.{[], ◌∷◌, sym, subst}
 use Rattle.sm_theory.specs.declared.line.CertLine.TheVariants as line
 use Rattle.sm_cert.specs.Views.{AreLinesWithin}
-use Rattle.sm_solve.proofs.LeadingLemmas.{within-append}
 use Rattle.sm_solve.proofs.branching.push_line.Goals as goal
+use Rattle.sm_list.proofs.RenumberLemmas.{within-append}
 
 pub returns-in_ok-push-clause-within : goal.returns-in_ok-push-clause-within
 returns-in_ok-push-clause-within c = λ count all.

@@ -1,8 +1,8 @@
 -- The table has no more terms than are counted, and the classes are boxed.
 use Rattle.std.proofs.Common.{◌≡◌, IfSome, Option, List, length, sym, subst, arith}
 use Rattle.std.specs.List.{range_with_len}
-use Rattle.sm_term.specs.declared.term.TermId.{TermId}
 use Rattle.sm_term.specs.Tables.{trees_in}
+use Rattle.sm_term.specs.declared.term.TermId.{TermId}
 use Rattle.sm_cc.specs.declared.ground.NumberedBase.{NumberedBase}
 use Rattle.sm_cc.specs.BaseClasses.{AreBaseClasses}
 use Rattle.sm_judge.specs.AllForms.{AreAllForms}

@@ -1,9 +1,9 @@
 -- The branch over its own table is that of the facts and the contrary of the target, with all parts.
 use Rattle.std.proofs.Common.{◌++◌, ◌∷◌, [], List, length, sym, ap, subst, ◌∙◌}
 use Rattle.sm_syntax.specs.text.Sorts.{Sorts}
-use Rattle.sm_term.specs.declared.formula.Formula.{Formula}
 use Rattle.sm_term.specs.Assertions.{negate}
 use Rattle.sm_term.specs.Formulas.{numbered, assertion_in}
+use Rattle.sm_term.specs.declared.formula.Formula.{Formula}
 use Rattle.sm_term.specs.Sorted.{AreFormsSorted}
 use Rattle.sm_term.specs.Tables.{trees_in, sorts_in}
 use Rattle.sm_term.specs.Terms.{Tree}

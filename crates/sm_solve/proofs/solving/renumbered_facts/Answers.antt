@@ -2,8 +2,9 @@ use Rattle.std.proofs.Common.{◌≤◌, List, length, ap, ◌∙◌, arith}
 use Rattle.std.proofs.lemmas.List.{take_all}
 use Rattle.sm_term.specs.declared.formula.Formula.{Formula}
 use Rattle.sm_list.specs.Parts.{all_numbered, assertions_in}
-use Rattle.sm_solve.proofs.SolvingLemmas.{item_within, renumbered_more, more_within}
+use Rattle.sm_solve.proofs.SolvingLemmas.{renumbered_more, more_within}
 use Rattle.sm_solve.proofs.solving.renumbered_facts.Goals as goal
+use Rattle.sm_judge.proofs.ClosingLemmas.{within_at}
 
 pub loop-f-preserved : goal.loop-f-preserved
 loop-f-preserved c =
@@ -16,11 +17,11 @@ loop-f-preserved c =
           c.loop-f-test.true
           c.f-item.is c.in_ok-push.ensures.items (c.loop-f.invariant.same sorts trees others terms all)
           (c.in_ok-renumbered.ensures.same sorts trees others terms
-          (item_within (length trees) facts n f c.loop-f-test.true c.f-item.is all));
+          (within_at (length trees) facts n f c.loop-f-test.true c.f-item.is all));
       within = λ trees others terms all.
           more_within (length others) c.loop-f.list.items c.push.new.self.items c.in_ok-renumbered.field-0 c.in_ok-push.ensures.items
           (c.loop-f.invariant.within trees others terms all)
-          (c.in_ok-renumbered.ensures.within trees others terms (item_within (length trees) facts n f c.loop-f-test.true c.f-item.is all));
+          (c.in_ok-renumbered.ensures.within trees others terms (within_at (length trees) facts n f c.loop-f-test.true c.f-item.is all));
     }
 
 pub returns-clause-same : goal.returns-clause-same

@@ -1,7 +1,7 @@
 -- The walk closes at its first visit, and the certificate of the facts serves.
 use Rattle.std.proofs.Common.{◌≡◌, ℕ, List, sym, subst, arith}
-use Rattle.sm_term.specs.declared.term.TermId.{TermId}
 use Rattle.sm_term.specs.Tables.{trees_in, sorts_in}
+use Rattle.sm_term.specs.declared.term.TermId.{TermId}
 use Rattle.sm_list.specs.Parts.{all_numbered, assertions_in}
 use Rattle.sm_list.specs.Renumbered.{AreTermsOf}
 use Rattle.sm_judge.specs.Forms.{Closes}

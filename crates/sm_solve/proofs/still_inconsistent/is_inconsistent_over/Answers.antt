@@ -4,13 +4,13 @@ use Rattle.std.proofs.lemmas.Result.{IfOk-weaker}
 use Rattle.sm_num.specs.Combining.{Outcome, Fits}
 use Rattle.sm_num.specs.Forms.{Linear}
 use Rattle.sm_term.specs.declared.formula.Formula.TheVariants as tree
-use Rattle.sm_term.specs.declared.term.TermId.{TermId}
 use Rattle.sm_term.specs.Tables.{trees_in, sorts_in}
-use Rattle.sm_cc.specs.declared.classes.GivenFact.{GivenFact}
+use Rattle.sm_term.specs.declared.term.TermId.{TermId}
 use Rattle.sm_cc.specs.AddedTerms.{AddsOnly, AreEqualByLabels}
 use Rattle.sm_cc.specs.Classes.{are_apart}
 use Rattle.sm_cc.specs.Rounds.{are_equal}
 use Rattle.sm_cc.specs.Views.{setting_of}
+use Rattle.sm_cc.specs.declared.classes.GivenFact.{GivenFact}
 use Rattle.sm_certify.specs.Given.{given_from, classes_by, branch_of}
 use Rattle.sm_judge.specs.Holding.{Seen}
 use Rattle.sm_judge.specs.Labelled.{AreLabels}

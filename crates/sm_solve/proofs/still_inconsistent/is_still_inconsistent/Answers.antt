@@ -3,8 +3,7 @@ use Rattle.sm_num.specs.Combining.{Fits}
 use Rattle.sm_num.specs.Forms.{Linear}
 use Rattle.sm_term.specs.Tables.{trees_in, sorts_in}
 use Rattle.sm_list.specs.Branches.{with_parts}
-use Rattle.sm_certify.specs.Given.{branch_of}
-use Rattle.sm_certify.specs.Given.{seen_by}
+use Rattle.sm_certify.specs.Given.{branch_of, seen_by}
 use Rattle.sm_list.specs.Parts.{all_numbered, assertions_in}
 use Rattle.sm_solve.specs.Inconsistent.{IsInconsistentBy}
 use Rattle.sm_judge.specs.Forms.{by_forms}

@@ -1,10 +1,9 @@
 -- The walk goes on as the visit of the branch tells, and both parts begin from the same facts and the same base.
-use Rattle.std.proofs.Common.{◌≡◌, ◌+◌, ◌-◌, ◌*◌, ◌<◌, ℕ, Some, List, [], ◌∷◌, ◌++◌, length, take, IfOk}
-use Rattle.std.proofs.Common.{sym, ap, subst, ◌∙◌, arith}
+use Rattle.std.proofs.Common.{◌≡◌, ◌+◌, ◌-◌, ◌*◌, ◌<◌, ℕ, Some, List, [], ◌∷◌, ◌++◌, length, take, IfOk, sym, ap, subst, ◌∙◌, arith}
 use Rattle.std.proofs.lemmas.List.{length-append}
-use Rattle.sm_term.specs.declared.formula.Formula.{Formula}
 use Rattle.sm_term.specs.Assertions.{Assertion}
 use Rattle.sm_term.specs.Formulas.{numbered, assertion_in}
+use Rattle.sm_term.specs.declared.formula.Formula.{Formula}
 use Rattle.sm_term.specs.Sorted.{AreFormsSorted}
 use Rattle.sm_term.specs.Tables.{trees_in, sorts_in}
 use Rattle.sm_solve.specs.declared.visiting.Visit.{Visit}
@@ -18,7 +17,8 @@ use Rattle.sm_solve.specs.Walking.{by_split, TellsVisit, ShowsVisit, IsVisitCoun
 use Rattle.sm_solve.proofs.BasesLemmas.{led_same, led_longer}
 use Rattle.sm_solve.proofs.NamingLemmas.{named_more}
 use Rattle.sm_solve.proofs.SortedLemmas.{sorted_more, told_sorted}
-use Rattle.sm_solve.proofs.WalkingLemmas.{walk_next, as_many, cut_back}
+use Rattle.sm_solve.proofs.WalkingLemmas.{walk_next, cut_back}
+use Rattle.sm_judge.proofs.ClosingLemmas.{facts_count}
 use Rattle.sm_solve.proofs.walking.+walk.Goals as goal
 
 pub walk_from-visit_branch-requires-clause-led : goal.walk_from-visit_branch-requires-clause-led
@@ -138,7 +138,7 @@ walk_part-returns-clause-shows t c =
     let trees = trees_in c.args.cx.now.table.now in
     let before = assertions_in sorts trees (all_numbered c.args.facts.now.items) in
     let last = assertion_in sorts trees (numbered c.args.f) in
-    let many = as_many sorts trees c.args.facts.now.items in
+    let many = facts_count sorts trees c.args.facts.now.items in
     let place : c.len-from.result ≡ length before = omega arith in
     let added = c.in_ok-add_with_parts.ensures.added sorts trees in
     let are = ap (λ (fs : List Formula). assertions_in sorts trees (all_numbered fs)) (c.as_slice.ensures.value ∙ c.in_ok-end.ensures.kept)

@@ -3,8 +3,8 @@ use Rattle.sm_syntax.specs.claim.ConflictFree.{Copy}
 use Rattle.sm_syntax.specs.text.Conditions.{holes_of}
 use Rattle.sm_syntax.specs.trees.Copies.{copy_named}
 use Rattle.sm_syntax.specs.trees.Views.{code_of}
-use Rattle.sm_text.specs.declared.task.Task.{Task}
 use Rattle.sm_text.specs.Tasks.{lists_of}
+use Rattle.sm_text.specs.declared.task.Task.{Task}
 use Rattle.sm_suggest.specs.Combinations.{choices, chosen}
 use Rattle.sm_suggest.proofs.ChoicesLemmas.{as_many}
 use Rattle.sm_suggest.proofs.CombinedLemmas.{combined}

@@ -1,9 +1,9 @@
 -- The terms of a comparison's sides, and the second of two conditions over the table with the first.
 use Rattle.std.proofs.Common.{rules, sym, subst}
-use Rattle.sm_syntax.specs.declared.tree.Cond.{Cond}
 use Rattle.sm_syntax.specs.text.Sorts.{IsWellSortedExpression, IsWellSortedCondition}
 use Rattle.sm_syntax.specs.trees.Copies.{copy_named}
 use Rattle.sm_syntax.specs.trees.Views.{expression_of, condition_of}
+use Rattle.sm_syntax.specs.declared.tree.Cond.{Cond}
 use Rattle.sm_deps.proofs.MembersLemmas.{on_ok}
 use Rattle.sm_term.specs.Tables.{trees_in, sorts_in, tree_at}
 use Rattle.sm_term.proofs.ExpressionLemmas.{within_more}

@@ -3,9 +3,9 @@ use Rattle.std.proofs.Common.{◌∙◌, List, get_or, refl, sym, ap, subst}
 use Rattle.std.specs.List.{flat_map}
 use Rattle.std.proofs.lemmas.List.{take_all}
 use Rattle.sm_syntax.specs.declared.tree.Name.{Name}
+use Rattle.sm_syntax.specs.text.Sorts.{Sorts}
 use Rattle.sm_syntax.specs.declared.tree.Sort.{Sort}
 use Rattle.sm_syntax.specs.declared.tree.Sort.TheVariants.{Num}
-use Rattle.sm_syntax.specs.text.Sorts.{Sorts}
 use Rattle.sm_term.specs.Tables.{sorts_in}
 use Rattle.sm_term.proofs.TablesLemmas.{grows-not, grows-twice}
 use Rattle.sm_plan.specs.SortedStates.{AreOutputsDeclared}

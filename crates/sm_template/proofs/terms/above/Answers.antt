@@ -3,13 +3,13 @@ use Rattle.std.proofs.Common.{◌≡◌, Some, refl, IfOk, slice_get, ap, subst,
 use Rattle.std.specs.Int.{w128}
 use Rattle.std.proofs.lemmas.Bool.{and_from}
 use Rattle.std.proofs.lemmas.Int.{to_z-of_z}
-use Rattle.sm_syntax.specs.declared.tree.Sort.TheVariants.{Num}
 use Rattle.sm_syntax.specs.text.Sorts.{Sorts}
+use Rattle.sm_syntax.specs.declared.tree.Sort.TheVariants.{Num}
 use Rattle.sm_syntax.specs.trees.Copies.{copy_named}
-use Rattle.sm_term.specs.declared.term.TermId.{TermId}
 use Rattle.sm_term.specs.Terms.{Tree, Lit, Slot, Add}
 use Rattle.sm_term.specs.Sorted.{sort_named}
 use Rattle.sm_term.specs.Tables.{trees_in, sorts_in, tree_at}
+use Rattle.sm_term.specs.declared.term.TermId.{TermId}
 use Rattle.sm_term.proofs.ExpressionLemmas.{stays_got, tree_got, sort_got}
 use Rattle.sm_term.proofs.TablesLemmas.{grows-twice}
 use Rattle.sm_plan.proofs.SortedTerms.{sort_is}

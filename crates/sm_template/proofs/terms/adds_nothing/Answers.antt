@@ -1,11 +1,11 @@
 -- The six places, of which the first four stay.
 use Rattle.std.proofs.Common.{◌≡◌, ◌∙◌, ℕ, Some, ap}
-use Rattle.sm_syntax.specs.declared.tree.Sort.{Sort}
 use Rattle.sm_syntax.specs.text.Sorts.{Sorts}
+use Rattle.sm_syntax.specs.declared.tree.Sort.{Sort}
 use Rattle.sm_deps.proofs.MembersLemmas.{if_ok}
-use Rattle.sm_term.specs.declared.formula.Formula.{Formula}
 use Rattle.sm_term.specs.Formulas as over
 use Rattle.sm_term.specs.Formulas.{numbered}
+use Rattle.sm_term.specs.declared.formula.Formula.{Formula}
 use Rattle.sm_term.specs.Tables.{sorts_in}
 use Rattle.sm_term.proofs.ExpressionLemmas.{stays_got}
 use Rattle.sm_term.proofs.TablesLemmas.{grows-twice}

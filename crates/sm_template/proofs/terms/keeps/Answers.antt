@@ -1,12 +1,12 @@
 -- The four places, of which the first two stay.
 use Rattle.std.proofs.Common.{◌≡◌, ◌∙◌, ℕ, Some, ap}
-use Rattle.sm_syntax.specs.declared.tree.Sort.{Sort}
 use Rattle.sm_syntax.specs.text.Sorts.{Sorts}
+use Rattle.sm_syntax.specs.declared.tree.Sort.{Sort}
 use Rattle.sm_syntax.specs.trees.Copies.{copy_named}
 use Rattle.sm_deps.proofs.MembersLemmas.{if_ok}
-use Rattle.sm_term.specs.declared.formula.Formula.{Formula}
 use Rattle.sm_term.specs.Formulas as over
 use Rattle.sm_term.specs.Formulas.{numbered}
+use Rattle.sm_term.specs.declared.formula.Formula.{Formula}
 use Rattle.sm_term.specs.Tables.{sorts_in}
 use Rattle.sm_term.proofs.ExpressionLemmas.{stays_got}
 use Rattle.sm_plan.specs.States.{place}

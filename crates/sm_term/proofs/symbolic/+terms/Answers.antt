@@ -1,6 +1,6 @@
 use Rattle.std.proofs.Common.{rules, ◌≡◌, true, Some, length, slice_get, IfOk, ap, sym, subst, ◌∙◌}
-use Rattle.sm_syntax.specs.declared.tree.Sort.TheVariants.{Num, Arr}
 use Rattle.sm_syntax.specs.text.Sorts.{IsWellSortedExpression}
+use Rattle.sm_syntax.specs.declared.tree.Sort.TheVariants.{Num, Arr}
 use Rattle.sm_syntax.specs.trees.Views.{expression_of}
 use Rattle.sm_term.specs.Terms as tree
 use Rattle.sm_term.specs.Sorted.{tree_sort}

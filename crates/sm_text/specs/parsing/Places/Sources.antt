@@ -2,10 +2,10 @@
 -- What is to be read of a text: all of it, or what stands from a token on.
 use Rattle.std.specs.Prelude.{ℕ, Option, List, length, map, drop}
 use Rattle.sm_syntax.specs.declared.symbol.Symbol.{Symbol}
-use Rattle.sm_syntax.specs.declared.token.LexFault.{LexFault}
-use Rattle.sm_syntax.specs.declared.token.Token.{Token}
 use Rattle.sm_syntax.specs.text.Symbols.{symbol_of, names_after, names_of}
 use Rattle.sm_syntax.specs.text.Tokens.{lexed}
+use Rattle.sm_syntax.specs.declared.token.Token.{Token}
+use Rattle.sm_syntax.specs.declared.token.LexFault.{LexFault}
 
 -- what is to be read: tokens, what the grammar sees of each, and the lexical fault or the end of
 -- the text after them

@@ -3,10 +3,8 @@
 use Rattle.std.specs.Prelude.{ℕ, pos, List, [], ◌∷◌, ◌++◌}
 use Rattle.sm_syntax.specs.declared.symbol.Mark.TheVariants as mark
 use Rattle.sm_syntax.specs.claim.Syntax.{Condition, Code, End, Skip, Assign, Write, If, While, Hole}
-use Rattle.sm_text.specs.printing.Pieces.{Piece, Gap, mark_piece, number_piece, name_piece, space}
-use Rattle.sm_text.specs.printing.Pieces.{line_end, deeper, line}
-use Rattle.sm_text.specs.printing.Canonical.Expressions.{element_pieces, expression_pieces}
-use Rattle.sm_text.specs.printing.Canonical.Expressions.{condition_pieces}
+use Rattle.sm_text.specs.printing.Pieces.{Piece, Gap, mark_piece, number_piece, name_piece, space, line_end, deeper, line}
+use Rattle.sm_text.specs.printing.Canonical.Expressions.{element_pieces, expression_pieces, condition_pieces}
 
 -- braces round lines, where the last stands after a margin
 unfoldable pub braces : List ℕ → List Piece → List Piece

@@ -3,15 +3,13 @@
 use Rattle.std.specs.Prelude.{ℕ, zero, suc, Bool, true, false, if◌then◌else◌, Option, Some, None}
 use Rattle.sm_syntax.specs.declared.symbol.Mark.TheVariants as mark
 use Rattle.sm_syntax.specs.declared.symbol.Symbol.{Symbol}
-use Rattle.sm_syntax.specs.declared.tree.Cmp.{Cmp}
-use Rattle.sm_syntax.specs.declared.tree.Cmp.TheVariants.{Eq, Ne, Lt, Le, Gt, Ge}
 use Rattle.sm_syntax.specs.claim.Syntax as plain
 use Rattle.sm_syntax.specs.claim.Syntax.{Expression, Condition}
+use Rattle.sm_syntax.specs.declared.tree.Cmp.{Cmp}
+use Rattle.sm_syntax.specs.declared.tree.Cmp.TheVariants.{Eq, Ne, Lt, Le, Gt, Ge}
 use Rattle.sm_text.specs.declared.rules.conditions.CondChain.{CondChain}
 use Rattle.sm_text.specs.declared.rules.conditions.CondChain.TheVariants.{Conjunction, Disjunction}
-use Rattle.sm_text.specs.declared.rules.reading.FaultKind.TheVariants.{Expected}
-use Rattle.sm_text.specs.rules.Parsers.{first, Parser, ◌>>=◌, ◌>>◌, pure, skip, refuse, stands}
-use Rattle.sm_text.specs.rules.Parsers.{Operators, chain, inside_group}
+use Rattle.sm_text.specs.rules.Parsers.{first, Parser, ◌>>=◌, ◌>>◌, pure, skip, refuse, stands, Operators, chain, inside_group, Expected}
 use Rattle.sm_text.specs.rules.Reading.Expressions.{expression}
 
 -- the comparison that stands there

@@ -11,10 +11,7 @@ use Rattle.sm_syntax.specs.claim.Syntax as plain
 use Rattle.sm_syntax.specs.claim.Syntax.{Expression}
 use Rattle.sm_text.specs.declared.rules.expressions.ExprChain.{ExprChain}
 use Rattle.sm_text.specs.declared.rules.expressions.ExprChain.TheVariants.{Product, Sum}
-use Rattle.sm_text.specs.declared.rules.reading.FaultKind.TheVariants.{Expected}
-use Rattle.sm_text.specs.rules.Parsers.{first, Parser, ◌>>=◌, ◌>>◌, pure, peek}
-use Rattle.sm_text.specs.rules.Parsers.{skip, refuse, stands}
-use Rattle.sm_text.specs.rules.Parsers.{Operators, chain, inside_group}
+use Rattle.sm_text.specs.rules.Parsers.{first, Parser, ◌>>=◌, ◌>>◌, pure, peek, skip, refuse, stands, Operators, chain, inside_group, Expected}
 
 -- the index of an element, after the name of its array
 unfoldable pub index : Option (Parser Expression) → Parser Expression

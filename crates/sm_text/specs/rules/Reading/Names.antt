@@ -1,7 +1,6 @@
 -- No public clause cites this file.
 -- How names, declarations, outputs and hole numbers are read.
-use Rattle.std.specs.Prelude.{ℕ, ℤ, pos, negsuc, nat_le, Bool, true, false, ◌&&◌, ◌||◌}
-use Rattle.std.specs.Prelude.{if◌then◌else◌, Option, Some, None, List, [], ◌∷◌, ◌++◌}
+use Rattle.std.specs.Prelude.{ℕ, ℤ, pos, negsuc, nat_le, Bool, true, false, ◌&&◌, ◌||◌, if◌then◌else◌, Option, Some, None, List, [], ◌∷◌, ◌++◌}
 use denote.Enum.Bare.{sameb}
 use Rattle.sm_syntax.specs.contracts.symbol.Mark.{the_type}
 use Rattle.sm_syntax.specs.declared.symbol.Mark.{Mark}
@@ -12,10 +11,7 @@ use Rattle.sm_syntax.specs.declared.tree.Name.{Name}
 use Rattle.sm_syntax.specs.declared.tree.Sort.{Sort}
 use Rattle.sm_syntax.specs.declared.tree.Sort.TheVariants.{Num, Arr}
 use Rattle.sm_syntax.specs.text.TaskGrammar.{with_sort}
-use Rattle.sm_text.specs.declared.rules.reading.FaultKind.TheVariants.{Expected}
-use Rattle.sm_text.specs.rules.Parsers.{Parser, ◌>>=◌, ◌>>◌, pure, peek, skip}
-use Rattle.sm_text.specs.rules.Parsers.{refuse, expect, stands}
-use Rattle.sm_text.specs.rules.Parsers.{gather}
+use Rattle.sm_text.specs.rules.Parsers.{Parser, ◌>>=◌, ◌>>◌, pure, peek, skip, refuse, expect, stands, gather, Expected}
 
 -- whether a name stands there
 abbrev pub begins_name : Option Symbol → Bool

@@ -1,7 +1,6 @@
 -- No public clause cites this file.
 -- How statements and blocks are read, where g groups may be opened.
-use Rattle.std.specs.Prelude.{ℕ, zero, suc, Bool, true, false, ◌||◌, if◌then◌else◌, Option, Some}
-use Rattle.std.specs.Prelude.{None}
+use Rattle.std.specs.Prelude.{ℕ, zero, suc, Bool, true, false, ◌||◌, if◌then◌else◌, Option, Some, None}
 use denote.Enum.Bare.{sameb}
 use Rattle.sm_syntax.specs.contracts.symbol.Mark.{the_type}
 use Rattle.sm_syntax.specs.declared.symbol.Mark.{Mark}
@@ -11,10 +10,7 @@ use Rattle.sm_syntax.specs.declared.symbol.Symbol.TheVariants as s
 use Rattle.sm_syntax.specs.declared.tree.Name.{Name}
 use Rattle.sm_syntax.specs.claim.Syntax as plain
 use Rattle.sm_syntax.specs.claim.Syntax.{Condition, Code}
-use Rattle.sm_text.specs.declared.rules.reading.FaultKind.TheVariants.{Expected}
-use Rattle.sm_text.specs.rules.Parsers.{first, Parser, ◌>>=◌, ◌>>◌, pure, peek}
-use Rattle.sm_text.specs.rules.Parsers.{skip, refuse, expect}
-use Rattle.sm_text.specs.rules.Parsers.{stands, gather, grouped}
+use Rattle.sm_text.specs.rules.Parsers.{first, Parser, ◌>>=◌, ◌>>◌, pure, peek, skip, refuse, expect, stands, gather, grouped, Expected}
 use Rattle.sm_text.specs.rules.Reading.Names.{begins_name, hole_number}
 use Rattle.sm_text.specs.rules.Reading.Expressions.{index, inner_sum, expression}
 use Rattle.sm_text.specs.rules.Reading.Conditions.{inner_condition}

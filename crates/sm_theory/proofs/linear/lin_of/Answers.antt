@@ -8,9 +8,9 @@ use Rattle.sm_term.specs.Tables.{trees_in, tree_at}
 use Rattle.sm_theory.specs.LinearTerms.{linear_of}
 use Rattle.sm_theory.specs.Standing.{IsKeptFor}
 use Rattle.sm_theory.specs.FormsOfTerms.{IsFound, IsWay, AreOpen, missing_below}
-use Rattle.sm_theory.proofs.WalkLemmas.{way_below, way_pushed, way_popped, open_pushed, open_popped, way_open, forms_gain, missing_less}
-use Rattle.sm_theory.proofs.WalkLemmas.{rounds_less, step_less, way_start}
+use Rattle.sm_theory.proofs.WalkLemmas.{way_below, way_pushed, way_popped, open_pushed, open_popped, way_open, forms_gain, missing_less, way_start}
 use Rattle.sm_theory.proofs.linear.lin_of.Goals as goal
+use Rattle.sm_lemmas.proofs.Numbers.{rounds_less, sum_less}
 
 -- nothing is there at first
 none_there : (f : ℕ → Option (Linear ℕ)) → ((n : ℕ) → f n ≡ None) → (n : ℕ) (h : Linear ℕ) → f n ≡ Some h → ⊥
@@ -41,7 +41,7 @@ walk-smaller-in-Part c =
     let t = c.args.t.0 in
     let forms = get nat_eq c.walk.forms in
     let found = subst (IsFound (trees_in c.args.table.now) forms c.walk.next) c.in-Part.is c.in_ok-p.ensures in
-    step_less (missing_below forms (t + 1) * (t + 1)) c.in-Part.p c.walk.next found.0
+    sum_less (missing_below forms (t + 1) * (t + 1)) c.in-Part.p c.walk.next found.0
 
 pub walk-preserved-in-Part : goal.walk-preserved-in-Part
 walk-preserved-in-Part c =

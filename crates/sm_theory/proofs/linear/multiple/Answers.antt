@@ -3,8 +3,8 @@ use Rattle.std.proofs.Common.{ℕ, ℤ, pos, rules, sym, subst}
 use Rattle.std.proofs.lemmas.Int.{to_z-of_z}
 use Rattle.std.specs.Int.{w128}
 use mir.Val.{SFits}
-use Rattle.sm_num.specs.declared.kind.Kind.TheVariants.{Eq}
 use Rattle.sm_num.specs.Forms.{Linear}
+use Rattle.sm_num.specs.declared.kind.Kind.TheVariants.{Eq}
 use Rattle.sm_num.specs.Combining.{Outcome, combined}
 use Rattle.sm_num.specs.Errors.{Returns}
 use Rattle.sm_theory.specs.LinearTerms.{constant_form, scaled_form}

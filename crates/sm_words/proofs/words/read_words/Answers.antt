@@ -1,8 +1,7 @@
 use Rattle.std.proofs.Common.{◌≡◌, ◌∙◌, ◌≤◌, List, [], ◌∷◌, Option, Some, map, length, get_or, sym, ap, subst, arith}
 use Rattle.std.specs.String.{string_bytes}
 use Rattle.clap.specs.Walk.{Text}
-use Rattle.sm_words.specs.Words.{verb_of, IsRefused, IsUsage}
-use Rattle.sm_words.specs.declared.command.Verb.{Verb}
+use Rattle.sm_words.specs.Words.{verb_of, IsRefused, IsUsage, Verb}
 use Rattle.sm_words.proofs.words.read_words.Goals as goal
 
 -- words that the command of the first of them refuses are words that no command takes

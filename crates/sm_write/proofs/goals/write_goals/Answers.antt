@@ -1,13 +1,14 @@
 -- Each certificate is written for the goal that is next, and where there are none there is no goal either.
 use Rattle.std.proofs.Common.{◌≡◌, ℕ, List, [], ◌∷◌, length, map, ap, sym, subst, arith}
 use Rattle.sm_term.specs.Tables.{trees_in}
-use Rattle.sm_cert.specs.declared.tree.CertTree.{CertTree}
 use Rattle.sm_cert.specs.Views.{certificate_in}
+use Rattle.sm_cert.specs.declared.tree.CertTree.{CertTree}
 use Rattle.sm_write.specs.GoalsWritten.{LeavesGoals}
 use Rattle.sm_write.specs.TreesWithin.{AreTreesWithin}
 use Rattle.sm_write.specs.Values.{value_of}
-use Rattle.sm_write.proofs.GoalsLemmas.{goals_more, goals_short, none_there}
+use Rattle.sm_write.proofs.GoalsLemmas.{goals_more, goals_short}
 use Rattle.sm_write.proofs.goals.write_goals.Goals as goal
+use Rattle.sm_lemmas.proofs.Lists.{no_items}
 
 pub returns-in-None-clause-written : goal.returns-in-None-clause-written
 returns-in-None-clause-written c =
@@ -17,7 +18,7 @@ returns-in-None-clause-written c =
     let mid = value_of c.loop-n.w in
     let count = c.args.goals in
     let cs = means c.args.certs.now in
-    let none : means c.loop-n.left.now ≡ [] = ap means (none_there c.loop-n.left.now c.in-None.ensures.cases) in
+    let none : means c.loop-n.left.now ≡ [] = ap means (no_items c.loop-n.left.now c.in-None.ensures.cases) in
     subst (LeavesGoals v old mid count cs count) (sym none)
     (goals_short v old mid count c.loop-n.n cs (subst (LeavesGoals v old mid count cs c.loop-n.n) none c.loop-n.invariant.written)
     c.loop-n-test.true)

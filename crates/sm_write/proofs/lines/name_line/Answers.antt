@@ -1,7 +1,7 @@
 -- The first term keeps its number while the second gets one.
 use Rattle.std.proofs.Common.{ℕ, ◌<◌, Option, length, sym, subst, IfSome}
-use Rattle.sm_term.specs.declared.term.TermId.{TermId}
 use Rattle.sm_term.specs.Tables.{trees_in, tree_at}
+use Rattle.sm_term.specs.declared.term.TermId.{TermId}
 use Rattle.sm_write.specs.LineTerms.{first_term}
 use Rattle.sm_write.specs.Seen.{IsBuilt, Seen}
 use Rattle.sm_write.specs.Values.{value_of}

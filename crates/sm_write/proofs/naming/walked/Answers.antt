@@ -4,12 +4,12 @@ use Rattle.std.proofs.lemmas.Grind.{common_steps}
 use Rattle.std.specs.HashMap.{get}
 use Rattle.sm_term.specs.Tables.{trees_in}
 use Rattle.sm_plan.specs.Filling.{IsWay, AreOpen, unknown_below}
-use Rattle.sm_plan.proofs.FillingWalk.{way_below, way_pushed, way_popped, open_pushed, open_popped, way_open, unknown_less}
-use Rattle.sm_plan.proofs.FillingWalk.{rounds_less, way_start}
+use Rattle.sm_plan.proofs.FillingWalk.{way_below, way_pushed, way_popped, open_pushed, open_popped, way_open, unknown_less, way_start}
 use Rattle.sm_write.specs.Naming.{IsStep}
 use Rattle.sm_write.specs.Values.{value_of}
 use Rattle.sm_write.proofs.WalkedLemmas.{walk_down, walk_written, walk_up, gained_at}
 use Rattle.sm_write.proofs.naming.walked.Goals as goal
+use Rattle.sm_lemmas.proofs.Numbers.{rounds_less}
 
 pub step_of-requires : goal.step_of-requires
 step_of-requires c =

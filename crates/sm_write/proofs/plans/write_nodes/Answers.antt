@@ -2,9 +2,9 @@
 use Rattle.std.proofs.Common.{◌≡◌, List, [], ◌∷◌, ◌++◌, reverse, sym, ap, ◌∙◌, subst}
 use Rattle.std.proofs.lemmas.List.{nil_from_length}
 use Rattle.sm_plan.proofs.TablesWiden.{widens_same, widens_twice}
-use Rattle.sm_expand.specs.declared.placed.PlacedState.{PlacedState}
 use Rattle.sm_write.specs.Underway.{IsUnderway}
 use Rattle.sm_expand.specs.PlacedStates.{ArePlacedReady}
+use Rattle.sm_expand.specs.declared.placed.PlacedState.{PlacedState}
 use Rattle.sm_write.specs.Values.{value_of}
 use Rattle.sm_expand.proofs.PlacedLemmas.{popped}
 use Rattle.sm_write.proofs.UnderwayLemmas.{underway_whole}

@@ -2,11 +2,11 @@
 use Rattle.std.proofs.Common.{rules, ◌≡◌, ◌<◌, List, [], ◌∷◌, length, ap, sym, subst, ◌∙◌, arith}
 use Rattle.std.specs.Prelude.{OnOk}
 use Rattle.sm_term.specs.Tables.{trees_in}
-use Rattle.sm_theory.specs.declared.line.CertLine.{CertLine}
 use Rattle.sm_theory.specs.Views.{line_in}
-use Rattle.sm_cert.specs.declared.tree.CertTree.{CertTree}
+use Rattle.sm_theory.specs.declared.line.CertLine.{CertLine}
 use Rattle.sm_cert.specs.Certificates.{Certificate, Closed, Split}
 use Rattle.sm_cert.specs.Views.{lines_before, certificate_in, lines_of, AreLinesWithin}
+use Rattle.sm_cert.specs.declared.tree.CertTree.{CertTree}
 use Rattle.sm_cert.proofs.CheckLemmas.{tree_closed, tree_split, lines_closed, within_parts}
 use Rattle.sm_cert.proofs.TreeLemmas.{own_within, split_within, first_within, second_within, first_fewer, second_fewer}
 use Rattle.sm_write.specs.Stepped.{ClosesBranch}

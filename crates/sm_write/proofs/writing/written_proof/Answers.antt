@@ -11,9 +11,9 @@ use Rattle.sm_prune.specs.Texts.{Leads}
 use Rattle.sm_write.specs.Bytes.{line_text}
 use Rattle.sm_write.specs.Values.{value_of}
 use Rattle.sm_write.specs.Versions.{version_where}
-use Rattle.sm_write.proofs.TaskStarts.{some_mapped}
 use Rattle.sm_write.proofs.TextLemmas.{IsFile, leads_pass}
 use Rattle.sm_write.proofs.writing.written_proof.Goals as goal
+use Rattle.sm_syntax.proofs.Assumed.{some_mapped}
 
 pub returns : goal.returns
 returns c =

@@ -2,15 +2,15 @@ use Rattle.std.proofs.Common.{◌≡◌, ◌∙◌, length, map, All, sym, ap, s
 use Rattle.std.specs.List.{AllZip}
 use Rattle.sm_syntax.specs.claim.ConflictFree.{ConflictFree}
 use Rattle.sm_syntax.specs.text.Parts.{Parts, task_of}
-use Rattle.sm_text.specs.declared.task.Task.{Task}
 use Rattle.sm_text.specs.printing.Named.{HasText}
 use Rattle.sm_text.specs.Tasks.{parts_of}
+use Rattle.sm_text.specs.declared.task.Task.{Task}
 use Rattle.sm_batch.specs.Answers.{IsAnswer, MayAnswer}
 use Rattle.sm_batch.specs.Steps.{IsLookedUp, missed}
 use Rattle.sm_batch.proofs.JobLemmas.{all_unmap}
 use Rattle.sm_batch.proofs.TellLemmas.{missed_all, missed_length, all_told, answers_told}
-use Rattle.sm_batch.proofs.ZipLemmas.{zip_length}
 use Rattle.sm_batch.proofs.batch.Batch.replies_and_steps.Goals as goal
+use Rattle.sm_lemmas.proofs.Lists.{zip_length}
 
 pub missed-requires : goal.missed-requires
 missed-requires g c =

@@ -1,8 +1,8 @@
 -- By the labels of places.
 use Rattle.std.proofs.Common.{◌≡◌, ℕ, List, length, map, ap, sym, subst, ◌∙◌}
 use Rattle.std.proofs.lemmas.Result.{IfOk-weaker}
-use Rattle.sm_term.specs.declared.term.TermId.{TermId}
 use Rattle.sm_term.specs.Tables.{trees_in, AreBefore}
+use Rattle.sm_term.specs.declared.term.TermId.{TermId}
 use Rattle.sm_cc.specs.Labels.{AreTermLabels}
 use Rattle.sm_cc.specs.LabelsAt.{label_at}
 use Rattle.sm_cc.specs.Positions.{place_at}

@@ -1,7 +1,7 @@
 -- By what is so of the classes that these begin with; what is numbered goes on.
 use Rattle.std.proofs.Common.{◌∙◌, List, length, sym, ap, subst}
-use Rattle.sm_term.specs.declared.term.TermId.{TermId}
 use Rattle.sm_term.specs.Tables.{trees_in}
+use Rattle.sm_term.specs.declared.term.TermId.{TermId}
 use Rattle.sm_pairs.specs.Longer.{IsLonger}
 use Rattle.sm_cc.specs.Assumed.{AreClasses, placed_equations, placed_contraries}
 use Rattle.sm_cc.specs.Positions.{ArePositions}

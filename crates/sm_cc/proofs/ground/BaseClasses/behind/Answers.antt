@@ -1,8 +1,8 @@
 -- By the labels of the places; what is numbered goes on.
 use Rattle.std.proofs.Common.{◌∙◌, IsTrue, Bool, List, length, ap, sym, subst}
 use Rattle.std.proofs.lemmas.Result.{IfOk-weaker}
-use Rattle.sm_term.specs.declared.term.TermId.{TermId}
 use Rattle.sm_term.specs.Tables.{trees_in}
+use Rattle.sm_term.specs.declared.term.TermId.{TermId}
 use Rattle.sm_pairs.specs.Longer.{IsLonger}
 use Rattle.sm_cc.specs.declared.row.Row.{Row}
 use Rattle.sm_cc.specs.AddedTerms.{AreEqualByLabels}

@@ -1,7 +1,7 @@
 -- By what is so of the rows and of what is given.
 use Rattle.std.proofs.Common.{List, refl, sym, ap, subst}
-use Rattle.sm_term.specs.declared.term.TermId.{TermId}
 use Rattle.sm_term.specs.Tables.{trees_in, sorts_in}
+use Rattle.sm_term.specs.declared.term.TermId.{TermId}
 use Rattle.sm_cc.specs.declared.row.Row.{Row}
 use Rattle.sm_cc.specs.Assumed.{placed_equations, placed_contraries}
 use Rattle.sm_cc.specs.Closures.{placed_of}

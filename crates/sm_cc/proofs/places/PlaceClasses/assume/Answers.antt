@@ -1,7 +1,5 @@
 use Rattle.std.proofs.Common.{refl, sym, subst}
-use Rattle.sm_cc.specs.declared.closure.Closure.{Closure}
-use Rattle.sm_cc.specs.declared.log.Given.{Given}
-use Rattle.sm_cc.specs.Closures.{IsSound}
+use Rattle.sm_cc.specs.Closures.{IsSound, Closure, Given}
 use Rattle.sm_cc.proofs.PlacesLemmas.{sound_equal}
 use Rattle.sm_cc.proofs.places.PlaceClasses.assume.Goals as goal
 

@@ -3,9 +3,9 @@ use Rattle.sm_term.specs.Tables.{trees_in, tree_at}
 use Rattle.sm_cc.specs.Classes.{are_apart}
 use Rattle.sm_cc.specs.Rounds.{are_equal}
 use Rattle.sm_cc.specs.Views.{setting_of}
-use Rattle.sm_pairs.proofs.AmongLemmas.{one_test}
 use Rattle.sm_cc.proofs.LeastLemmas.{apart_is_apart}
 use Rattle.sm_cc.proofs.seen.ClassesSees.apart.Goals as goal
+use Rattle.sm_lemmas.proofs.Tests.{same_tests}
 
 pub returns : goal.returns
 returns c =
@@ -13,5 +13,5 @@ returns c =
     let t = tree_at (trees_in v.table) c.args.t.0 in
     let u = tree_at (trees_in v.table) c.args.u.0 in
     let law = apart_is_apart (setting_of v) t u in
-    one_test c.apart.result (are_apart (setting_of v) (are_equal (setting_of v)) t u)
+    same_tests c.apart.result (are_apart (setting_of v) (are_equal (setting_of v)) t u)
     (λ h. law.1 (c.apart.ensures.0 h)) (λ h. c.apart.ensures.1 (law.0 h))

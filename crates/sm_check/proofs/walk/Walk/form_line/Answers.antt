@@ -1,11 +1,10 @@
 -- A formula more.
 use Rattle.std.proofs.Common.{Ok, Err, List, length, sym, subst}
-use Rattle.sm_term.specs.declared.term.TermId.{TermId}
 use Rattle.sm_term.specs.Tables.{trees_in, sorts_in}
+use Rattle.sm_term.specs.declared.term.TermId.{TermId}
 use Rattle.sm_proof.specs.Lines.{Form}
 use Rattle.sm_proof.specs.Passing.{taken, form_made}
-use Rattle.sm_check.specs.declared.forms.FormRow.{FormRow}
-use Rattle.sm_check.specs.FormRows.{AreRowsReady, IsRowReady, RowsStand, RowStands}
+use Rattle.sm_check.specs.FormRows.{AreRowsReady, IsRowReady, RowsStand, RowStands, FormRow}
 use Rattle.sm_check.specs.Tells.{Tells}
 use Rattle.sm_check.specs.Walks.{WalkValue, Walks, terms_in}
 use Rattle.sm_check.proofs.WalksGo.{form_goes, form_stops, rows_ready}

@@ -1,7 +1,7 @@
 -- A term more, over a wider table.
 use Rattle.std.proofs.Common.{Ok, Err, List, length, sym, subst}
-use Rattle.sm_term.specs.declared.term.TermId.{TermId}
 use Rattle.sm_term.specs.Tables.{trees_in, sorts_in, AreBefore}
+use Rattle.sm_term.specs.declared.term.TermId.{TermId}
 use Rattle.sm_plan.proofs.TablesWiden.{widens_grown}
 use Rattle.sm_proof.specs.Lines.{Term}
 use Rattle.sm_proof.specs.Passing.{taken, term_made}

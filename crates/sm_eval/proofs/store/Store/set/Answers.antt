@@ -1,6 +1,5 @@
-use Rattle.sm_eval.specs.declared.stored_value.StoredValue.TheVariants.{Number}
 use Rattle.std.proofs.Common.{sym}
-use Rattle.sm_eval.specs.StoredValues.{meaning, sorts_of}
+use Rattle.sm_eval.specs.StoredValues.{meaning, sorts_of, Number}
 use Rattle.sm_eval.proofs.Writes.{declared_within, sorts-set}
 use Rattle.sm_eval.proofs.store.Store.set.Goals as goal
 

@@ -4,10 +4,8 @@ use Rattle.std.proofs.lemmas.List.{get_or_default}
 use Rattle.std.proofs.lemmas.Result.{on_ok_weaker}
 use Rattle.sm_syntax.specs.claim.Stores as plain
 use Rattle.sm_syntax.specs.claim.Stores.{put, with_element}
-use Rattle.sm_eval.specs.declared.stored_value.StoredValue.{StoredValue}
-use Rattle.sm_eval.specs.declared.stored_value.StoredValue.TheVariants.{Absent, Array}
 use Rattle.sm_eval.specs.Cells.{listed}
-use Rattle.sm_eval.specs.StoredValues.{held, stored_value_of, values, meaning, sorts_of}
+use Rattle.sm_eval.specs.StoredValues.{held, stored_value_of, values, meaning, sorts_of, StoredValue, Absent, Array}
 use Rattle.sm_eval.proofs.Writes.{declared_within, values-set, sorts-set}
 use Rattle.sm_eval.proofs.store.Store.set_cell.Goals as goal
 

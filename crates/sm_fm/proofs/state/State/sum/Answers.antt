@@ -8,9 +8,9 @@ use Rattle.sm_num.specs.Combining.{Outcome}
 use Rattle.sm_fm.specs.Places.{no_form, form_at}
 use Rattle.sm_fm.specs.States.{Lacks, Finishes}
 use Rattle.sm_fm.proofs.KnowingLemmas.{sum_lacks}
-use Rattle.sm_fm.proofs.StateLemmas.{slice_get_is}
 use Rattle.sm_fm.proofs.StepLemmas.{gives_sum}
 use Rattle.sm_fm.proofs.state.State.sum.Goals as goal
+use Rattle.std.proofs.lemmas.Option.{slice_get-get_or}
 
 pub elim-sum-requires : goal.elim-sum-requires
 elim-sum-requires c =
@@ -45,7 +45,7 @@ returns-clause-gives c =
     let second : c.index-g.result.now ≡ form_at mid.forms.items p.1 =
     get_or_read mid.forms.items p.1 c.index-g.result.now takes.pair.pair.second c.index-g.ensures no_form in
     gives_sum c.args.self.now mid c.finish.new.self p c.index-atom.result.now c.finish.result takes
-    (slice_get_is mid.atoms.list.items mid.atom c.index-atom.result.now takes.pair.atom ∙ ap Some (sym c.index-atom.ensures))
+    (slice_get-get_or mid.atoms.list.items mid.atom c.index-atom.result.now takes.pair.atom ∙ ap Some (sym c.index-atom.ensures))
     (subst (λ (o : Outcome (Linear ℕ)). Finishes mid c.finish.new.self p c.index-atom.result.now o c.finish.result)
     (λ k. eliminated (first k) (second k) mid.atom)
     (c.finish.ensures.finishes (eliminated c.index-f.result.now c.index-g.result.now mid.atom) c.elim-sum.ensures))

@@ -2,8 +2,9 @@
 use Rattle.std.proofs.Common.{◌≡◌, cond, Some, false, length, slice_get, sym, ap, ◌∙◌, subst}
 use Rattle.std.specs.List.{list_any}
 use Rattle.sm_numbering.specs.Places.{place_of, AreApart}
-use Rattle.sm_numbering.proofs.PlaceLemmas.{apart_put, places_put, at_end, distinct}
+use Rattle.sm_numbering.proofs.PlaceLemmas.{apart_put, places_put, distinct}
 use Rattle.sm_numbering.proofs.numbering.Numbering.put.Goals as goal
+use Rattle.sm_lemmas.proofs.Lists.{get_last}
 
 pub invariant_of-self-in-Ok : goal.invariant_of-self-in-Ok
 invariant_of-self-in-Ok g c =
@@ -25,7 +26,7 @@ pub returns-in-Ok-clause-stored : goal.returns-in-Ok-clause-stored
 returns-in-Ok-clause-stored g c =
     ap (slice_get c.push.new.self.items) (c.len-at.ensures ∙ sym (ap length c.self.view_is))
     ∙ ap (λ l. slice_get l (length c.self.inside.list.items)) c.in_ok-push.ensures.items
-    ∙ at_end c.self.inside.list.items c.args.value
+    ∙ get_last c.self.inside.list.items c.args.value
 
 pub returns-in-Ok-clause-unique : goal.returns-in-Ok-clause-unique
 returns-in-Ok-clause-unique g c =

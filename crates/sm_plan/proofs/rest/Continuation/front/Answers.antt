@@ -2,9 +2,8 @@
 use Rattle.std.proofs.Common.{◌≡◌, ◌+◌, ◌-◌, length, take, drop, sym, ap, ◌∙◌, arith}
 use Rattle.std.proofs.lemmas.Result.{IfOk-weaker}
 use Rattle.sm_syntax.specs.claim.Syntax.{End}
-use Rattle.sm_plan.specs.declared.rest.Continuation.{Continuation}
 use Rattle.sm_plan.specs.Statements.{front}
-use Rattle.sm_plan.specs.Views.{code_before, frames_before, rest_code}
+use Rattle.sm_plan.specs.Views.{code_before, frames_before, rest_code, Continuation}
 use Rattle.sm_plan.proofs.RestsLemmas.{take_frame, drop_frame, front_within, front_past}
 use Rattle.sm_plan.proofs.rest.Continuation.front.Goals as goal
 

@@ -1,6 +1,5 @@
 -- Each part of the mini-product, from those below it.
-use Rattle.std.proofs.Common.{◌≡◌, ◌==◌, ◌+◌, ◌*◌, ◌<◌, ℕ, bit_and, Bool, true, if◌then◌else◌, List, [], ◌∷◌, ◌++◌, map, IfOk, IfErr}
-use Rattle.std.proofs.Common.{refl, sym, ap, ◌∙◌, subst, arith}
+use Rattle.std.proofs.Common.{◌≡◌, ◌==◌, ◌+◌, ◌*◌, ◌<◌, ℕ, bit_and, Bool, true, if◌then◌else◌, List, [], ◌∷◌, ◌++◌, map, IfOk, IfErr, refl, sym, ap, ◌∙◌, subst, arith}
 use Rattle.std.proofs.lemmas.Bool.{eq-eqb}
 use Rattle.std.proofs.lemmas.List.{map-append}
 use Rattle.std.proofs.lemmas.Result.{IfOk-weaker, IfErr-weaker}
@@ -25,9 +24,9 @@ use Rattle.sm_moves.specs.Rests.{codes_in}
 use Rattle.sm_moves.specs.ProgramMoves.{move_in}
 use Rattle.sm_moves.proofs.MaskLemmas.{mask_within, mask_inhabited}
 use Rattle.sm_template.specs.Sites.{IsSiteOf}
-use Rattle.sm_sketch.specs.declared.error.ProductError.{ProductError}
 use Rattle.sm_sketch.specs.declared.sketch.Sketch as own
 use Rattle.sm_sketch.specs.Errors.{TellsSketch}
+use Rattle.sm_sketch.specs.declared.error.ProductError.{ProductError}
 use Rattle.sm_sketch.specs.Sketches.{Sketch, forking, looped}
 use Rattle.sm_sketch.specs.SketchSizes.{sketch_size}
 use Rattle.sm_sketch.specs.SketchViews.{sketch_in, AreSketchesReady}
@@ -36,10 +35,8 @@ use Rattle.sm_product.specs.LoopTurns.{turn_of, HaveLoops}
 use Rattle.sm_product.specs.MiniProducts.{drawn, side_by_side, statements_left}
 use Rattle.sm_product.specs.Paths.{IsFilled, moves_before, first_taken}
 use Rattle.sm_product.specs.Rooms.{TellsBeyond, TellAllBeyond, IsTaken}
-use Rattle.sm_product.proofs.BranchesDrawn.{no_room_for_next, no_room_for_one, no_room_beside, no_room_for_other}
-use Rattle.sm_product.proofs.BranchesDrawn.{none_loops, no_room_for_turns, no_room_after}
-use Rattle.sm_product.proofs.BranchesLeft.{first_way, second_way, have_loops, after_loops, one_turn}
-use Rattle.sm_product.proofs.BranchesLeft.{first_sorted, second_sorted, turn_sorted}
+use Rattle.sm_product.proofs.BranchesDrawn.{no_room_for_next, no_room_for_one, no_room_beside, no_room_for_other, none_loops, no_room_for_turns, no_room_after}
+use Rattle.sm_product.proofs.BranchesLeft.{first_way, second_way, have_loops, after_loops, one_turn, first_sorted, second_sorted, turn_sorted}
 use Rattle.sm_product.proofs.MiniDrawn.{all_drawn, last_beyond, all_beyond}
 use Rattle.sm_product.proofs.PartsDrawn.{still_drawn, still_sited, still_sorted, fork_drawn, loops_drawn}
 use Rattle.sm_product.proofs.RoomLemmas.{err_is, no_memory, limit_beyond}

@@ -1,18 +1,14 @@
 -- Statements are drawn from the last one on, each copy's part at a time; what a part's error tells is told of the whole.
-use Rattle.std.proofs.Common.{rules, ◌≡◌, ◌==◌, ◌≤◌, ◌<◌, ◌+◌, ◌-◌, ◌*◌, ◌||◌, ℕ, bit_and, Bool, true, false, if◌then◌else◌}
-use Rattle.std.proofs.Common.{length, map}
-use Rattle.std.proofs.Common.{drop, sym, ap, ◌∙◌, subst, arith}
+use Rattle.std.proofs.Common.{rules, ◌≡◌, ◌==◌, ◌≤◌, ◌<◌, ◌+◌, ◌-◌, ◌*◌, ◌||◌, ℕ, bit_and, Bool, true, false, if◌then◌else◌, length, map, drop, sym, ap, ◌∙◌, subst, arith}
 use Rattle.std.specs.List.{filter, range_with_len}
 use Rattle.sm_syntax.specs.claim.ConflictFree.{Copy, copy_of}
 use Rattle.sm_syntax.specs.claim.Syntax.{Code, End, Skip, Assign, Write}
-use Rattle.sm_syntax.specs.declared.tree.Stmt.{Stmt}
 use Rattle.sm_syntax.specs.text.Sorts.{Sorts}
 use Rattle.sm_syntax.specs.text.Parts.{Parts}
 use Rattle.sm_syntax.specs.trees.Copies.{copy_named, of_copy}
 use Rattle.sm_syntax.specs.trees.Views.{expression_of, condition_of, statement_of, code_of}
-use Rattle.sm_syntax.proofs.Statements.{statement_of-Skip, statement_of-Assign, statement_of-Store, statement_of-If}
-use Rattle.sm_syntax.proofs.Statements.{statement_of-While}
-use Rattle.sm_syntax.proofs.Statements.{statement_of-Hole}
+use Rattle.sm_syntax.specs.declared.tree.Stmt.{Stmt}
+use Rattle.sm_syntax.proofs.Statements.{statement_of-Skip, statement_of-Assign, statement_of-Store, statement_of-If, statement_of-While, statement_of-Hole}
 use Rattle.sm_syntax.proofs.Blocks.{block_is}
 use Rattle.sm_term.specs.Tables.{trees_in, sorts_in}
 use Rattle.sm_text.specs.Tasks.{parts_of}
@@ -26,8 +22,8 @@ use Rattle.sm_moves.specs.CopySets.{only_in, members, with_member, without}
 use Rattle.sm_moves.specs.FilledCode.{piece_of}
 use Rattle.sm_moves.proofs.WalksLemmas.{statement_within}
 use Rattle.sm_template.specs.Templates.{block_templates, loop_templates}
-use Rattle.sm_sketch.specs.declared.error.ProductError.{ProductError}
 use Rattle.sm_sketch.specs.Errors.{TellsSketch}
+use Rattle.sm_sketch.specs.declared.error.ProductError.{ProductError}
 use Rattle.sm_sketch.specs.Sketches as plain
 use Rattle.sm_sketch.specs.SketchViews.{sketch_in}
 use Rattle.sm_sketch.proofs.SketchesWiden.{sketch_stays, sketch_ready, sketches_stay, sketches_ready}
@@ -35,16 +31,12 @@ use Rattle.sm_product.specs.declared.ifs.FilledIf.{FilledIf}
 use Rattle.sm_product.specs.declared.product.ProductContext.{ProductContext}
 use Rattle.sm_product.specs.ProductContexts.{IsContextReady}
 use Rattle.sm_product.specs.Products.{product, product_if, product_while, branched, forked, where_any}
-use Rattle.sm_product.proofs.BlocksDrawn.{filled_at, end_drawn, forks_out, forks_in}
-use Rattle.sm_product.proofs.BlocksDrawn.{only_these, all_these, turns_push}
-use Rattle.sm_product.proofs.DrawnLemmas.{err_is, tells_whole, drawn_by, drawn_same, drawn_fault, apart_drawn, looped_drawn}
-use Rattle.sm_product.proofs.DrawnLemmas.{forking_drawn, step_drawn}
-use Rattle.sm_product.proofs.DrawnLemmas.{if_drawn, while_drawn, if_inside, while_inside, hole_inside, cut_step, drawn_step}
+use Rattle.sm_product.proofs.BlocksDrawn.{filled_at, end_drawn, forks_out, forks_in, only_these, all_these, turns_push}
+use Rattle.sm_product.proofs.DrawnLemmas.{err_is, tells_whole, drawn_by, drawn_same, drawn_fault, apart_drawn, looped_drawn, forking_drawn, step_drawn, if_drawn, while_drawn, if_inside, while_inside, hole_inside, cut_step, drawn_step}
 use Rattle.sm_product.proofs.DrawnLemmas.{told_step, mask_tells}
 use Rattle.sm_product.proofs.GrowthLemmas.{after_any, first_of_fork, second_of_fork}
 use Rattle.sm_product.proofs.TurnsPut.{put_drawn, put_ready}
-use Rattle.sm_product.proofs.PartsPut.{fork_out, one_fails, other_fails, both_forked, last_is, branches_fail}
-use Rattle.sm_product.proofs.PartsPut.{if_summed, if_apart, while_summed, while_looped}
+use Rattle.sm_product.proofs.PartsPut.{fork_out, one_fails, other_fails, both_forked, last_is, branches_fail, if_summed, if_apart, while_summed, while_looped}
 use Rattle.sm_product.proofs.product.ProductContext.+product.Goals as goal
 
 -- what the product reads, over a wider table

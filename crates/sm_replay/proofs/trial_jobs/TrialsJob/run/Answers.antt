@@ -6,8 +6,7 @@ use Rattle.sm_task.specs.Filling.{AreFilled}
 use Rattle.sm_task.specs.Tasks.{parts_of}
 use Rattle.sm_eval.specs.StoredValues.{meaning}
 use Rattle.sm_replay.specs.declared.error.ReplayError.TheVariants.{Memory}
-use Rattle.sm_replay.specs.declared.verdict.Verdict.{Verdict}
-use Rattle.sm_replay.specs.Trials.{trial}
+use Rattle.sm_replay.specs.Trials.{trial, Verdict}
 use Rattle.sm_replay.specs.TrialJobs.{shown_of}
 use Rattle.sm_replay.proofs.VerdictSound.{shows_trial}
 use Rattle.sm_replay.proofs.trial_jobs.TrialsJob.run.Goals as goal

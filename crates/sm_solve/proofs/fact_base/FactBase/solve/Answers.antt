@@ -12,14 +12,15 @@ use Rattle.sm_list.specs.Branches.{with_parts, terms_of}
 use Rattle.sm_solve.specs.Walk.{walk_from}
 use Rattle.sm_solve.specs.Walking.{Shows}
 use Rattle.sm_solve.proofs.AtGoalLemmas.{terms_of_goal, room_counted}
-use Rattle.sm_solve.proofs.SolvingLemmas.{within_contrary, shows_certify}
-use Rattle.sm_solve.proofs.SortedLemmas.{sorted_contrary}
+use Rattle.sm_solve.proofs.SolvingLemmas.{shows_certify}
 use Rattle.sm_solve.proofs.fact_base.FactBase.solve.Goals as goal
+use Rattle.sm_term.proofs.FormsLemmas.{contrary_within}
+use Rattle.sm_term.proofs.SortedForms.{negate_sorted}
 
 pub open_goal-requires-clause-within : goal.open_goal-requires-clause-within
 open_goal-requires-clause-within c =
     let count = length (trees_in c.args.table.now) in
-    subst (IsFormulaWithin count) (sym c.in_ok-contrary.ensures) (within_contrary count (numbered c.args.target.now) c.requires.within)
+    subst (IsFormulaWithin count) (sym c.in_ok-contrary.ensures) (contrary_within count (numbered c.args.target.now) c.requires.within)
 
 pub open_goal-requires-clause-sorted : goal.open_goal-requires-clause-sorted
 open_goal-requires-clause-sorted c =
@@ -27,7 +28,7 @@ open_goal-requires-clause-sorted c =
     let trees = trees_in c.args.table.now in
     let goal = assertion_in sorts trees (numbered c.args.target.now) in
     let is = ap (assertion_in sorts trees) c.in_ok-contrary.ensures ∙ contrary_negates sorts trees (numbered c.args.target.now) in
-    subst (IsFormSorted sorts) (sym is) (sorted_contrary sorts goal c.requires.sorted)
+    subst (IsFormSorted sorts) (sym is) (negate_sorted sorts goal c.requires.sorted)
 
 pub close_goal-requires : goal.close_goal-requires
 close_goal-requires c =

@@ -4,11 +4,10 @@ use Rattle.sm_syntax.specs.text.Parts.{sort_of}
 use Rattle.sm_syntax.specs.trees.Programs.{declared_of}
 use Rattle.sm_syntax.specs.trees.Views.{code_of}
 use Rattle.sm_term.specs.Bodies.{block_of}
-use Rattle.sm_term.specs.Tables.{trees_behind, trees_in, sorts_in, codes_in}
+use Rattle.sm_term.specs.Tables.{trees_behind, trees_in, sorts_in, codes_in, TableValue}
 use Rattle.sm_term.specs.TableLaws.{IsTable, with_code}
 use Rattle.sm_term.proofs.TablesLemmas.{bodies-insert, codes-insert, body-stored, bodies-trees}
 use Rattle.std.proofs.lemmas.List.{append-nil}
-use Rattle.sm_term.specs.Tables.{TableValue}
 use Rattle.sm_term.proofs.AdoptionLemmas.{grown_bodies}
 use Rattle.sm_term.proofs.table.TermTable.body.Goals as goal
 

@@ -5,10 +5,9 @@ use Rattle.sm_syntax.specs.text.Sorts.{Sorts}
 use Rattle.sm_syntax.specs.trees.Programs.{declared_of}
 use Rattle.sm_syntax.specs.trees.Views.{code_of}
 use Rattle.sm_syntax.specs.claim.Syntax.{Code}
-use Rattle.sm_term.specs.declared.term.Term.{Term}
 use Rattle.sm_term.specs.declared.term.Term.TheVariants.{Cell}
 use Rattle.sm_term.specs.Bodies.{block_of}
-use Rattle.sm_term.specs.Tables.{TableValue, trees_behind, trees_in, sorts_in, codes_in, tree_in, tree_at, IsTermWithin}
+use Rattle.sm_term.specs.Tables.{TableValue, trees_behind, trees_in, sorts_in, codes_in, tree_in, tree_at, IsTermWithin, Term}
 use Rattle.sm_term.specs.Fitting.{term_fits}
 use Rattle.sm_term.specs.TableLaws.{AreTermsSound}
 use Rattle.sm_term.proofs.TreesLemmas.{length-trees}

@@ -2,9 +2,9 @@ use Rattle.std.proofs.Common.{◌≡◌, ◌-◌, ℕ, refl, sym, ap, ◌∙◌,
 use Rattle.std.proofs.lemmas.List.{length-map}
 use Rattle.std.specs.List.{AllByRecursion}
 use Rattle.sm_syntax.specs.declared.symbol.Symbol.{Symbol}
-use Rattle.sm_syntax.specs.declared.token.Token.{Token}
 use Rattle.sm_syntax.specs.text.Symbols.{symbol_of, names_after}
 use Rattle.sm_syntax.specs.text.Tokens.{Lexed, lexed}
+use Rattle.sm_syntax.specs.declared.token.Token.{Token}
 use Rattle.sm_text.specs.resolving.NameCounts.{names_counted}
 use Rattle.sm_text.specs.parsing.Places.{all_symbols}
 use Rattle.sm_text.specs.parsing.Prefix.{AreHeads}

@@ -1,6 +1,6 @@
 use Rattle.std.proofs.Common.{sym, ap, ◌∙◌, subst, List, map}
-use Rattle.sm_syntax.specs.declared.symbol.Symbol.{Symbol}
 use Rattle.sm_syntax.specs.text.MarkedSymbols.{plain}
+use Rattle.sm_syntax.specs.declared.symbol.Symbol.{Symbol}
 use Rattle.sm_syntax.specs.text.Tokens.{Lexed}
 use Rattle.sm_text.specs.parsing.Fragments.{IsProgram}
 use Rattle.sm_text.specs.parsing.Places.{ArePrograms, whole_text}

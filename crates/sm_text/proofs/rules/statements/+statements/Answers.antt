@@ -7,8 +7,7 @@ use Rattle.sm_syntax.proofs.Statements.{statement_of-If, statement_of-While}
 use Rattle.sm_text.specs.rules.Reading as spec
 use Rattle.sm_text.specs.rules.Written.{statements_before}
 use Rattle.sm_text.proofs.Sound.Gathered.{gather-turn, gather-end, gather-fault}
-use Rattle.sm_text.proofs.Sound.Loops.{tested, leaves, front-push, statement-shorter, inner_block-none, inner_block-some, inside-none}
-use Rattle.sm_text.proofs.Sound.Loops.{inside-fails, inside-followed, beside-reads, beside-fails, read-as}
+use Rattle.sm_text.proofs.Sound.Loops.{tested, leaves, front-push, statement-shorter, inner_block-none, inner_block-some, inside-none, inside-fails, inside-followed, beside-reads, beside-fails, read-as}
 use Rattle.sm_text.proofs.rules.statements.+statements.Goals as goal
 
 pub statements-returns-in_err-one : goal.statements-returns-in_err-one
