@@ -7,4 +7,4 @@ pub mod SharedLemmas
 pub mod WalksLemmas
 pub mod MaskLemmas
 pub mod CopiesLemmas
-pub mod Holes
+pub mod NoHoles

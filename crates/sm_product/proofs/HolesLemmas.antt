@@ -7,7 +7,7 @@ use Rattle.sm_syntax.specs.text.Conditions.{Section, Refusal, ListOf, HoleInFill
 use Rattle.sm_syntax.specs.text.Parts.{Parts}
 use Rattle.sm_product.specs.Laws.{ValidHasNoHole}
 use Rattle.sm_syntax.proofs.Refusals.{neither_refuses}
-use Rattle.sm_moves.proofs.Holes.{no_filling, none_outside}
+use Rattle.sm_moves.proofs.NoHoles.{no_filling, none_outside}
 
 no_hole_at : (section : Section) (o : Option ℕ) → at_hole HoleInFilling section o ≡ None → o ≡ None
 no_hole_at section None e = refl

@@ -15,7 +15,7 @@ use Rattle.sm_plan.specs.SortedStates.{AreOutputsDeclared, IsAssumptionSorted}
 use Rattle.sm_moves.specs.CodeShapes.{has_hole}
 use Rattle.sm_suggest.specs.Laws.{SpelledAreFit}
 use Rattle.sm_syntax.proofs.Refusals.{neither_refuses, each_none, has_sort}
-use Rattle.sm_moves.proofs.Holes.{no_filling, none_outside}
+use Rattle.sm_moves.proofs.NoHoles.{no_filling, none_outside}
 
 no_hole_at : (c : Copy) (o : Option ℕ) → at_hole HoleInFilling (ListOf c) o ≡ None → o ≡ None
 no_hole_at c None e = refl
