@@ -1,9 +1,5 @@
 -- Names that are found among declarations.
-use Rattle.std.proofs.Common.{◌≡◌, ◌<◌, ◌==◌, ℕ, zero, suc, Bool, true, false, IsTrue, Option, Some, if◌then◌else◌, List, [], ◌∷◌, length, map, get_or, eq-eqb, refl, arith}
-use Rattle.std.specs.Option.{is_some}
-use Rattle.sm_syntax.specs.declared.tree.Name.{Name}
-use Rattle.sm_syntax.specs.declared.tree.Sort.{Sort}
-use Rattle.sm_syntax.specs.text.Parts.{sort_of}
+use Rattle.calls.proofs.Imports.{◌≡◌, ◌<◌, ◌==◌, ℕ, zero, suc, Bool, true, false, IsTrue, Option, Some, if◌then◌else◌, List, [], ◌∷◌, length, map, get_or, eq-eqb, refl, arith, is_some, Name, Sort, sort_of}
 
 -- a declaration that is passed, or is not
 found : (test : Bool) (s : Sort) (rest : Option Sort) → test ≡ true → IsTrue (is_some (if test then Some s else rest))

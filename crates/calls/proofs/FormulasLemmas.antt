@@ -1,16 +1,9 @@
 -- Formulas whose terms are in a table and have the sorts that they need.
-use Rattle.std.proofs.Common.{◌≡◌, ℕ, ◌<◌, List, [], ◌∷◌, ◌++◌, length, refl, sym, subst}
-use Rattle.sm_syntax.specs.text.Sorts.{Sorts}
-use Rattle.sm_syntax.specs.declared.tree.Sort.TheVariants.{Num}
-use Rattle.sm_term.specs.Terms.{Tree}
-use Rattle.sm_term.specs.Tables.{tree_at}
+use Rattle.calls.proofs.Imports.{◌≡◌, ℕ, ◌<◌, List, [], ◌∷◌, ◌++◌, length, refl, sym, subst, Sorts, Num, Tree, tree_at, IsFormSorted, AreFormsSorted, tree_sort, Formula, all_numbered, assertions_in, AreFormulasWithin}
 use Rattle.sm_term.specs.declared.term.TermId.{TermId}
 use Rattle.sm_term.specs.TableLaws.{AreTreesSorted}
-use Rattle.sm_term.specs.Sorted.{IsFormSorted, AreFormsSorted, tree_sort}
 use Rattle.sm_term.specs.declared.formula.Formula.TheVariants as form
 use Rattle.sm_term.specs.Formulas.{numbered, assertion_in, IsFormulaWithin}
-use Rattle.sm_term.specs.declared.formula.Formula.{Formula}
-use Rattle.sm_list.specs.Parts.{all_numbered, assertions_in, AreFormulasWithin}
 
 -- the formula is sorted over the trees of a table
 abbrev pub IsSortedIn : Sorts → List Tree → Formula → Type 0

@@ -1,8 +1,5 @@
 -- Tables that go on from others, and rows that they take from one another.
-use Rattle.std.proofs.Common.{◌≡◌, ℕ, List, length, take, refl, ap, sym, ◌∙◌, subst}
-use Rattle.std.proofs.lemmas.List.{take_at}
-use Rattle.sm_term.specs.Terms.{Tree}
-use Rattle.sm_term.specs.Tables.{TableValue, trees_in, sorts_in}
+use Rattle.calls.proofs.Imports.{◌≡◌, ℕ, List, length, take, refl, ap, sym, ◌∙◌, subst, take_at, Tree, TableValue, trees_in, sorts_in}
 use Rattle.sm_term.specs.declared.tails.TermRows.{TermRows}
 use Rattle.sm_term.specs.Tails.{AreRowsSound}
 use Rattle.calls.specs.Scenes.{Continues}

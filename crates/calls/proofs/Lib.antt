@@ -1,3 +1,4 @@
+mod Imports
 mod DeclaredLemmas
 mod FormulasLemmas
 mod GrowthLemmas

@@ -1,13 +1,9 @@
 -- Code without a fault is well sorted.
-use Rattle.std.proofs.Common.{◌≡◌, ℕ, None, List, [], ◌∷◌, length}
+use Rattle.calls.proofs.Imports.{◌≡◌, ℕ, None, List, [], ◌∷◌, length, sort_of, IsWellSorted, Sort, all_declared}
 use Rattle.sm_syntax.specs.claim.Syntax.{Code}
 use Rattle.sm_syntax.specs.text.Conditions.{TooMany, first_of_all, first_sort_fault, sort_refusal, double_name, first_output_fault, over, size_fault, program_fault, code_nodes, code_depth}
 use Rattle.sm_syntax.specs.text.Uses.{names_used}
-use Rattle.sm_syntax.specs.text.Parts.{sort_of}
-use Rattle.sm_syntax.specs.text.Sorts.{IsWellSorted}
-use Rattle.sm_syntax.specs.declared.tree.Sort.{Sort}
 use Rattle.sm_syntax.specs.Laws.{WellSortedIsAll}
-use Rattle.sm_check.proofs.SpelledCheckable.{all_declared}
 use Rattle.sm_syntax.proofs.Refusals.{neither_refuses, declared_sort}
 
 -- code that isn't refused

@@ -1,14 +1,11 @@
 -- What holds of a task that some text spells: no filling has a hole, names are numbered as they are declared, and programs are sorted.
-use Rattle.std.proofs.Common.{◌≡◌}
+use Rattle.calls.proofs.Imports.{◌≡◌, Parts, sort_of, task_of, Sorts, IsWellSorted, spelled_checkable}
 use Rattle.sm_syntax.specs.claim.ConflictFree.{Copy, program_of}
-use Rattle.sm_syntax.specs.text.Parts.{Parts, sort_of, task_of}
-use Rattle.sm_syntax.specs.text.Sorts.{Sorts, IsWellSorted}
 use Rattle.sm_text.specs.printing.Named.{HasText}
 use Rattle.sm_plan.specs.SortedStates.{IsTaskSorted}
 use Rattle.sm_plan.specs.Starts.{AreNumbered}
 use Rattle.sm_product.specs.Laws.{HaveNoHole}
 use Rattle.sm_product.proofs.HolesLemmas.{valid_no_hole}
-use Rattle.sm_check.proofs.SpelledCheckable.{spelled_checkable}
 use Rattle.sm_replay.proofs.RunnableTasks.{runs, spelled_runs}
 
 pub no_hole : (t : Parts) → HasText t → HaveNoHole t

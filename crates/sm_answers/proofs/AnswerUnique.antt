@@ -1,28 +1,14 @@
 -- Two answers to the same told files, each without a fault, are equal: what a file gives, and the answers of
 -- `replay` and `verify`.
-use Rattle.std.proofs.Common.{◌≡◌, ◌≢◌, ◌⊎◌, ◌<◌, inl, inr, ℕ, List, Result, Ok, Err, length, codes, refl, sym, ap, subst, ◌∙◌, arith}
-use Rattle.sm_check.specs.Files.{FileAnswer, file_answer}
-use Rattle.sm_eval.specs.StoredValues.{meaning}
+use Rattle.sm_answers.proofs.Imports.{◌≡◌, ◌≢◌, ◌⊎◌, ◌<◌, inl, inr, ℕ, List, Result, Ok, Err, length, codes, refl, sym, ap, subst, ◌∙◌, arith, FileAnswer, file_answer, meaning, Rose, Known, untold, absent, holds, WhereHeld, subject_of, Parts, sort_of, task_of, Spells, Store, names_of, one_refusal, file_limit, FailsToRead, GivesNoBytes, GivesNoTask, GivesTask, IsNoTask, IsRead, IsTooLong, input_refusal_line, refusal_line, verdict_line, verdict_status, AnswersReplay, GivesInput, GivesNoInput, IsNoInput, Replays, ReplaysInput, Says, Verifies, answer_line, answer_status, proof_limit, AnswersProof}
 use Rattle.sm_eval.specs.declared.store.Store as code
-use Rattle.sm_io.specs.Causes.{Rose}
-use Rattle.sm_io.specs.Files.{Known, untold, absent, holds, WhereHeld}
-use Rattle.sm_proof.specs.Verdicts.{subject_of}
 use Rattle.sm_replay.specs.Input.{IsInput, Reads}
 use Rattle.sm_replay.specs.declared.error.InputError.{InputError}
 use Rattle.sm_replay.specs.declared.error.InputError.TheVariants as no_input
 use Rattle.sm_replay.proofs.InputUnique.{reading_one}
 use Rattle.sm_replay.proofs.VerdictUnique.{verdict_one}
-use Rattle.sm_syntax.specs.text.Parts.{Parts, sort_of, task_of}
-use Rattle.sm_syntax.specs.text.Spells.{Spells}
-use Rattle.sm_syntax.specs.claim.Stores.{Store}
-use Rattle.sm_syntax.specs.text.Symbols.{names_of}
-use Rattle.sm_task.proofs.RefusalUnique.{one_refusal}
 use Rattle.sm_text.proofs.Complete.Tasks as text
-use Rattle.sm_answers.specs.File.{file_limit, FailsToRead, GivesNoBytes, GivesNoTask, GivesTask, IsNoTask, IsRead, IsTooLong, Status}
-use Rattle.sm_answers.specs.Lines.{input_refusal_line, refusal_line, verdict_line}
-use Rattle.sm_answers.specs.Replay.{verdict_status, AnswersReplay, GivesInput, GivesNoInput, IsNoInput, Replays, ReplaysInput}
-use Rattle.sm_answers.specs.Status.{Says}
-use Rattle.sm_answers.specs.Verify.{Verifies, answer_line, answer_status, proof_limit, AnswersProof}
+use Rattle.sm_answers.specs.File.{Status}
 
 -- two replies are equal
 abbrev pub Same : Status → List ℕ → Status → List ℕ → Type 0

@@ -1,20 +1,11 @@
 -- What answers to a task and a proof file say, and which text refuses a task.
-use Rattle.std.proofs.Common.{◌≡◌, ◌≢◌, inr, ℕ, List, Result, Ok, Err, IfOk, IfErr, refl, ◌∙◌, ap}
-use Rattle.sm_check.specs.Files.{FileAnswer, Judged, OverLong}
-use Rattle.sm_io.specs.Files.{Known}
+use Rattle.sm_answers.proofs.Imports.{◌≡◌, ◌≢◌, inr, ℕ, List, Result, Ok, Err, IfOk, IfErr, refl, ◌∙◌, ap, FileAnswer, Judged, OverLong, Known, Parts, Verifies, answer_status, AnswersProof, refusal_line, GivesTask, IsNoTask, ExitsWith, Exit, Reply, names_of, task_or_refusal}
 use Rattle.sm_proof.specs.Verdicts as proof
-use Rattle.sm_syntax.specs.text.Parts.{Parts}
-use Rattle.sm_answers.specs.Verify.{Verifies, answer_status, AnswersProof}
-use Rattle.sm_answers.specs.Lines.{refusal_line}
-use Rattle.sm_answers.specs.File.{GivesTask, IsNoTask, Status, Accepted, Refused, ReadFault}
-use Rattle.sm_answers.specs.Exit.{ExitsWith, Exit}
+use Rattle.sm_answers.specs.File.{Status, Accepted, Refused, ReadFault}
 use Rattle.sm_answers.specs.declared.exit.Exit.TheVariants as stopped
-use Rattle.sm_answers.specs.declared.status.Reply.{Reply}
-use Rattle.sm_syntax.specs.text.Symbols.{names_of}
 use Rattle.sm_task.specs.Errors.{IsRefusedWith}
 use Rattle.sm_task.specs.declared.error.TaskError.{TaskError}
 use Rattle.sm_task.specs.declared.error.TaskError.TheVariants as no_task
-use Rattle.sm_task.proofs.RefusalUnique.{task_or_refusal}
 
 -- only a file that passes is accepted
 pub accepted_passes : (a : FileAnswer) → answer_status a ≡ Accepted → a ≡ Judged proof.Pass

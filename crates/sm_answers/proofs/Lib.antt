@@ -1,3 +1,4 @@
+mod Imports
 pub mod Statuses
 pub mod Answering
 pub mod Verified

@@ -1,11 +1,6 @@
 -- A told file is one list, or is refused as one in one way, without a fault.
-use Rattle.std.proofs.Common.{◌≡◌, ◌≢◌, ◌≤◌, ◌+◌, inl, inr, ℕ, suc, Bool, true, false, if◌then◌else◌, Some, None, List, [], ◌∷◌, length, codes, refl, sym, ap, ◌∙◌, arith, ◌&&◌, nat_le}
-use Rattle.std.proofs.lemmas.Bool.{leb-true}
-use Rattle.std.specs.Str.{is_utf8}
-use Rattle.sm_io.specs.Causes.{Rose}
-use Rattle.sm_io.specs.Files.{Known, untold}
-use Rattle.sm_proof.specs.Verdicts.{lines_in}
-use Rattle.sm_answers.specs.Lists.{bad_line, bad_line_after, bad_list_line, is_name, is_short, names_in, GivesList, GivesNoList, IsList}
+use Rattle.sm_answers.proofs.Imports.{◌≡◌, ◌≢◌, ◌≤◌, ◌+◌, inl, inr, ℕ, suc, Bool, true, false, if◌then◌else◌, Some, None, List, [], ◌∷◌, length, codes, refl, sym, ap, ◌∙◌, arith, ◌&&◌, leb-true, is_utf8, Rose, Known, untold, lines_in, bad_line, bad_line_after, bad_list_line, is_name, is_short, names_in, GivesList, GivesNoList, IsList}
+use Rattle.std.proofs.Common.{nat_le}
 use Rattle.sm_answers.specs.declared.status.Status.{Status}
 use Rattle.sm_answers.proofs.AnswerUnique.{Same, says_same, read_same, no_bytes_same, bytes_or_none}
 use Rattle.sm_lemmas.proofs.Tests.{both_pass}

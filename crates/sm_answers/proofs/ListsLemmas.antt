@@ -1,12 +1,8 @@
 -- The first line of bytes, and those behind it.
-use Rattle.std.proofs.Common.{◌≡◌, ◌+◌, ℕ, Bool, true, false, List, [], ◌∷◌, ◌++◌, take, drop, append_assoc, refl, sym, ap, ◌∙◌}
-use Rattle.std.proofs.lemmas.List.{take-append-drop}
+use Rattle.sm_answers.proofs.Imports.{◌≡◌, ◌+◌, ℕ, Bool, true, false, List, [], ◌∷◌, ◌++◌, drop, append_assoc, refl, sym, ap, ◌∙◌, take-append-drop, IsUtf8, is_utf8, with_byte, FileLines, in_first_line, lines_in, line_before}
+use Rattle.std.proofs.Common.{take}
 use Rattle.std.proofs.lemmas.Str.{IsUtf8-from_is_utf8}
-use Rattle.std.specs.Str.{IsUtf8, is_utf8}
-use Rattle.sm_check.proofs.LineLemmas.{with_byte}
 use Rattle.sm_check.specs.LineEnds.{HasNoEnd}
-use Rattle.sm_proof.specs.Verdicts.{FileLines, in_first_line, lines_in}
-use Rattle.sm_answers.specs.Listed.{line_before}
 
 -- bytes without an end, and then an end, are a line
 pub line_first : (front more : List ℕ) → HasNoEnd front → lines_in (front ++ 10 ∷ more) ≡ line_before front (lines_in more)

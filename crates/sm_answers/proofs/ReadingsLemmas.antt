@@ -1,24 +1,10 @@
 -- Accepted of `verify` stands exactly where a task was read, and then a proof that passes for it.
-use Rattle.std.proofs.Common.{◌≡◌, ◌≤◌, ◌⊎◌, inl, inr, ℕ, List, [], ◌∷◌, length, Result, Ok, Err, IfOk, IfErr, refl, sym, ap, subst, ◌∙◌}
-use Rattle.sm_check.specs.Files.{Judged, file_answer}
-use Rattle.sm_check.specs.declared.verifying.Checked.{Checked}
-use Rattle.sm_check.specs.declared.verifying.CheckError.{CheckError}
+use Rattle.sm_answers.proofs.Imports.{◌≡◌, ◌≤◌, ◌⊎◌, inl, inr, ℕ, List, [], ◌∷◌, length, Result, Ok, Err, IfOk, IfErr, refl, sym, ap, subst, ◌∙◌, Judged, file_answer, Checked, CheckError, Known, Read, ReadsOn, ReadsWhole, Pass, Passes, subject_of, ConflictFree, Parts, task_of, Spells, ExitsWith, Exit, GivesNoTask, PassesRead, ReadsOnce, ReadsProof, ReadsTask, VerifiesRead, answer_status, proof_limit, SaysChecked, Reply}
 use Rattle.sm_check.specs.FilesRead.{AnswersRead}
 use Rattle.sm_check.specs.declared.verifying.CheckError.TheVariants as check
 use Rattle.sm_check.specs.declared.verifying.Checked.TheVariants as checked
-use Rattle.sm_io.specs.Files.{Known}
-use Rattle.sm_io.specs.Reads.{Read, ReadsOn, ReadsWhole}
-use Rattle.sm_proof.specs.Verdicts.{Pass, Passes, subject_of}
-use Rattle.sm_syntax.specs.claim.ConflictFree.{ConflictFree}
-use Rattle.sm_syntax.specs.text.Parts.{Parts, task_of}
-use Rattle.sm_syntax.specs.text.Spells.{Spells}
 use Rattle.sm_text.proofs.Complete.Tasks as text
-use Rattle.sm_answers.specs.Exit.{ExitsWith, Exit}
-use Rattle.sm_answers.specs.File.{GivesNoTask, Status, Accepted}
-use Rattle.sm_answers.specs.Readings.{PassesRead, ReadsOnce, ReadsProof, ReadsTask, VerifiesRead}
-use Rattle.sm_answers.specs.Verify.{answer_status, proof_limit}
-use Rattle.sm_answers.specs.Views.{SaysChecked}
-use Rattle.sm_answers.specs.declared.status.Reply.{Reply}
+use Rattle.sm_answers.specs.File.{Status, Accepted}
 use Rattle.sm_answers.proofs.Answering.{result_by, stops_by}
 use Rattle.sm_answers.proofs.Statuses.{without_task}
 use Rattle.sm_answers.proofs.ReadsUnique.{HasPasses, same_passes, unended, ended_first, ended_alone}

@@ -1,8 +1,6 @@
 -- Reads come in passes in one way: a pass that went to its end did so by the first read that gave nothing.
-use Rattle.std.proofs.Common.{◌≡◌, ◌<◌, ◌+◌, ◌++◌, ℕ, List, [], ◌∷◌, length, All, refl, sym, ap, ◌∙◌, append_assoc, append-nil, arith}
-use Rattle.std.proofs.lemmas.List.{append_cancel_left}
+use Rattle.sm_answers.proofs.Imports.{◌≡◌, ◌<◌, ◌+◌, ◌++◌, ℕ, List, [], ◌∷◌, length, All, refl, sym, ap, ◌∙◌, append_assoc, append-nil, arith, append_cancel_left, Read, reads_on, joined, ReadsOn, ReadsWhole}
 use Rattle.std.proofs.lemmas.List.Elements.{All-head, All-tail}
-use Rattle.sm_io.specs.Reads.{Read, reads_on, joined, ReadsOn, ReadsWhole}
 
 -- the bytes of each pass that went to its end, where a pass that isn't at its end yet gave these before
 abbrev pub passes_of : List ℕ → List Read → List (List ℕ)

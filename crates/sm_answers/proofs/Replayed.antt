@@ -1,22 +1,12 @@
 -- What the answers of `replay` say: of a task's file and an input's, of the bytes that were read, and of violations.
-use Rattle.std.proofs.Common.{◌≡◌, ◌≢◌, inl, inr, ℕ, List, Result, Ok, Err, IfOk, IfErr, sym, ◌∙◌}
-use Rattle.sm_eval.specs.StoredValues.{meaning}
+use Rattle.sm_answers.proofs.Imports.{◌≡◌, ◌≢◌, inl, inr, ℕ, List, Result, Ok, Err, IfOk, IfErr, sym, ◌∙◌, meaning, Known, Read, ReplayError, Store, Parts, task_of, ExitsWith, Exit, GivesNoTask, GivesTask, Conflict, ReadsInput, ReadsTask, ReplaysRead, RunsRead, verdict_status, AnswersReplay, GivesNoInput, Replays, ReplaysInput, Reply}
 use Rattle.sm_eval.specs.declared.store.Store as code
-use Rattle.sm_io.specs.Files.{Known}
-use Rattle.sm_io.specs.Reads.{Read}
 use Rattle.sm_replay.specs.Verdicts.{cell_of, Judges}
-use Rattle.sm_replay.specs.declared.error.ReplayError.{ReplayError}
 use Rattle.sm_replay.specs.Violations.{Violates}
 use Rattle.sm_replay.specs.declared.verdict.Verdict.{Verdict}
 use Rattle.sm_replay.specs.declared.verdict.Verdict.TheVariants as verdict
 use Rattle.sm_replay.proofs.VerdictSound.{breaks_violates}
-use Rattle.sm_syntax.specs.claim.Stores.{Store}
-use Rattle.sm_syntax.specs.text.Parts.{Parts, task_of}
-use Rattle.sm_answers.specs.Exit.{ExitsWith, Exit}
-use Rattle.sm_answers.specs.File.{GivesNoTask, GivesTask, Status, Conflict}
-use Rattle.sm_answers.specs.Readings.{ReadsInput, ReadsTask, ReplaysRead, RunsRead}
-use Rattle.sm_answers.specs.Replay.{verdict_status, AnswersReplay, GivesNoInput, Replays, ReplaysInput}
-use Rattle.sm_answers.specs.declared.status.Reply.{Reply}
+use Rattle.sm_answers.specs.File.{Status}
 use Rattle.sm_answers.proofs.Answering.{result_by, stops_by}
 use Rattle.sm_answers.proofs.Statuses.{without_task}
 

@@ -1,17 +1,9 @@
 -- Which statuses the answers have that need no search.
-use Rattle.std.proofs.Common.{◌≡◌, ◌≢◌, inl, inr, ℕ, List, Result, Ok, Err, sym, ap, subst, ◌∙◌}
-use Rattle.sm_check.specs.Files.{FileAnswer, Judged, OverLong}
-use Rattle.sm_io.specs.Files.{Known}
+use Rattle.sm_answers.proofs.Imports.{◌≡◌, ◌≢◌, inl, inr, ℕ, List, Result, Ok, Err, sym, ap, subst, ◌∙◌, FileAnswer, Judged, OverLong, Known, Word, ReplayError, Parts, Verifies, answer_line, answer_status, rejected_line, AnswersProof, GivesNoTask, Conflict, Unknown, Usage, Memory, SinkFault, WriteFault, verdict_status, GivesNoInput, Replays, ReplaysInput, Says}
 use Rattle.sm_proof.specs.Verdicts as proof
-use Rattle.sm_proof.specs.declared.word.Word.{Word}
-use Rattle.sm_replay.specs.declared.error.ReplayError.{ReplayError}
 use Rattle.sm_replay.specs.declared.verdict.Verdict.{Verdict}
 use Rattle.sm_replay.specs.declared.verdict.Verdict.TheVariants as verdict
-use Rattle.sm_syntax.specs.text.Parts.{Parts}
-use Rattle.sm_answers.specs.Verify.{Verifies, answer_line, answer_status, rejected_line, AnswersProof}
-use Rattle.sm_answers.specs.File.{GivesNoTask, Status, Accepted, Conflict, Unknown, Refused, Usage, ReadFault, Memory, SinkFault, WriteFault}
-use Rattle.sm_answers.specs.Replay.{verdict_status, GivesNoInput, Replays, ReplaysInput}
-use Rattle.sm_answers.specs.Status.{Says}
+use Rattle.sm_answers.specs.File.{Status, Accepted, Refused, ReadFault}
 
 -- a command answers with none of these
 pub record IsOfCommand (status : Status) : Type 0 where

@@ -1,21 +1,10 @@
 -- The verdict on a proof file that passes, and the answer that it is.
-use Rattle.std.proofs.Common.{◌≡◌, ◌≢◌, ◌≤◌, ◌⊎◌, inl, inr, ℕ, Bool, true, false, if◌then◌else◌, List, length, Result, Ok, Err, refl, sym, ap, ◌∙◌}
+use Rattle.sm_answers.proofs.Imports.{◌≡◌, ◌≢◌, ◌≤◌, ◌⊎◌, inl, inr, ℕ, Bool, true, false, if◌then◌else◌, List, length, Result, Ok, Err, refl, sym, ap, ◌∙◌, leb-true, le-leb, Judged, OverLong, TellsAnswer, cut_answer, file_answer, verdict_of, Checked, CheckError, Rose, Known, absent, holds, WhereHeld, Pass, Rejected, Reached, Before, Unopened, reached, lines_in, verdict, subject_of, Passes, Word, ConflictFree, Parts, task_of, answer_status, proof_limit, AnswersProof, SaysChecked}
 use Rattle.std.specs.Prelude.{nat_le, take}
-use Rattle.std.proofs.lemmas.Bool.{leb-true, le-leb}
-use Rattle.sm_check.specs.Files.{Judged, OverLong, TellsAnswer, cut_answer, file_answer, verdict_of}
-use Rattle.sm_check.specs.declared.verifying.Checked.{Checked}
-use Rattle.sm_check.specs.declared.verifying.CheckError.{CheckError}
 use Rattle.sm_check.specs.declared.verifying.CheckError.TheVariants as check
 use Rattle.sm_check.specs.declared.verifying.Checked.TheVariants as checked
 use Rattle.sm_check.specs.ReadFaults.{HasFaultCause, NamesBadLine}
-use Rattle.sm_io.specs.Causes.{Rose}
-use Rattle.sm_io.specs.Files.{Known, absent, holds, WhereHeld}
-use Rattle.sm_proof.specs.Verdicts.{Verdict, Pass, Rejected, Reached, Refused, Before, Unopened, reached, lines_in, verdict, subject_of, Passes}
-use Rattle.sm_proof.specs.declared.word.Word.{Word}
-use Rattle.sm_syntax.specs.claim.ConflictFree.{ConflictFree}
-use Rattle.sm_syntax.specs.text.Parts.{Parts, task_of}
-use Rattle.sm_answers.specs.Verify.{answer_status, proof_limit, AnswersProof}
-use Rattle.sm_answers.specs.Views.{SaysChecked}
+use Rattle.sm_proof.specs.Verdicts.{Verdict, Refused}
 use Rattle.sm_answers.specs.declared.status.Status.{Status}
 use Rattle.sm_answers.specs.declared.status.Status.TheVariants.{Accepted, ReadFault}
 use Rattle.sm_answers.proofs.Answering.{accepted_passes, fault_not_accepted}

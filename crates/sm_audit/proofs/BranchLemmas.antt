@@ -1,26 +1,11 @@
 -- The branches of goals, and certificates for goals one after the other.
-use Rattle.std.proofs.Common.{◌≡◌, ◌<◌, ◌+◌, ℕ, zero, suc, List, [], ◌∷◌, ◌++◌, drop, get_or, length, map, take, sym, ap, ◌∙◌, subst, arith}
-use Rattle.std.proofs.lemmas.List.{drop_more, map-append, take_more}
-use Rattle.sm_syntax.specs.text.Sorts.{Sorts}
-use Rattle.sm_term.specs.Assertions.{Assertion, negate}
-use Rattle.sm_term.specs.Formulas.{NumberedFormula, numbered, assertion_in, contrary, IsFormulaWithin}
-use Rattle.sm_term.specs.declared.formula.Formula.{Formula}
-use Rattle.sm_term.specs.Terms.{Tree}
+use Rattle.sm_audit.proofs.Imports.{◌≡◌, ◌<◌, ◌+◌, ℕ, zero, suc, List, [], ◌∷◌, ◌++◌, drop, get_or, length, map, take, sym, ap, ◌∙◌, subst, arith, drop_more, map-append, take_more, Sorts, Assertion, negate, NumberedFormula, numbered, assertion_in, contrary, IsFormulaWithin, Formula, Tree, BranchFact, Formal, as_facts, AllStand, FactStands, CertTree, AreFormsReady, IsFormReady, State, forms_in, due_in, dues_in, AreDuesReady, Goal, all_goals, denied, goals_of, AreGoalsFit, IsGoalFit}
 use Rattle.sm_term.proofs.FormsLemmas.{contrary_within}
 use Rattle.sm_term.proofs.FormulasLemmas.{contrary_negates}
-use Rattle.sm_theory.specs.Facts.{BranchFact, Formal, as_facts}
 use Rattle.sm_theory.specs.SortedFacts.{AreFactsSorted}
-use Rattle.sm_theory.specs.Views.{AllStand, FactStands}
 use Rattle.sm_theory.specs.declared.fact.Fact.{Fact}
 use Rattle.sm_theory.specs.declared.fact.Fact.TheVariants.{Form}
-use Rattle.sm_cert.specs.declared.tree.CertTree.{CertTree}
-use Rattle.sm_plan.specs.ReadyStates.{AreFormsReady, IsFormReady}
-use Rattle.sm_plan.specs.States.{State}
-use Rattle.sm_plan.specs.Views.{forms_in}
-use Rattle.sm_expand.specs.Views.{due_in, dues_in, AreDuesReady}
 use Rattle.sm_expand.specs.declared.due.Due.{Due}
-use Rattle.sm_write.specs.Writable.{Goal, all_goals, denied, goals_of}
-use Rattle.sm_audit.specs.Fit.{AreGoalsFit, IsGoalFit}
 use Rattle.sm_term.proofs.SortedForms.{negate_sorted}
 
 module _ (sorts : Sorts) (trees : List Tree) where

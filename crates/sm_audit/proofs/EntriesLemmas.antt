@@ -1,8 +1,6 @@
 -- Lists of entries.
-use Rattle.std.proofs.Common.{◌≡◌, ◌⊎◌, inl, inr, ◌<◌, ℕ, zero, suc, Option, Some, None, List, [], ◌∷◌, length, get_or, refl, sym, ap, ◌∙◌, arith}
+use Rattle.sm_audit.proofs.Imports.{◌≡◌, ◌⊎◌, inl, inr, ◌<◌, ℕ, zero, suc, Option, Some, None, List, [], ◌∷◌, length, get_or, refl, sym, ap, ◌∙◌, arith, same_Some, entry_of, IsPut}
 use Rattle.std.proofs.Math.ListN.{replicate, set}
-use Rattle.std.proofs.lemmas.Option.{same_Some}
-use Rattle.sm_audit.specs.Since.{entry_of, IsPut}
 
 -- as many as are wanted, which tell nothing
 pub none_told : (count n : ℕ) → entry_of (replicate count None) n ≡ None

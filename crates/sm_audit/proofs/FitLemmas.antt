@@ -1,24 +1,8 @@
 -- Certificates that fit their goals.
-use Rattle.std.proofs.Common.{◌≡◌, ℕ, Option, List, [], ◌∷◌, ◌++◌, length, map, sym, subst}
-use Rattle.std.specs.Prelude.{Box}
-use Rattle.std.specs.declared.alloc.Global.{Global}
-use Rattle.sm_syntax.specs.text.Sorts.{Sorts}
-use Rattle.sm_term.specs.Terms.{Tree}
-use Rattle.sm_theory.specs.Views.{line_in}
-use Rattle.sm_theory.specs.declared.line.CertLine.{CertLine}
-use Rattle.sm_cert.specs.Certificates.{Certificate, Closed, Split}
+use Rattle.sm_audit.proofs.Imports.{◌≡◌, ℕ, Option, List, [], ◌∷◌, ◌++◌, length, map, sym, subst, Box, Global, Sorts, Tree, line_in, CertLine, Certificate, Closed, Split, EachTerm, certificate_in, lines_before, lines_of, CertTree, State, Nameable, Goal, AreShown, AreShort, IsShort, states_until, AreGoalsFit, IsTreeFit, AreLinesFit, IsLineFit, AreSince}
 use Rattle.sm_cert.specs.declared.tree.CertEnd.TheVariants as ends
-use Rattle.sm_cert.specs.NamedTerms.{EachTerm}
-use Rattle.sm_cert.specs.Views.{certificate_in, lines_before, lines_of}
-use Rattle.sm_cert.specs.declared.tree.CertTree.{CertTree}
 use Rattle.sm_cert.proofs.CheckLemmas.{tree_closed, tree_split, lines_closed, lines_split}
-use Rattle.sm_plan.specs.States.{State}
-use Rattle.sm_write.specs.Nameable.{Nameable}
 use Rattle.sm_write.specs.TreesWithin.{AreTreesWithin}
-use Rattle.sm_write.specs.Writable.{Goal, AreShown, AreShort, IsShort, states_until}
-use Rattle.sm_audit.specs.Fit.{AreGoalsFit, IsTreeFit}
-use Rattle.sm_audit.specs.Known.{AreLinesFit, IsLineFit}
-use Rattle.sm_audit.specs.Since.{AreSince}
 use Rattle.sm_audit.proofs.KnownLemmas.{both_fit, lines_short, lines_named, line_named}
 
 -- a certificate that a line closes

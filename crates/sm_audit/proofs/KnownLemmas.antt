@@ -1,28 +1,10 @@
 -- Formulas, nodes and lines of which each term is known compare and name what can be named.
-use Rattle.std.proofs.Common.{◌≡◌, ◌<◌, ◌≤◌, ◌+◌, ℕ, zero, suc, nat_le, Bool, true, false, if◌then◌else◌, Option, Some, None, List, [], ◌∷◌, ◌++◌, length, drop, map, get_or, sym, subst, arith}
-use Rattle.std.proofs.lemmas.List.{drop_more}
-use Rattle.sm_syntax.specs.text.Sorts.{Sorts}
-use Rattle.sm_term.specs.Assertions.{Assertion}
-use Rattle.sm_term.specs.Formulas.{NumberedFormula, Yes, No, Eq, Ne, Le, Lt, And, Or, numbered, assertion_in}
-use Rattle.sm_term.specs.Tables.{tree_at}
-use Rattle.sm_term.specs.Terms.{Tree}
+use Rattle.sm_audit.proofs.Imports.{◌≡◌, ◌<◌, ◌≤◌, ◌+◌, ℕ, zero, suc, nat_le, Bool, true, false, if◌then◌else◌, Option, Some, None, List, [], ◌∷◌, ◌++◌, length, drop, map, get_or, sym, subst, arith, drop_more, Sorts, Assertion, NumberedFormula, Yes, No, Eq, Ne, Le, Lt, And, Or, numbered, assertion_in, tree_at, Tree, line_in, IsLineWithin, numbered_line, CertLine, Certificate, EachTerm, lines_before, AreLinesWithin, State, node_in, NodeRow, EachSide, Nameable, AreKeptNameable, EachKept, IsShort, states_until, IsFormKnown, IsRowKnown, AreRowsKnown, IsLineKnown, IsLineFit, AreLinesFit, entry_of, AreSince, IsKnownBy}
 use Rattle.sm_theory.specs.Named.{EachNamed}
-use Rattle.sm_theory.specs.Views.{line_in, IsLineWithin, numbered_line}
-use Rattle.sm_theory.specs.declared.line.CertLine.{CertLine}
 use Rattle.sm_theory.proofs.LinesOver.{each_with, each_more}
-use Rattle.sm_cert.specs.Certificates.{Certificate}
-use Rattle.sm_cert.specs.NamedTerms.{EachTerm}
-use Rattle.sm_cert.specs.Views.{lines_before, AreLinesWithin}
 use Rattle.sm_plan.specs.declared.node.NodeRow.TheVariants as row
 use Rattle.sm_plan.specs.Masks.{set_of}
 use Rattle.sm_plan.specs.Nodes as plan
-use Rattle.sm_plan.specs.States.{State}
-use Rattle.sm_plan.specs.Views.{node_in}
-use Rattle.sm_plan.specs.declared.node.NodeRow.{NodeRow}
-use Rattle.sm_write.specs.Nameable.{EachSide, Nameable}
-use Rattle.sm_write.specs.Writable.{AreKeptNameable, EachKept, IsShort, states_until}
-use Rattle.sm_audit.specs.Known.{IsFormKnown, IsRowKnown, AreRowsKnown, IsLineKnown, IsLineFit, AreLinesFit}
-use Rattle.sm_audit.specs.Since.{entry_of, AreSince, IsKnownBy}
 use Rattle.sm_audit.proofs.SinceLemmas.{known_named}
 
 -- a term with an entry is among the entries

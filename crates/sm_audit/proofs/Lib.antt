@@ -1,3 +1,4 @@
+mod Imports
 pub mod SinceLemmas
 pub mod EntriesLemmas
 pub mod KnownLemmas

@@ -1,21 +1,8 @@
 -- The nodes of a plan are those that were met, and those of what waits.
-use Rattle.std.proofs.Common.{◌≡◌, ℕ, List, [], ◌∷◌, ◌++◌, length, map, sym, refl, ap, ◌∙◌, arith, append_assoc, append-nil}
-use Rattle.std.proofs.lemmas.List.{map-append}
-use Rattle.sm_syntax.specs.text.Sorts.{Sorts}
-use Rattle.sm_term.specs.Terms.{Tree}
-use Rattle.sm_plan.specs.declared.opening.Successor.{Successor}
-use Rattle.sm_plan.specs.Nodes.{Node}
+use Rattle.sm_audit.proofs.Imports.{◌≡◌, ℕ, List, [], ◌∷◌, ◌++◌, length, map, sym, refl, ap, ◌∙◌, arith, append_assoc, append-nil, map-append, Sorts, Tree, Successor, Node, all_nodes, nodes_of, node_in, NodeRow, numbered_at, Cursor, NumberedPlans, below, head, list_of, node_over, plan_over, plans_over, nodes_left, nodes_with, placed_with, PlacedState}
 use Rattle.sm_plan.specs.Plans as plain
-use Rattle.sm_plan.specs.Plans.{all_nodes, nodes_of}
-use Rattle.sm_plan.specs.Views.{node_in}
-use Rattle.sm_plan.specs.declared.node.NodeRow.{NodeRow}
-use Rattle.sm_expand.specs.Cursors.{numbered_at}
-use Rattle.sm_expand.specs.declared.cursor.Cursor.{Cursor}
-use Rattle.sm_expand.specs.NumberedPlans.{NumberedPlans, Over, More, below, head, list_of, node_over, plan_over, plans_over}
+use Rattle.sm_expand.specs.NumberedPlans.{Over, More}
 use Rattle.sm_expand.proofs.PairsLemmas.{plan_is}
-use Rattle.sm_audit.specs.Walks.{nodes_left, nodes_with}
-use Rattle.sm_expand.specs.PlacedStates.{placed_with}
-use Rattle.sm_expand.specs.declared.placed.PlacedState.{PlacedState}
 
 module _ (sorts : Sorts) (trees : List Tree) where
   left_append : (xs ys : List PlacedState) → nodes_left sorts trees (xs ++ ys) ≡ nodes_left sorts trees xs ++ nodes_left sorts trees ys

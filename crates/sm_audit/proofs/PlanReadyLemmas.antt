@@ -1,22 +1,10 @@
 -- Plans whose kept formulas are ready, by how they end.
-use Rattle.std.proofs.Common.{◌≡◌, ℕ, ◌+◌, ◌<◌, List, [], ◌∷◌, map, drop, length, get_or, refl, sym, ap, ◌∙◌, subst}
-use Rattle.std.proofs.lemmas.List.{drop_more}
-use Rattle.std.specs.Prelude.{Box}
-use Rattle.std.specs.declared.alloc.Global.{Global}
-use Rattle.sm_syntax.specs.text.Sorts.{Sorts}
+use Rattle.sm_audit.proofs.Imports.{◌≡◌, ℕ, ◌+◌, ◌<◌, List, [], ◌∷◌, map, drop, length, get_or, refl, sym, ap, ◌∙◌, subst, drop_more, Box, Global, Sorts, numbered, assertion_in, IsFormulaWithin, Formula, IsFormSorted, tree_sort, AreTreesSorted, tree_at, TermId, Tree, NumberedPlan, IsKeepReady, IsPlanReady, ArePlansReady, plans_before, simple_node, straight_before, numbered_plan, numbered_last}
 use Rattle.sm_syntax.specs.declared.tree.Sort.TheVariants.{Num}
 use Rattle.sm_term.specs.declared.formula.Formula.TheVariants as form
-use Rattle.sm_term.specs.Formulas.{numbered, assertion_in, IsFormulaWithin}
-use Rattle.sm_term.specs.declared.formula.Formula.{Formula}
-use Rattle.sm_term.specs.Sorted.{IsFormSorted, tree_sort}
-use Rattle.sm_term.specs.TableLaws.{AreTreesSorted}
-use Rattle.sm_term.specs.Tables.{tree_at}
-use Rattle.sm_term.specs.declared.term.TermId.{TermId}
-use Rattle.sm_term.specs.Terms.{Tree}
 use Rattle.sm_expand.specs.declared.plan.Last.TheVariants as last
 use Rattle.sm_expand.specs.declared.plan.Simple.TheVariants as simple
-use Rattle.sm_expand.specs.NumberedPlans.{NumberedPlan, At, Over, More, IsKeepReady, IsPlanReady, ArePlansReady, plans_before}
-use Rattle.sm_expand.specs.Views.{simple_node, straight_before, numbered_plan, numbered_last}
+use Rattle.sm_expand.specs.NumberedPlans.{At, Over, More}
 use Rattle.sm_expand.specs.declared.plan.Plan.{Plan}
 use Rattle.sm_expand.specs.declared.plan.Simple.{Simple}
 use Rattle.sm_expand.specs.declared.plan.Plans.{Plans, out-Plans}

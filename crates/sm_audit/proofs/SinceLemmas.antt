@@ -1,26 +1,13 @@
 -- What can be named from a node on can be named from each later one, and so can what is made of it.
-use Rattle.std.proofs.Common.{◌≡◌, ◌⊎◌, inl, inr, ◌<◌, ◌≤◌, ℕ, zero, suc, Bool, Option, Some, None, is_some, true, false, List, [], ◌∷◌, length, take, slice_get, get_or, refl, sym, ap, subst, ◌∙◌, arith}
-use Rattle.std.proofs.lemmas.Option.{same_Some}
-use Rattle.sm_syntax.specs.claim.ConflictFree.{Copy, copy_of}
+use Rattle.sm_audit.proofs.Imports.{◌≡◌, ◌⊎◌, inl, inr, ◌<◌, ◌≤◌, ℕ, zero, suc, Bool, Option, Some, None, is_some, true, false, List, [], ◌∷◌, length, take, slice_get, get_or, refl, sym, ap, subst, ◌∙◌, arith, same_Some, Copy, copy_of, Sorts, IsDeclaredIn, IsSorted, IsStoreSorted, AreTreesSorted, tree_at, tree_in, TermId, Tree, Start, IsStoreReady, State, EachInState, EachInStates, IsClosed, Nameable, PassesTest, states_until, entry_of, IsNamedFrom, AreNamedFrom, AreSince, IsKnownBy, IsPut, IsMadeOf}
 use Rattle.sm_syntax.specs.claim.Syntax.{Code}
-use Rattle.sm_syntax.specs.text.Sorts.{Sorts}
 use Rattle.sm_syntax.specs.declared.tree.Sort.{Sort}
 use Rattle.sm_term.specs.declared.term.Term.TheVariants as row
-use Rattle.sm_term.specs.Sorted.{IsDeclaredIn, IsSorted, IsStoreSorted}
 use Rattle.sm_term.specs.Symbolic.{SymbolicStore}
 use Rattle.sm_term.specs.SymStores.{store_in, tree_or_start}
 use Rattle.sm_term.specs.declared.symbolic.SymStore.{SymStore}
-use Rattle.sm_term.specs.TableLaws.{AreTreesSorted}
-use Rattle.sm_term.specs.Tables.{tree_at, tree_in}
-use Rattle.sm_term.specs.declared.term.TermId.{TermId}
 use Rattle.sm_term.specs.declared.term.Term.{Term}
-use Rattle.sm_term.specs.Terms.{Tree, Start}
 use Rattle.sm_term.proofs.TermsLemmas.{part_before}
-use Rattle.sm_plan.specs.ReadyStates.{IsStoreReady}
-use Rattle.sm_plan.specs.States.{State}
-use Rattle.sm_write.specs.Nameable.{EachInState, EachInStates, IsClosed, Nameable, PassesTest}
-use Rattle.sm_write.specs.Writable.{states_until}
-use Rattle.sm_audit.specs.Since.{entry_of, IsNamedFrom, AreNamedFrom, AreSince, IsKnownBy, IsPut, IsMadeOf}
 
 module _ (sorts : Sorts) where
   -- the first of some first states

@@ -1,15 +1,11 @@
 -- A task by its parts: what a plan asks of it, and where its proof starts.
-use Rattle.std.proofs.Common.{◌≡◌, Bor, Option, option_map, refl, sym, ap}
+use Rattle.sm_audit.proofs.Imports.{◌≡◌, Bor, Option, option_map, refl, sym, ap, Copy, sorted_outputs, task_of, of_copy, parts_of}
 use Rattle.std.specs.Option.{option_copied}
-use Rattle.sm_syntax.specs.claim.ConflictFree.{Copy}
-use Rattle.sm_syntax.specs.text.Parts.{sorted_outputs, task_of}
-use Rattle.sm_syntax.specs.trees.Copies.{of_copy}
 use Rattle.sm_syntax.specs.declared.copies.PerCopy.{PerCopy}
 use Rattle.sm_syntax.specs.trees.Views.{condition_of, code_of}
 use Rattle.sm_syntax.specs.declared.tree.Block.{Block}
 use Rattle.sm_syntax.specs.declared.tree.Cond.{Cond}
 use Rattle.sm_task.specs.Filling.{AreFilled}
-use Rattle.sm_text.specs.Tasks.{parts_of}
 use Rattle.sm_text.specs.declared.task.Task.{Task}
 use Rattle.sm_expand.specs.Tasks.{HasParts}
 use Rattle.sm_syntax.proofs.Assumed.{assumed_same}

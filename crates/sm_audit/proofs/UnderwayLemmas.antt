@@ -1,33 +1,11 @@
 -- A plan is underway before its first node, after each node, and has told all where nothing waits.
-use Rattle.std.proofs.Common.{◌≡◌, ℕ, zero, suc, ◌+◌, Option, Some, List, [], ◌∷◌, ◌++◌, drop, length, map, slice_get, refl, sym, ap, ◌∙◌, subst, arith, append_assoc, append-nil}
-use Rattle.std.specs.Prelude.{Vec}
-use Rattle.std.specs.declared.alloc.Global.{Global}
-use Rattle.std.proofs.lemmas.List.{length-map}
-use Rattle.sm_syntax.specs.claim.ConflictFree.{Copy}
-use Rattle.sm_syntax.specs.trees.Copies.{of_copy}
-use Rattle.sm_term.specs.Assertions.{Assertion}
-use Rattle.sm_term.specs.TableLaws.{AreTreesSorted, ExtendsTable}
-use Rattle.sm_term.specs.Tables.{TableValue, trees_in, sorts_in}
+use Rattle.sm_audit.proofs.Imports.{◌≡◌, ℕ, zero, suc, ◌+◌, Option, Some, List, [], ◌∷◌, ◌++◌, drop, length, map, slice_get, refl, sym, ap, ◌∙◌, subst, arith, append_assoc, append-nil, Vec, Global, length-map, Copy, of_copy, Assertion, AreTreesSorted, ExtendsTable, TableValue, trees_in, sorts_in, Node, opened_by, count, size, sizes, State, opened_in, state_in, successor_in, Opened, numbered_at, Cursor, NumberedPlan, below, head, list_of, node_over, plan_over, plans_over, plans_stay, plan_states, plans_states, states_opened, AreNamedFrom, AreSince, AllStandFor, IsUnderway, StandsFor, Waits, each_waits, states_left, ArePlacedReady, placed_with, PlacedState, plans_of}
 use Rattle.sm_plan.specs.Nodes as plain
-use Rattle.sm_plan.specs.Nodes.{Node, opened_by}
 use Rattle.sm_plan.specs.Plans as tree
-use Rattle.sm_plan.specs.Plans.{At, Over, More, Plans, count, size, sizes}
-use Rattle.sm_plan.specs.States.{State}
-use Rattle.sm_plan.specs.Views.{opened_in, state_in, successor_in}
-use Rattle.sm_plan.specs.declared.opening.Opened.{Opened}
-use Rattle.sm_expand.specs.Cursors.{numbered_at}
-use Rattle.sm_expand.specs.declared.cursor.Cursor.{Cursor}
-use Rattle.sm_expand.specs.NumberedPlans.{NumberedPlan, below, head, list_of, node_over, plan_over, plans_over}
+use Rattle.sm_plan.specs.Plans.{At, Over, More, Plans}
 use Rattle.sm_expand.specs.Opens.{OpensAs}
 use Rattle.sm_expand.proofs.PairsLemmas.{counted, plan_is}
-use Rattle.sm_expand.proofs.PlansWiden.{plans_stay}
-use Rattle.sm_write.specs.PlanStates.{plan_states, plans_states, states_opened}
-use Rattle.sm_audit.specs.Since.{AreNamedFrom, AreSince}
-use Rattle.sm_audit.specs.Walks.{AllStandFor, IsUnderway, StandsFor, Waits, each_waits, states_left}
-use Rattle.sm_expand.specs.PlacedStates.{ArePlacedReady, placed_with}
-use Rattle.sm_expand.specs.declared.placed.PlacedState.{PlacedState}
 use Rattle.sm_audit.proofs.OpenedLemmas.{opened_stand}
-use Rattle.sm_expand.proofs.PlacedLemmas.{plans_of}
 use Rattle.sm_audit.proofs.SinceLemmas.{store_named}
 use Rattle.sm_audit.proofs.WaitsStay.{all_stay, since_stays}
 

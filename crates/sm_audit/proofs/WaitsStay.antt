@@ -1,18 +1,5 @@
 -- What is known of terms, and what waits, stays while a table widens.
-use Rattle.std.proofs.Common.{◌≡◌, ℕ, ◌<◌, Option, Some, List, [], ◌∷◌, length, sym, subst, ◌∙◌, arith}
-use Rattle.sm_syntax.specs.text.Sorts.{Sorts}
-use Rattle.sm_term.specs.Tables.{TableValue, trees_in, sorts_in, tree_at}
-use Rattle.sm_term.specs.TableLaws.{ExtendsTable}
-use Rattle.sm_plan.specs.States.{State}
-use Rattle.sm_plan.proofs.TablesWiden.{longer, tree_stays, state_stays, state_ready}
-use Rattle.sm_expand.specs.Cursors.{numbered_at}
-use Rattle.sm_expand.proofs.PlansWiden.{plan_stays, plan_ready}
-use Rattle.sm_write.specs.Nameable.{Nameable}
-use Rattle.sm_write.specs.Writable.{states_until}
-use Rattle.sm_audit.specs.Since.{entry_of, IsNamedFrom, AreSince}
-use Rattle.sm_audit.specs.Walks.{Waits, StandsFor, AllStandFor}
-use Rattle.sm_expand.specs.PlacedStates.{IsPlacedReady, ArePlacedReady}
-use Rattle.sm_expand.specs.declared.placed.PlacedState.{PlacedState}
+use Rattle.sm_audit.proofs.Imports.{◌≡◌, ℕ, ◌<◌, Option, Some, List, [], ◌∷◌, length, sym, subst, ◌∙◌, arith, Sorts, TableValue, trees_in, sorts_in, tree_at, ExtendsTable, State, longer, tree_stays, state_stays, state_ready, numbered_at, plan_stays, plan_ready, Nameable, states_until, entry_of, IsNamedFrom, AreSince, Waits, StandsFor, AllStandFor, IsPlacedReady, ArePlacedReady, PlacedState}
 
 module _ (v w : TableValue) (wider : ExtendsTable v w) where
   -- entries

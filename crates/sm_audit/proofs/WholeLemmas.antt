@@ -1,21 +1,7 @@
 -- What was found of a plan and its certificates makes it writable.
-use Rattle.std.proofs.Common.{◌≡◌, ℕ, Option, Result, Ok, Err, List, map, subst}
+use Rattle.sm_audit.proofs.Imports.{◌≡◌, ℕ, Option, Result, Ok, Err, List, map, subst, Parts, sort_of, task_of, Sorts, Tree, certificate_in, CertTree, Node, nodes_of, obligations, State, start_state, node_in, NodeRow, plan_states, AreKeptNameable, AreShown, IsWritable, all_goals, AreGoalsFit, AreRowsKnown, AreSince}
 use Rattle.std.specs.Result.{OnOk}
-use Rattle.sm_syntax.specs.text.Parts.{Parts, sort_of, task_of}
-use Rattle.sm_syntax.specs.text.Sorts.{Sorts}
-use Rattle.sm_term.specs.Terms.{Tree}
-use Rattle.sm_cert.specs.Views.{certificate_in}
-use Rattle.sm_cert.specs.declared.tree.CertTree.{CertTree}
-use Rattle.sm_plan.specs.Nodes.{Node}
-use Rattle.sm_plan.specs.Plans.{Due, Plan, nodes_of, obligations}
-use Rattle.sm_plan.specs.States.{State, start_state}
-use Rattle.sm_plan.specs.Views.{node_in}
-use Rattle.sm_plan.specs.declared.node.NodeRow.{NodeRow}
-use Rattle.sm_write.specs.PlanStates.{plan_states}
-use Rattle.sm_write.specs.Writable.{AreKeptNameable, AreShown, IsWritable, all_goals}
-use Rattle.sm_audit.specs.Fit.{AreGoalsFit}
-use Rattle.sm_audit.specs.Known.{AreRowsKnown}
-use Rattle.sm_audit.specs.Since.{AreSince}
+use Rattle.sm_plan.specs.Plans.{Due, Plan}
 use Rattle.sm_audit.proofs.FitLemmas.{goals_shown, goals_short}
 use Rattle.sm_audit.proofs.KnownLemmas.{rows_named}
 

@@ -1,16 +1,10 @@
 -- What is kept stays the accepting reply to the task of its key.
-use Rattle.std.proofs.Common.{◌≡◌, ℕ, Bool, true, ◌⊎◌, Some, List, Contains, sym, subst, ◌∙◌, inl, inr}
-use Rattle.std.specs.Map.{lookup, remove_entry}
-use Rattle.std.specs.Str.{bytes_eq}
+use Rattle.sm_batch.proofs.Imports.{◌≡◌, ℕ, Bool, true, ◌⊎◌, Some, List, Contains, sym, subst, ◌∙◌, inl, inr, lookup, remove_entry, bytes_eq, lru_cache, promoted, put_entries, Parts, HasText, Entry, Entries, IsAccepted, AreAccepted}
 use Rattle.std.proofs.lemmas.Slice.Eq.{bytes_eq-Decides}
-use Rattle.lru.specs.LruCache.{lru_cache, promoted, put_entries}
 use Rattle.lru.proofs.CallerLemmas.{Contains-promoted, Contains-remove_entry, Contains-put_entries, Contains-lookup}
-use Rattle.sm_syntax.specs.text.Parts.{Parts}
 use Rattle.sm_syntax.specs.text.Spells.{Spells}
 use Rattle.sm_text.proofs.Complete.Tasks.{one_parse}
 use Rattle.sm_text.proofs.RoundTrip.Tasks.{reads_back}
-use Rattle.sm_text.specs.printing.Named.{HasText}
-use Rattle.sm_batch.specs.Entries.{Entry, Entries, IsAccepted, AreAccepted}
 use Rattle.sm_batch.specs.Keys.{key_of, is_key_of}
 
 -- a task's key spells it

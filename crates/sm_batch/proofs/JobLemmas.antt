@@ -1,17 +1,10 @@
 -- What a closure answers to tasks by their numbers is answered to them in their order.
-use Rattle.std.proofs.Common.{◌≡◌, ◌<◌, ℕ, zero-add, Option, Some, None, Result, Ok, Err, IfOk, List, [], ◌∷◌, map, length, All, Bor, slice_get, slice_index_or, get_or, refl, sym, subst, ◌∙◌, Vec, Global, arith}
+use Rattle.sm_batch.proofs.Imports.{◌≡◌, ◌<◌, ℕ, zero-add, Option, Some, None, Result, Ok, Err, IfOk, List, [], ◌∷◌, map, length, All, Bor, slice_get, slice_index_or, get_or, refl, sym, subst, ◌∙◌, Vec, Global, arith, AllZip, option_map, length-map, All-head, All-tail, All-cons, All-nil, Task, Answered, MayAnswer}
 use Rattle.std.specs.Fn.{Shared}
-use Rattle.std.specs.List.{AllZip}
-use Rattle.std.specs.Option.{option_map}
 use Rattle.std.specs.declared.alloc.AllocError.{AllocError}
 use Rattle.std.proofs.lemmas.Fn.{says_at}
-use Rattle.std.proofs.lemmas.List.{length-map}
 use Rattle.std.proofs.lemmas.Option.{slice_get-map, slice_get_within, get_or_from_slice_get}
-use Rattle.std.proofs.lemmas.List.Elements.{All-head, All-tail, All-cons, All-nil}
 use Rattle.sm_par.specs.Results.{StandInOrder}
-use Rattle.sm_text.specs.declared.task.Task.{Task}
-use Rattle.sm_batch.specs.declared.worker.Answered.{Answered}
-use Rattle.sm_batch.specs.Answers.{MayAnswer}
 use Rattle.sm_batch.proofs.TellLemmas.{zip_of_places}
 
 -- what holds of each image holds of what it's the image of

@@ -1,3 +1,4 @@
+mod Imports
 pub mod MapLemmas
 pub mod EntryLemmas
 pub mod LookupLemmas

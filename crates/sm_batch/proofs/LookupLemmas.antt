@@ -1,14 +1,7 @@
 -- What a look-up finds in a cache.
-use Rattle.std.proofs.Common.{◌≡◌, ℕ, Bool, false, Option, Some, None, IsSome, List, refl, sym, ap, ◌∙◌, Vec, Global}
-use Rattle.std.specs.Option.{option_map, option_map_or}
-use Rattle.std.specs.Map.{lookup}
-use Rattle.std.specs.Str.{bytes_eq}
-use Rattle.sm_syntax.specs.text.Parts.{Parts}
-use Rattle.sm_batch.specs.declared.batch.Kept.{Kept}
-use Rattle.sm_batch.specs.Entries.{Entry}
+use Rattle.sm_batch.proofs.Imports.{◌≡◌, ℕ, Bool, false, Option, Some, None, IsSome, List, refl, sym, ap, ◌∙◌, Vec, Global, option_map, option_map_or, lookup, bytes_eq, Parts, Kept, Entry, key_of, entry_of, entries_of}
 use Rattle.sm_batch.specs.Groups.{is_hit}
-use Rattle.sm_batch.specs.Keys.{key_of, is_key_of}
-use Rattle.sm_batch.specs.Views.{entry_of, entries_of}
+use Rattle.sm_batch.specs.Keys.{is_key_of}
 use Rattle.sm_batch.proofs.MapLemmas.{lookup-images}
 
 module _ (cached : List (Vec ℕ Global × Kept)) (t : Parts) (key : List ℕ) (same : key ≡ key_of t) (o : Option Kept)

@@ -1,8 +1,5 @@
 -- What is done to the entries of a map is done to their images, where the keys' tests agree.
-use Rattle.std.proofs.Common.{◌≡◌, ℕ, zero, suc, Bool, true, false, cond, Option, Some, None, List, [], ◌∷◌, map, take, refl, sym, ap, ◌∙◌}
-use Rattle.std.specs.Option.{option_map, option_map_or}
-use Rattle.std.specs.Map.{lookup, lookup_entry, remove_entry}
-use Rattle.lru.specs.LruCache.{promoted}
+use Rattle.sm_batch.proofs.Imports.{◌≡◌, ℕ, zero, suc, Bool, true, false, cond, Option, Some, None, List, [], ◌∷◌, map, take, refl, sym, ap, ◌∙◌, option_map, option_map_or, lookup, lookup_entry, remove_entry, promoted}
 
 module _ {K V L X : Type 0} (f : K → L) (g : V → X) where
   -- the image of an entry

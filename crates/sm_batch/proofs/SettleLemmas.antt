@@ -1,22 +1,7 @@
 -- What the steps of a group do to what is kept is what the tasks ask.
-use Rattle.std.proofs.Common.{◌≡◌, ℕ, ◌+◌, Bool, true, false, not, if◌then◌else◌, Option, Some, None, IfSome, IsSome, List, [], ◌∷◌, map, All, refl, sym, ap, subst, ◌∙◌, inl, inr, cond}
-use Rattle.std.specs.List.{AllZip, count_by}
-use Rattle.std.specs.Map.{lookup, remove_entry}
-use Rattle.std.specs.Str.{bytes_eq}
-use Rattle.std.proofs.lemmas.List.Elements.{All-head, All-tail}
+use Rattle.sm_batch.proofs.Imports.{◌≡◌, ℕ, ◌+◌, Bool, true, false, not, if◌then◌else◌, Option, Some, None, IfSome, IsSome, List, [], ◌∷◌, map, All, refl, sym, ap, subst, ◌∙◌, inl, inr, cond, AllZip, count_by, lookup, remove_entry, bytes_eq, All-head, All-tail, promoted, Parts, HasText, parts_of, Task, Kept, Step, Entries, IsAccepted, AreAccepted, is_hit, wanted, looked_up, IsKept, IsLeftOut, ArePut, Settles, key_of, IsStep, after_look, after_looks, with_kept, IsPutOrNot, ArePutOrNot, AreSafe, entry_of}
 use Rattle.std.proofs.lemmas.List.Sums.{sum_by-cons}
-use Rattle.lru.specs.LruCache.{promoted}
-use Rattle.sm_syntax.specs.text.Parts.{Parts}
-use Rattle.sm_text.specs.printing.Named.{HasText}
-use Rattle.sm_text.specs.Tasks.{parts_of}
-use Rattle.sm_text.specs.declared.task.Task.{Task}
-use Rattle.sm_batch.specs.declared.batch.Kept.{Kept}
-use Rattle.sm_batch.specs.declared.telling.Step.{Step}
-use Rattle.sm_batch.specs.Entries.{Entries, IsAccepted, AreAccepted}
-use Rattle.sm_batch.specs.Groups.{is_hit, wanted, looked_up, IsKept, IsLeftOut, ArePut, Settles}
-use Rattle.sm_batch.specs.Keys.{key_of, is_key_of}
-use Rattle.sm_batch.specs.Steps.{IsStep, after_look, after_looks, with_kept, IsPutOrNot, ArePutOrNot, AreSafe}
-use Rattle.sm_batch.specs.Views.{entry_of}
+use Rattle.sm_batch.specs.Keys.{is_key_of}
 use Rattle.sm_batch.proofs.EntryLemmas.{one_key, accepted-promoted, accepted-remove_entry, accepted-put}
 
 module _ (Replies : Parts → List ℕ → Type 0) (Accepts : Parts → Type 0) (takes : Parts → List ℕ → Bool) (start : Entries) where

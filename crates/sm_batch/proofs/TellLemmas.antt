@@ -1,26 +1,6 @@
 -- What was looked up and what was answered give each task its reply.
-use Rattle.std.proofs.Common.{◌≡◌, ℕ, ◌+◌, ◌<◌, suc, Bool, true, false, if◌then◌else◌, Option, Some, None, IfSome, IsSome, is_some, MatchOption, List, [], ◌∷◌, ◌++◌, map, length, All, slice_get, slice_index_or, refl, sym, ap, subst, ◌∙◌}
-use Rattle.std.proofs.Common.{Vec, Global, arith, append_assoc, append-nil, get_or, drop}
-use Rattle.std.specs.List.{AllZip}
-use Rattle.std.specs.Option.{option_map_or}
-use Rattle.std.specs.Map.{lookup}
-use Rattle.std.proofs.lemmas.List.Elements.{All-head, All-tail, All-cons, All-nil}
-use Rattle.std.proofs.lemmas.List.{nil_from_length, drop_more}
-use Rattle.sm_syntax.specs.claim.ConflictFree.{ConflictFree}
-use Rattle.sm_syntax.specs.text.Parts.{Parts, task_of}
-use Rattle.sm_text.specs.printing.Named.{HasText}
-use Rattle.sm_text.specs.Tasks.{parts_of}
-use Rattle.sm_text.specs.declared.task.Task.{Task}
-use Rattle.sm_batch.specs.declared.batch.Kept.{Kept}
-use Rattle.sm_batch.specs.declared.looking.Looked.{Looked}
-use Rattle.sm_batch.specs.declared.telling.Step.{Step}
-use Rattle.sm_batch.specs.declared.worker.Answered.{Answered}
-use Rattle.sm_batch.specs.Answers.{IsAnswer}
-use Rattle.sm_batch.specs.Entries.{Entry, Entries, IsAccepted}
-use Rattle.sm_batch.specs.Groups.{is_hit, IsKept}
-use Rattle.sm_batch.specs.Keys.{key_of, is_key_of}
-use Rattle.sm_batch.specs.Steps.{IsLookedUp, IsReply, IsStep, IsKeptOf, IsStepOfHit, IsStepOfAnswer, IsTold, AreTold, missed, misses}
-use Rattle.sm_batch.specs.Views.{entry_of}
+use Rattle.sm_batch.proofs.Imports.{◌≡◌, ℕ, ◌+◌, ◌<◌, suc, Bool, true, false, if◌then◌else◌, Option, Some, None, IfSome, IsSome, is_some, MatchOption, List, [], ◌∷◌, ◌++◌, map, length, All, slice_get, slice_index_or, refl, sym, ap, subst, ◌∙◌, Vec, Global, arith, append_assoc, append-nil, get_or, drop, AllZip, option_map_or, lookup, All-head, All-tail, All-cons, All-nil, nil_from_length, drop_more, ConflictFree, Parts, task_of, HasText, parts_of, Task, Kept, Looked, Step, Answered, IsAnswer, Entry, Entries, IsAccepted, IsKept, key_of, is_key_of, IsLookedUp, IsReply, IsStep, IsKeptOf, IsStepOfHit, IsStepOfAnswer, IsTold, AreTold, missed, misses, entry_of}
+use Rattle.sm_batch.specs.Groups.{is_hit}
 
 -- each task that was no hit is one of the tasks
 pub missed_all : (P : Task → Type 0) (ts : List Task) (ls : List Looked) → All P ts → All P (missed ts ls)

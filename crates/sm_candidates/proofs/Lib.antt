@@ -1,1 +1,2 @@
+mod Imports
 pub mod WaitsLemmas

@@ -1,18 +1,10 @@
 -- What waits, over a table that widens, and with more behind it.
-use Rattle.std.proofs.Common.{◌≡◌, List, [], ◌∷◌, ◌++◌, map, drop, get_or, sym, ap, subst}
-use Rattle.sm_syntax.specs.text.Sorts.{Sorts}
-use Rattle.sm_term.specs.Tables.{TableValue, trees_in, sorts_in}
+use Rattle.sm_candidates.proofs.Imports.{◌≡◌, List, [], ◌∷◌, ◌++◌, map, drop, get_or, sym, ap, subst, Sorts, TableValue, trees_in, sorts_in, IsSuccessorReady, AreSuccessorsReady, NumberedPlan, NumberedPlans, Over, More, list_of, IsPlanReady, ArePlansReady, numbered_at, plan_ready, Waiting, IsPlaceReady, ArePlacesReady, IsWaitingReady, AreWaitingReady}
 use Rattle.sm_term.specs.TableLaws.{ExtendsTable}
 use Rattle.sm_term.specs.Terms.{Tree}
-use Rattle.sm_plan.specs.ReadyStates.{IsSuccessorReady, AreSuccessorsReady}
 use Rattle.sm_plan.specs.declared.opening.Successor.{Successor}
 use Rattle.sm_plan.proofs.TablesWiden.{state_ready}
-use Rattle.sm_expand.specs.NumberedPlans.{NumberedPlan, NumberedPlans, Over, More, list_of, IsPlanReady, ArePlansReady}
-use Rattle.sm_expand.specs.Cursors.{numbered_at}
 use Rattle.sm_expand.specs.declared.cursor.Cursor.{Cursor}
-use Rattle.sm_expand.proofs.PlansWiden.{plan_ready}
-use Rattle.sm_candidates.specs.declared.walking.Waiting.{Waiting}
-use Rattle.sm_candidates.specs.Waits.{IsPlaceReady, ArePlacesReady, IsWaitingReady, AreWaitingReady}
 
 -- what waits stays ready while the table widens
 pub one_stays : (v w : TableValue) → ExtendsTable v w → (x : Waiting) → IsWaitingReady v x → IsWaitingReady w x

@@ -1,22 +1,12 @@
 -- Labels of places behind those of a base tell what equals, and tell the classes where the places are new and quiet.
-use Rattle.std.proofs.Common.{◌≡◌, ◌⊎◌, ℕ, zero, suc, pos, ◌+◌, ◌-◌, ◌<◌, ◌≤◌, Bool, true, false, ◌&&◌, ◌||◌, inl, inr, Some, None, Option, List, [], ◌∷◌, ◌++◌, length, map, take, drop, slice_get, refl, sym, ap, subst, ◌∙◌, ⊎_elim, arith}
-use Rattle.std.specs.List.{list_any}
-use Rattle.std.proofs.lemmas.Bool.{true≢false, eqb-true, or_cases, cases_lt, false_from_ne_true, or_parts}
-use Rattle.std.proofs.lemmas.List.{length-append, length-map, take-append-drop}
-use Rattle.std.proofs.lemmas.Option.{same_Some}
-use Rattle.std.specs.Ordering.{int_eq}
-use Rattle.sm_theory.specs.Lines.{followed}
-use Rattle.sm_cc.specs.declared.ground.BaseClasses.{BaseClasses}
-use Rattle.sm_cc.specs.declared.behind.Scanned.{Scanned}
-use Rattle.sm_cc.specs.Rows.{Board, PlacePairs, is_listed, one_head, shapes_pass, places_apart, equal_places, ArePlacesClosed, SamePlaces, Row, Element}
-use Rattle.sm_cc.specs.Log.{HasElement, Equal}
-use Rattle.sm_cc.specs.Closures.{are_together, board_of, Closure, Equation}
-use Rattle.sm_cc.specs.Settled.{pair_brings}
-use Rattle.sm_cc.specs.Exact.{IsExact}
-use Rattle.sm_cc.specs.Firsts.{Keyed, label_at, with_labels, row_key, shape_key}
-use Rattle.sm_cc.specs.BaseClasses.{AreBelow, AreInside}
-use Rattle.sm_cc.specs.Labels.{AreLabels}
-use Rattle.sm_cc.specs.Scanned.{IsBehind, seen, headed_in, AreNew, AreLooked, has_labels, are_parted, IsQuiet, IsQuietBehind, AreQuiet}
+use Rattle.sm_cc.proofs.Imports.{◌≡◌, ◌⊎◌, ℕ, zero, suc, pos, ◌+◌, ◌-◌, ◌<◌, ◌≤◌, Bool, true, false, ◌&&◌, ◌||◌, inl, inr, Some, None, Option, List, [], ◌∷◌, ◌++◌, length, map, take, drop, slice_get, refl, sym, ap, subst, ◌∙◌, ⊎_elim, arith, list_any, eqb-true, or_cases, cases_lt, false_from_ne_true, or_parts, length-map, take-append-drop, same_Some, int_eq, followed, BaseClasses, Scanned, Board, PlacePairs, one_head, shapes_pass, places_apart, equal_places, ArePlacesClosed, SamePlaces, HasElement, are_together, board_of, pair_brings, IsExact, Keyed, with_labels, row_key, shape_key, AreInside, AreLabels, IsBehind, seen, headed_in, AreNew, AreLooked, has_labels, are_parted, IsQuiet, IsQuietBehind, AreQuiet}
+use Rattle.std.proofs.lemmas.Bool.{true≢false}
+use Rattle.std.proofs.lemmas.List.{length-append}
+use Rattle.sm_cc.specs.Rows.{is_listed, Row, Element}
+use Rattle.sm_cc.specs.Log.{Equal}
+use Rattle.sm_cc.specs.Closures.{Closure, Equation}
+use Rattle.sm_cc.specs.Firsts.{label_at}
+use Rattle.sm_cc.specs.BaseClasses.{AreBelow}
 use Rattle.sm_cc.proofs.FirstsLemmas.{alike_keys, headed_keys}
 use Rattle.sm_cc.proofs.FreshLemmas.{IsUnder, AddsPlaces, brings_hit, element_before, element_below, SayNothing, apart_before, not_apart, IsReadSo, quiet_so, old_read_so, added_are_closed, AreLabelsBelow, HaveOwnLabels, fresh_roots_add}
 use Rattle.sm_cc.proofs.FreshLemmas.{together_there, within_old}

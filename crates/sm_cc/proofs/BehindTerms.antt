@@ -1,32 +1,12 @@
 -- What the labels of places behind those of a base tell of the terms at them.
-use Rattle.std.proofs.Common.{◌≡◌, ◌⊎◌, ℕ, ◌+◌, ◌<◌, Bool, true, not, IsTrue, inl, inr, Some, List, ◌++◌, length, map, slice_get, refl, sym, ap, subst, ◌∙◌, ⊎_elim, arith}
-use Rattle.std.specs.List.{filter}
+use Rattle.sm_cc.proofs.Imports.{◌≡◌, ◌⊎◌, ℕ, ◌+◌, ◌<◌, Bool, true, not, IsTrue, inl, inr, Some, List, ◌++◌, length, map, slice_get, refl, sym, ap, subst, ◌∙◌, ⊎_elim, arith, filter, length-map, slice_get-map, slice_get-get_or, Tree, trees_in, codes_in, tree_at, AreBefore, TermId, AreApart, AreCodesApart, BaseClasses, Numbering, Scanned, placed_fact, placed_equations, placed_contraries, AreClasses, AreEqualByLabels, IsGivenBefore, IsContraryOf, AddsOnly, Same, board_of, pair_of, placed_of, placed_with, AreBaseClasses, IsLedBy, AreGrown, AreLabels, AreTermLabels, Placed, IsBehind, AreLooked, AreQuiet, ArePositions, place_at, IsFurther, AreRowsFrom, SamePlaces, ClassesValue, setting_of, AreOfTwoTerms, GivenFact}
 use Rattle.std.specs.Option.{option_map}
 use Rattle.std.proofs.lemmas.Bool.{true≢false}
-use Rattle.std.proofs.lemmas.List.{length-append, length-map}
-use Rattle.std.proofs.lemmas.Option.{slice_get-map, slice_get-get_or}
-use Rattle.sm_term.specs.Terms.{Tree}
-use Rattle.sm_term.specs.Tables.{trees_in, codes_in, tree_at, AreBefore}
-use Rattle.sm_term.specs.declared.term.TermId.{TermId}
-use Rattle.sm_term.specs.TableLaws.{AreApart, AreCodesApart}
-use Rattle.sm_cc.specs.declared.ground.BaseClasses.{BaseClasses}
-use Rattle.sm_cc.specs.declared.ground.Numbering.{Numbering}
-use Rattle.sm_cc.specs.declared.behind.Scanned.{Scanned}
-use Rattle.sm_cc.specs.Assumed.{placed_fact, placed_equations, placed_contraries, AreClasses}
-use Rattle.sm_cc.specs.AddedTerms.{AreEqualByLabels, IsGivenBefore, IsContraryOf, AddsOnly}
-use Rattle.sm_cc.specs.Classes.{Same}
-use Rattle.sm_cc.specs.Closures.{board_of, pair_of, placed_of, Equation, Given}
-use Rattle.sm_cc.specs.Exact.{placed_with}
-use Rattle.sm_cc.specs.BaseClasses.{AreBaseClasses, IsLedBy}
-use Rattle.sm_cc.specs.Growing.{AreGrown}
-use Rattle.sm_cc.specs.Labels.{AreLabels, AreTermLabels}
+use Rattle.std.proofs.lemmas.List.{length-append}
+use Rattle.sm_cc.specs.Closures.{Equation, Given}
 use Rattle.sm_cc.specs.LabelsAt.{label_at}
-use Rattle.sm_cc.specs.Log.{Placed}
-use Rattle.sm_cc.specs.Scanned.{IsBehind, AreLooked, AreQuiet}
-use Rattle.sm_cc.specs.Positions.{ArePositions, place_at, Positions}
-use Rattle.sm_cc.specs.RowOf.{IsFurther, AreRowsFrom}
-use Rattle.sm_cc.specs.Rows.{SamePlaces, is_listed, Row}
-use Rattle.sm_cc.specs.Views.{ClassesValue, setting_of, AreOfTwoTerms, GivenFact}
+use Rattle.sm_cc.specs.Positions.{Positions}
+use Rattle.sm_cc.specs.Rows.{is_listed, Row}
 use Rattle.sm_cc.proofs.BehindLemmas.{labels_so, labels_exact}
 use Rattle.sm_cc.proofs.ClassesLemmas.{same_of_places, place_below}
 use Rattle.sm_cc.proofs.FreshLemmas.{listed_in, given_still}

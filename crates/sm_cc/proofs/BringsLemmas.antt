@@ -1,15 +1,5 @@
 -- Where more is given and more terms are equal, the rules bring more.
-use Rattle.std.proofs.Common.{◌≡◌, ℤ, Bool, true, ◌&&◌, not, List, [], ◌∷◌, Option, Some, None, refl, subst}
-use Rattle.std.specs.List.{list_any}
-use Rattle.std.specs.Ordering.{int_eq}
-use Rattle.sm_syntax.specs.text.Sorts.{Sorts}
-use Rattle.sm_term.specs.Terms.{Tree, Read}
-use Rattle.sm_term.specs.SameTerms.{same_tree}
-use Rattle.sm_term.specs.Heads.{arguments_of, same_head}
-use Rattle.sm_theory.specs.Elements.{Written, written_in, read_in}
-use Rattle.sm_theory.specs.Arithmetic.{compared_forms}
-use Rattle.sm_pairs.specs.Pairs.{Pairs}
-use Rattle.sm_cc.specs.Classes.{Setting, given_equal, given_unequal, differ, are_apart, equal_lists, if_there, reads_written, brings}
+use Rattle.sm_cc.proofs.Imports.{◌≡◌, ℤ, Bool, true, ◌&&◌, not, List, [], ◌∷◌, Option, Some, None, refl, subst, list_any, int_eq, Sorts, Tree, Read, same_tree, arguments_of, same_head, Written, written_in, read_in, compared_forms, Pairs, Setting, given_equal, given_unequal, differ, are_apart, equal_lists, if_there, reads_written, brings}
 use Rattle.sm_cc.proofs.StandingLemmas.{or_map, and_map}
 
 -- one test for each element is passed where another is

@@ -1,18 +1,7 @@
 -- What the tests of the rules find.
-use Rattle.std.proofs.Common.{◌≡◌, ℕ, zero, suc, ◌+◌, ◌<◌, ◌≤◌, ◌==◌, Bool, true, false, ◌&&◌, ◌||◌, Some, None, Option, List, [], ◌∷◌, length, map, drop, get_or, slice_get, refl, ap, ◌∙◌, arith}
-use Rattle.std.proofs.lemmas.Bool.{and_parts, or_from, false_from_ne_true}
-use Rattle.std.proofs.lemmas.List.{drop_more}
-use Rattle.std.proofs.lemmas.Option.{slice_get-map}
-use Rattle.std.specs.List.{list_any, range_with_len}
-use Rattle.std.specs.Option.{MatchOption}
-use Rattle.std.specs.Ordering.{int_eq}
-use Rattle.sm_cc.specs.declared.cause.Cause.{Cause}
-use Rattle.sm_cc.specs.Classes.{if_there}
-use Rattle.sm_cc.specs.Log.{Placed}
-use Rattle.sm_cc.specs.Causes.{rows_bring, rows_pair, IsCause, IsCauseOf}
-use Rattle.sm_cc.specs.Settled.{pair_brings}
-use Rattle.sm_cc.specs.Rows.{Board, PlacePairs, is_listed, equal_places, shapes_pass, one_head, places_apart, row_brings, Row}
-use Rattle.sm_cc.specs.Closures.{pair_of, fact_of, GivenHere, Given}
+use Rattle.sm_cc.proofs.Imports.{◌≡◌, ℕ, zero, suc, ◌+◌, ◌<◌, ◌≤◌, ◌==◌, Bool, true, false, ◌&&◌, ◌||◌, Some, None, Option, List, [], ◌∷◌, length, map, drop, get_or, slice_get, refl, ap, ◌∙◌, arith, and_parts, or_from, false_from_ne_true, drop_more, slice_get-map, list_any, range_with_len, MatchOption, int_eq, Cause, if_there, Placed, rows_bring, rows_pair, IsCause, IsCauseOf, pair_brings, Board, PlacePairs, equal_places, shapes_pass, one_head, places_apart, row_brings, pair_of, fact_of, GivenHere}
+use Rattle.sm_cc.specs.Rows.{is_listed, Row}
+use Rattle.sm_cc.specs.Closures.{Given}
 
 -- whether a given pair is this one
 abbrev pub is_pair : ℕ → ℕ → Given → Bool

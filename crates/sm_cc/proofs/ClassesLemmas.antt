@@ -1,25 +1,10 @@
 -- Classes of terms stand over classes of the places.
-use Rattle.std.proofs.Common.{◌≡◌, ◌↔◌, ℕ, ◌<◌, Bool, true, false, not, IsTrue, List, [], ◌∷◌, ◌++◌, map, length, Option, Some, None, refl, sym, ap, ◌∙◌, subst, arith, ⊎_elim, slice_get, if◌then◌else◌}
-use Rattle.std.specs.List.{filter}
-use Rattle.std.proofs.lemmas.List.{map-append, append-nil}
-use Rattle.std.proofs.lemmas.Option.{slice_get_within}
-use Rattle.sm_term.specs.Terms.{Tree}
-use Rattle.sm_term.specs.Assertions.{Assertion, Eq, Ne}
-use Rattle.sm_term.specs.Sorted.{tree_sort}
-use Rattle.sm_term.specs.Tables.{trees_in, sorts_in, tree_at}
-use Rattle.sm_term.specs.declared.term.TermId.{TermId}
-use Rattle.sm_theory.specs.Lines.{Sides, equal_sides, unequal_sides}
-use Rattle.sm_cc.specs.Classes.{Same, Apart}
-use Rattle.sm_cc.specs.Rows.{SamePlaces, ApartPlaces, Row}
-use Rattle.sm_cc.specs.Standing.{place_of, RowsStand, with_places, places_given, board_for}
-use Rattle.sm_cc.specs.Positions.{place_at, Positions}
-use Rattle.sm_cc.specs.Log.{Placed}
-use Rattle.sm_cc.specs.Exact.{with_equal, with_unequal}
-use Rattle.sm_cc.specs.Views.{ClassesValue, setting_of, assertion_given, IsTermOf, IsOfTwoTerms, with_given, GivenFact}
-use Rattle.sm_cc.specs.Assumed.{numbers_where, placed_for, with_fact, AreClasses}
+use Rattle.sm_cc.proofs.Imports.{◌≡◌, ◌↔◌, ℕ, ◌<◌, Bool, true, false, not, IsTrue, List, [], ◌∷◌, ◌++◌, map, length, Option, Some, None, refl, sym, ap, ◌∙◌, subst, arith, ⊎_elim, slice_get, if◌then◌else◌, filter, map-append, append-nil, slice_get_within, Tree, Assertion, Eq, Ne, tree_sort, trees_in, sorts_in, tree_at, TermId, Sides, equal_sides, unequal_sides, Same, SamePlaces, ApartPlaces, place_of, RowsStand, with_places, places_given, board_for, place_at, Placed, with_equal, with_unequal, ClassesValue, setting_of, assertion_given, IsTermOf, IsOfTwoTerms, with_given, GivenFact, numbers_where, placed_for, with_fact, AreClasses, get_pushed}
+use Rattle.sm_cc.specs.Classes.{Apart}
+use Rattle.sm_cc.specs.Rows.{Row}
+use Rattle.sm_cc.specs.Positions.{Positions}
 use Rattle.sm_cc.proofs.StandingLemmas.{among_there}
 use Rattle.sm_cc.proofs.TermsOfPlaces.{same_told, apart_told}
-use Rattle.sm_lemmas.proofs.Lists.{get_pushed}
 
 -- the places of one formula more
 places_given-push : (terms : List Tree) (sides : Assertion → Option Sides) (fs : List Assertion) (f : Assertion) →

@@ -1,13 +1,9 @@
 -- Classes with their log stay sound as entries are added.
-use Rattle.std.proofs.Common.{◌≡◌, ◌⊎◌, ℕ, zero, suc, ◌+◌, ◌<◌, ◌≤◌, Some, None, Option, List, [], ◌∷◌, ◌++◌, length, slice_get, inl, inr, refl, sym, ap, subst, ◌∙◌, ⊎_elim, arith, length-append, ◌==◌, true, get_or, slice_set, length-set}
-use Rattle.std.proofs.Common.{take}
-use Rattle.std.proofs.lemmas.Option.{slice_get_within, slice_get_read, same_Some}
-use Rattle.std.proofs.lemmas.Bool.{false≢true, eqb-true, and_parts}
-use Rattle.std.proofs.lemmas.List.{take_more, take_all}
-use Rattle.sm_cc.specs.Rows.{PlacePairs, equal_places, Row, Element}
-use Rattle.sm_cc.specs.Classes.{if_there}
-use Rattle.sm_cc.specs.Log.{Placed, HasElement, SayEqual, Follows, AllFollow, Known, Equal, Entry}
-use Rattle.sm_cc.specs.Closures.{IsSound, IsNoted, placed_of, Noted, Grows, Adds, AddsEquation, are_together, arguments_in, arguments_at, argument_at, AddsPremises, Closure, Equation}
+use Rattle.sm_cc.proofs.Imports.{◌≡◌, ◌⊎◌, ℕ, zero, suc, ◌+◌, ◌<◌, ◌≤◌, Some, None, Option, List, [], ◌∷◌, ◌++◌, length, slice_get, inl, inr, refl, sym, ap, subst, ◌∙◌, ⊎_elim, arith, ◌==◌, true, get_or, slice_set, length-set, take, slice_get_within, slice_get_read, same_Some, false≢true, eqb-true, and_parts, take_more, take_all, PlacePairs, equal_places, if_there, Placed, HasElement, SayEqual, Follows, AllFollow, IsSound, IsNoted, placed_of, Noted, Grows, Adds, AddsEquation, are_together, arguments_in, arguments_at, argument_at, AddsPremises}
+use Rattle.std.proofs.Common.{length-append}
+use Rattle.sm_cc.specs.Rows.{Row, Element}
+use Rattle.sm_cc.specs.Log.{Known, Equal, Entry}
+use Rattle.sm_cc.specs.Closures.{Closure, Equation}
 use Rattle.sm_cc.proofs.LogLemmas.{known_kept, known_last, all_follow_more, say_more, say_one_more, known_within}
 
 -- an entry is put behind the log

@@ -1,14 +1,10 @@
 -- Steps that are taken from a log follow from one another.
-use Rattle.std.proofs.Common.{◌≡◌, ◌⊎◌, ℕ, zero, suc, ◌+◌, ◌<◌, ◌≤◌, Bool, Some, None, Option, List, [], ◌∷◌, ◌++◌, length, slice_get, take, get_or, inl, inr, refl, sym, ap, subst, ◌∙◌, ⊎_elim, arith, length-append}
-use Rattle.std.proofs.lemmas.List.{take_more}
-use Rattle.std.proofs.lemmas.Option.{same_Some, get_or_from_slice_get}
+use Rattle.sm_cc.proofs.Imports.{◌≡◌, ◌⊎◌, ℕ, zero, suc, ◌+◌, ◌<◌, ◌≤◌, Bool, Some, None, Option, List, [], ◌∷◌, ◌++◌, length, slice_get, take, get_or, inl, inr, refl, sym, ap, subst, ◌∙◌, ⊎_elim, arith, take_more, same_Some, get_or_from_slice_get, Step, StepsBuilder, Placed, SayEqual, Derives, Follows, known_at, Before, Rule, Refl, Sym, Subst, Alike, Cong, Why, By, IsGiven, step_says, IsStated, StepsFollow, ExplainPlaces, IsMarked, AreMarked, numbers_in, IsNumber, AreNumbers, IsRenumbered, NumbersEntry, IsDraft, AreClosedFrom, get_last}
+use Rattle.std.proofs.Common.{length-append}
 use Rattle.sm_cc.specs.declared.row.Row.{Row}
-use Rattle.sm_cc.specs.declared.log.Step.{Step}
-use Rattle.sm_cc.specs.declared.explain.StepsBuilder.{StepsBuilder}
-use Rattle.sm_cc.specs.Log.{Placed, SayEqual, Derives, Follows, known_at, Before, Known, Equal, Unequal, Rule, Refl, Sym, Trans, Subst, Alike, Apart, Cong, Hit, Miss, Why, Given, By, Entry}
-use Rattle.sm_cc.specs.Steps.{IsGiven, step_says, IsStated, StepsFollow, ExplainPlaces, IsMarked, AreMarked, numbers_of, numbers_in, IsNumber, AreNumbers, IsRenumbered, NumbersEntry, IsDraft, AreClosedFrom}
+use Rattle.sm_cc.specs.Log.{Known, Equal, Unequal, Trans, Apart, Hit, Miss, Given, Entry}
+use Rattle.sm_cc.specs.Steps.{numbers_of}
 use Rattle.sm_cc.proofs.LogLemmas.{get_kept, get_cases, derives_more}
-use Rattle.sm_lemmas.proofs.Lists.{get_last}
 
 -- what a step says stays as one is put behind
 pub says_kept : (steps : List Step) (s : Step) (n : ℕ) (k : Known) → step_says steps n ≡ Some k → step_says (steps ++ s ∷ []) n ≡ Some k

@@ -1,34 +1,12 @@
 -- A line adds to a branch what its rule gives from facts that stand there.
-use Rattle.std.proofs.Common.{◌≡◌, ℕ, ℤ, ◌<◌, ◌==◌, zero, suc, Bool, true, false, ◌&&◌, not, List, [], ◌∷◌, ◌++◌, map, length, slice_get, Option, Some, None, refl, sym, ap, ◌∙◌, subst, arith, if◌then◌else◌, IsTrue}
-use Rattle.std.specs.Ordering.{int_eq}
-use Rattle.std.proofs.lemmas.Bool.{and_parts}
-use Rattle.std.proofs.lemmas.Option.{slice_get-get_or, slice_get_within}
-use Rattle.sm_syntax.specs.text.Sorts.{Sorts}
-use Rattle.sm_syntax.specs.declared.tree.Sort.{Sort}
+use Rattle.sm_cc.proofs.Imports.{◌≡◌, ℕ, ℤ, ◌<◌, ◌==◌, zero, suc, Bool, true, false, ◌&&◌, not, List, [], ◌∷◌, ◌++◌, map, length, slice_get, Option, Some, None, refl, sym, ap, ◌∙◌, subst, arith, if◌then◌else◌, IsTrue, int_eq, and_parts, slice_get-get_or, slice_get_within, Sorts, Sort, Tree, Lit, Start, Havoc, Slot, Cell, Read, Write, Neg, Add, Sub, Mul, Fun, Assertion, Eq, Ne, tree_sort, IsSorted, same_tree, tree_at, arguments_of, same_head, same_tree_is, BranchFact, Formal, CertificateLine, Sides, followed, formula_in, equal_sides, unequal_sides, equation_at, contrary_at, or_other, formula_if, turned_equation, turned_contrary, chained, substituted, says_equal, say_equal, equality_adds, is_numeric, same_parts, compared_forms, arithmetic_adds, element_adds, linear_of, adds, if_there, rows_pass, one_head, shapes_pass, SayEqual, Derives, HasElement, Rule, place_of, element_of, RowsStand, left_of, right_of, congruence_line, line_of, known_fact, IsOfTerms}
 use Rattle.sm_syntax.specs.declared.tree.Sort.TheVariants.{Num}
-use Rattle.sm_term.specs.Terms.{Tree, Lit, Start, Havoc, Slot, Cell, Read, Write, Neg, Add, Sub, Mul, Fun}
-use Rattle.sm_term.specs.Assertions.{Assertion, Eq, Ne}
-use Rattle.sm_term.specs.Sorted.{tree_sort, IsSorted}
-use Rattle.sm_term.specs.SameTerms.{same_tree}
-use Rattle.sm_term.specs.Tables.{tree_at}
-use Rattle.sm_term.specs.Heads.{arguments_of, same_head}
-use Rattle.sm_term.proofs.SameTermsLemmas.{same_tree_is}
 use Rattle.sm_term.proofs.HeadsLemmas.{same_head_has_sort, same_head_decides}
-use Rattle.sm_theory.specs.Facts.{BranchFact, Formal}
 use Rattle.sm_theory.specs.Lines as line
-use Rattle.sm_theory.specs.Lines.{CertificateLine, Sides, followed, formula_in, equal_sides, unequal_sides, equation_at, contrary_at}
-use Rattle.sm_theory.specs.Equality.{or_other, formula_if, turned_equation, turned_contrary, chained, substituted, says_equal, say_equal, equality_adds}
-use Rattle.sm_theory.specs.Arithmetic.{is_numeric, same_parts, compared_forms, arithmetic_adds}
-use Rattle.sm_theory.specs.Elements.{element_adds}
-use Rattle.sm_theory.specs.LinearTerms.{linear_of}
-use Rattle.sm_theory.specs.Ways.{adds}
 use Rattle.sm_theory.proofs.ArithmeticKept.{number_is}
 use Rattle.sm_cc.specs.declared.log.Rule.TheVariants as rule
-use Rattle.sm_cc.specs.Classes.{if_there}
-use Rattle.sm_cc.specs.Rows.{rows_pass, one_head, shapes_pass, Row, Element}
-use Rattle.sm_cc.specs.Log.{SayEqual, Derives, HasElement, Known, Equal, Unequal, Rule}
-use Rattle.sm_cc.specs.Standing.{place_of, element_of, RowsStand}
-use Rattle.sm_cc.specs.Explaining.{left_of, right_of, congruence_line, line_of, known_fact, IsOfTerms}
+use Rattle.sm_cc.specs.Rows.{Row, Element}
+use Rattle.sm_cc.specs.Log.{Known, Equal, Unequal}
 use Rattle.sm_cc.proofs.StandingLemmas.{place_found}
 
 -- rows that pass a test are there

@@ -1,20 +1,9 @@
 -- Places with one key come into one class with the first that has it.
-use Rattle.std.proofs.Common.{◌≡◌, ◌⊎◌, ◌==◌, ℕ, ℤ, pos, ◌<◌, ◌≤◌, Bool, true, false, ◌&&◌, ◌||◌, if◌then◌else◌, cond, Decides, Some, None, Option, List, [], ◌∷◌, ◌++◌, append_assoc, length, slice_get, refl, sym, ap, subst, ◌∙◌, ⊎_elim}
-use Rattle.std.proofs.Common.{inl, inr, drop, get_or, ◌+◌, arith}
-use Rattle.std.specs.Ordering.{int_eq}
-use Rattle.std.proofs.lemmas.Bool.{false≢true, true≢false, eqb-true, eq-eqb, and_parts, and_from, or_left, or_right, or_cases, cases_order}
-use Rattle.std.proofs.lemmas.Bool.Decides.{Decides-eqb, Decides-int_eq}
-use Rattle.std.proofs.lemmas.Option.{same_Some, none-some}
-use Rattle.std.proofs.lemmas.Slice.Eq.{slice_eq-Decides}
-use Rattle.std.proofs.lemmas.List.{drop_more}
-use Rattle.sm_theory.specs.Lines.{followed}
-use Rattle.sm_cc.specs.declared.row.Shape.{Shape}
-use Rattle.sm_cc.specs.Classes.{if_there}
-use Rattle.sm_cc.specs.Rows.{one_head, shapes_pass, equal_places, Row}
-use Rattle.sm_cc.specs.Closures.{IsSound, are_together, Closure, Equation}
-use Rattle.sm_cc.specs.Settled.{Tries, AllPairsSettled}
-use Rattle.sm_cc.specs.Firsts.{Keyed, Key, same_part, same_key, first_met, AreFirsts, TriesFirst, TriesFirsts, KeysBring, IsPairThere, shape_key, label_at, labels_of, with_labels, row_key, alike_at, headed_at, AreKeysSettled}
-use Rattle.sm_cc.specs.Firsts.{AreAlikeSettled, AreHeadedSettled}
+use Rattle.sm_cc.proofs.Imports.{◌≡◌, ◌⊎◌, ◌==◌, ℕ, ℤ, pos, ◌<◌, ◌≤◌, Bool, true, false, ◌&&◌, ◌||◌, if◌then◌else◌, cond, Decides, Some, None, Option, List, [], ◌∷◌, ◌++◌, append_assoc, length, slice_get, refl, sym, ap, subst, ◌∙◌, ⊎_elim, inl, inr, drop, get_or, ◌+◌, arith, int_eq, false≢true, eqb-true, eq-eqb, and_parts, and_from, or_left, or_right, or_cases, cases_order, Decides-eqb, Decides-int_eq, same_Some, none-some, slice_eq-Decides, drop_more, followed, Shape, if_there, one_head, shapes_pass, equal_places, IsSound, are_together, Tries, AllPairsSettled, Keyed, Key, same_part, same_key, first_met, AreFirsts, TriesFirst, TriesFirsts, KeysBring, IsPairThere, shape_key, labels_of, with_labels, row_key, alike_at, headed_at, AreKeysSettled, AreAlikeSettled, AreHeadedSettled}
+use Rattle.std.proofs.lemmas.Bool.{true≢false}
+use Rattle.sm_cc.specs.Rows.{Row}
+use Rattle.sm_cc.specs.Closures.{Closure, Equation}
+use Rattle.sm_cc.specs.Firsts.{label_at}
 use Rattle.sm_cc.proofs.ClosuresLemmas.{grows_from, grows_on, roots_of}
 use Rattle.sm_cc.proofs.RoundsLemmas.{together_from}
 

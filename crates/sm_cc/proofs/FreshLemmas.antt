@@ -1,22 +1,14 @@
 -- Boards with more rows of which the rules bring nothing: the classes stay, and each new place is by itself.
-use Rattle.std.proofs.Common.{◌≡◌, ◌⊎◌, ℕ, suc, zero, ℤ, ◌+◌, ◌<◌, ◌≤◌, ◌==◌, Bool, true, false, ◌&&◌, ◌||◌, not, inl, inr, arith, map, Some, None, Option, List, [], ◌∷◌, ◌++◌, length, slice_get, refl, sym, ap, subst, ◌∙◌, ⊎_elim}
-use Rattle.std.proofs.lemmas.Bool.{false≢true, eqb-true, eq-eqb, and_parts, and_from, or_left, or_right, or_cases, cases_order, cases_lt, false_from_ne_true}
-use Rattle.std.proofs.lemmas.Option.{slice_get_within, same_Some}
-use Rattle.std.specs.Ordering.{int_eq}
-use Rattle.sm_cc.specs.Classes.{if_there}
-use Rattle.sm_cc.specs.Rows.{Board, PlacePairs, is_listed, rows_pass, one_head, shapes_pass, equal_places, places_differ, places_apart, row_brings, ArePlacesClosed, Row, Element}
-use Rattle.sm_cc.specs.Log.{HasElement}
-use Rattle.sm_cc.specs.Closures.{are_together, pair_of, Equation, Given}
-use Rattle.sm_cc.specs.Settled.{pair_brings}
-use Rattle.sm_cc.specs.BaseClasses.{AreBelow, IsElementBelow, AreInside, AreAllGiven}
-use Rattle.sm_cc.specs.Growing.{IsCopy, AreKept}
+use Rattle.sm_cc.proofs.Imports.{◌≡◌, ◌⊎◌, ℕ, suc, zero, ℤ, ◌+◌, ◌<◌, ◌≤◌, ◌==◌, Bool, true, false, ◌&&◌, ◌||◌, not, inl, inr, arith, map, Some, None, Option, List, [], ◌∷◌, ◌++◌, length, slice_get, refl, sym, ap, subst, ◌∙◌, ⊎_elim, false≢true, eqb-true, eq-eqb, and_parts, and_from, or_left, or_right, or_cases, cases_order, cases_lt, false_from_ne_true, slice_get_within, same_Some, int_eq, if_there, Board, PlacePairs, rows_pass, one_head, shapes_pass, equal_places, places_differ, places_apart, row_brings, ArePlacesClosed, HasElement, are_together, pair_of, pair_brings, IsElementBelow, AreInside, AreAllGiven, IsCopy, AreKept, get_below, get_in_first}
+use Rattle.sm_cc.specs.Rows.{is_listed, Row, Element}
+use Rattle.sm_cc.specs.Closures.{Equation, Given}
+use Rattle.sm_cc.specs.BaseClasses.{AreBelow}
 use Rattle.sm_cc.proofs.ClosuresLemmas.{roots_of}
 use Rattle.sm_cc.proofs.ExplainingLemmas.{pass_gives}
 use Rattle.sm_cc.proofs.RoundsLemmas.{together_from}
 use Rattle.sm_cc.proofs.SoundLemmas.{parts_of, apart_from, pass_at, listed_at, brings_listed}
 use Rattle.sm_cc.proofs.GrowingLemmas.{place_there, shapes_same, head_same, element_there}
 use Rattle.sm_cc.proofs.SettledLemmas.{shapes_turned, heads_turned}
-use Rattle.sm_lemmas.proofs.Lists.{get_below, get_in_first}
 
 -- a board has the rows of another with more behind them, and all that is given of those
 pub record IsUnder (b w : Board) : Type 0 where

@@ -1,28 +1,11 @@
 -- What is given of terms stands on a branch by the places of the terms.
-use Rattle.std.proofs.Common.{◌≡◌, ℕ, ◌<◌, zero, suc, Bool, true, false, not, List, [], ◌∷◌, map, length, slice_get, Option, Some, None, refl, sym, ap, ◌∙◌, subst, if◌then◌else◌, IsTrue}
-use Rattle.std.specs.List.{filter}
-use Rattle.std.proofs.lemmas.Option.{get_or_from_slice_get, slice_get_within}
-use Rattle.sm_syntax.specs.text.Sorts.{Sorts}
-use Rattle.sm_syntax.specs.declared.tree.Sort.{Sort}
-use Rattle.sm_term.specs.Terms.{Tree}
-use Rattle.sm_term.specs.Assertions.{Assertion, Eq, Ne}
-use Rattle.sm_term.specs.Sorted.{tree_sort}
-use Rattle.sm_term.specs.Tables.{TableValue, trees_in, sorts_in, tree_at}
-use Rattle.sm_theory.specs.Facts.{BranchFact, Formal}
-use Rattle.sm_theory.specs.Lines.{Sides, equal_sides, unequal_sides}
+use Rattle.sm_cc.proofs.Imports.{◌≡◌, ℕ, ◌<◌, zero, suc, Bool, true, false, not, List, [], ◌∷◌, map, length, slice_get, Option, Some, None, refl, sym, ap, ◌∙◌, subst, if◌then◌else◌, IsTrue, filter, get_or_from_slice_get, slice_get_within, Sorts, Sort, Tree, Assertion, Eq, Ne, tree_sort, TableValue, trees_in, sorts_in, tree_at, BranchFact, Formal, Sides, equal_sides, unequal_sides, place_of, with_places, places_given, IsGiven, StandAt, known_fact, IsOfTerms, ClassesValue, setting_of, assertion_given, IsTermOf, HaveOneSort, IsOfTwoTerms, GivenFact, placed_for, numbers_where, is_among, one_thing}
 use Rattle.sm_cc.specs.declared.row.Row.{Row}
 use Rattle.sm_cc.specs.declared.log.Known.{Known}
 use Rattle.sm_cc.specs.declared.log.Known.TheVariants.{Equal, Unequal}
-use Rattle.sm_cc.specs.Standing.{place_of, with_places, places_given}
-use Rattle.sm_cc.specs.Steps.{IsGiven}
-use Rattle.sm_cc.specs.Explained.{StandAt}
-use Rattle.sm_cc.specs.Explaining.{known_fact, IsOfTerms}
-use Rattle.sm_cc.specs.Views.{ClassesValue, setting_of, assertion_given, numbers_of, IsTermOf, HaveOneSort, IsOfTwoTerms, GivenFact}
-use Rattle.sm_cc.specs.Assumed.{placed_for, numbers_where}
-use Rattle.sm_theory.specs.TermsOfFormulas.{is_among}
+use Rattle.sm_cc.specs.Views.{numbers_of}
 use Rattle.sm_cc.proofs.InsideLemmas.{AreInside}
 use Rattle.sm_cc.proofs.StandingLemmas.{among_there}
-use Rattle.sm_lemmas.proofs.Lists.{one_thing}
 
 -- each given fact stands under its number
 given_at : (table : TableValue) (facts : List BranchFact) (gs : List GivenFact) →

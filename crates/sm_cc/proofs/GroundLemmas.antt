@@ -1,50 +1,18 @@
 -- Classes that begin with those of others: the rows of these stay, and what is given of them is given still.
-use Rattle.std.proofs.Common.{◌≡◌, ℕ, ◌+◌, ◌<◌, zero, suc, Bool, true, false, List, [], ◌∷◌, ◌++◌, map, length, slice_get, Option, Some, None, refl, sym, ap, ◌∙◌, subst, arith, IsTrue, not, if◌then◌else◌, ⊎_elim, ◌⊎◌, ℤ}
+use Rattle.sm_cc.proofs.Imports.{◌≡◌, ℕ, ◌+◌, ◌<◌, zero, suc, Bool, true, false, List, [], ◌∷◌, ◌++◌, map, length, slice_get, Option, Some, None, refl, sym, ap, ◌∙◌, subst, arith, IsTrue, not, if◌then◌else◌, ⊎_elim, ◌⊎◌, ℤ, filter, length-map, map-append, slice_get-map, slice_get_within, Code, Sorts, Contents, Tree, Read, same_tree, arguments_of, TableValue, trees_in, sorts_in, codes_in, tree_at, tree_in, IsTermWithin, AreBefore, TermId, Term, AddsTerms, AreApart, AreCodesApart, tree_at-more, tree_in-more, fits-more, within-later, linear_of, is_numeric, Written, written_in, read_in, followed, stands_later, BaseClasses, Numbering, Shape, is_among, place_of, element_of, RowsStand, IsLonger, head_of, IsHeadAt, IsShapeAt, heads_met, parts_met, HasTree, IsRowOf, IsFurther, AreRowsFrom, IsCopy, AreGrown, IsElementBelow, IsRowBelow, AreInside, AreNumberedBy, AreAllGiven, AreBaseClasses, IsLedBy, ClassesValue, setting_of, AreOfTwoTerms, GivenFact, ArePositions, place_at, Placed, pair_of, fact_of, placed_of, placed_with, placed_fact, placed_equations, placed_contraries, AreClasses, slice_get-longer, get_in_either, get_below, one_thing}
 use Rattle.std.specs.Option.{option_map}
-use Rattle.std.specs.List.{filter}
-use Rattle.std.proofs.lemmas.List.{length-append, length-map, map-append}
-use Rattle.std.proofs.lemmas.Option.{slice_get-map, slice_get_within}
-use Rattle.sm_syntax.specs.claim.Syntax.{Code}
-use Rattle.sm_syntax.specs.text.Sorts.{Sorts}
-use Rattle.sm_term.specs.RowLaws.{Contents}
-use Rattle.sm_term.specs.Terms.{Tree, Read}
-use Rattle.sm_term.specs.SameTerms.{same_tree}
-use Rattle.sm_term.specs.Heads.{arguments_of}
+use Rattle.std.proofs.lemmas.List.{length-append}
 use Rattle.sm_term.specs.Fitting.{term_fits}
-use Rattle.sm_term.specs.Tables.{TableValue, trees_in, sorts_in, codes_in, tree_at, tree_in, IsTermWithin, AreBefore}
-use Rattle.sm_term.specs.declared.term.TermId.{TermId}
-use Rattle.sm_term.specs.declared.term.Term.{Term}
-use Rattle.sm_term.specs.TableLaws.{AddsTerms, AreApart, AreCodesApart}
-use Rattle.sm_term.proofs.TreesLemmas.{tree_at-more, tree_in-more, fits-more, within-later}
-use Rattle.sm_theory.specs.LinearTerms.{linear_of}
-use Rattle.sm_theory.specs.Arithmetic.{is_numeric}
-use Rattle.sm_theory.specs.Elements.{Written, written_in, read_in}
-use Rattle.sm_theory.specs.Lines.{followed}
 use Rattle.sm_theory.proofs.FormsOfTermsLemmas.{one_place}
-use Rattle.sm_theory.proofs.LinearLater.{stands_later}
-use Rattle.sm_cc.specs.declared.ground.BaseClasses.{BaseClasses}
-use Rattle.sm_cc.specs.declared.ground.Numbering.{Numbering}
 use Rattle.sm_cc.specs.declared.row.Row.{Row}
-use Rattle.sm_cc.specs.declared.row.Shape.{Shape}
 use Rattle.sm_cc.specs.declared.row.Element.{Element}
-use Rattle.sm_theory.specs.TermsOfFormulas.{is_among}
-use Rattle.sm_cc.specs.Standing.{place_of, element_of, RowsStand}
-use Rattle.sm_pairs.specs.Longer.{IsLonger}
-use Rattle.sm_cc.specs.Numbered.{head_of, IsHeadAt, IsShapeAt, heads_met, parts_met}
-use Rattle.sm_cc.specs.RowOf.{HasTree, IsRowOf, IsFurther, AreRowsFrom}
-use Rattle.sm_cc.specs.Growing.{IsCopy, AreGrown}
-use Rattle.sm_cc.specs.BaseClasses.{AreBelow, IsElementBelow, IsRowBelow, AreInside, AreNumberedBy, AreAllGiven, AreBaseClasses, IsLedBy}
-use Rattle.sm_cc.specs.Views.{ClassesValue, trees_of, setting_of, AreOfTwoTerms, GivenFact}
-use Rattle.sm_cc.specs.Positions.{ArePositions, place_at, Positions}
-use Rattle.sm_cc.specs.Log.{Placed}
-use Rattle.sm_cc.specs.Closures.{pair_of, fact_of, placed_of, Given}
-use Rattle.sm_cc.specs.Exact.{placed_with}
-use Rattle.sm_cc.specs.Assumed.{placed_fact, placed_equations, placed_contraries, AreClasses}
-use Rattle.sm_pairs.proofs.LongerLemmas.{slice_get-longer}
+use Rattle.sm_cc.specs.BaseClasses.{AreBelow}
+use Rattle.sm_cc.specs.Views.{trees_of}
+use Rattle.sm_cc.specs.Positions.{Positions}
+use Rattle.sm_cc.specs.Closures.{Given}
 use Rattle.sm_cc.proofs.StandingLemmas.{among_there}
 use Rattle.sm_cc.proofs.RowsLemmas.{row_later, rows_stand}
 use Rattle.sm_cc.proofs.PlacedLemmas.{classes_made}
-use Rattle.sm_lemmas.proofs.Lists.{get_in_either, get_below, one_thing}
 
 -- a place that is there stays where more stand behind
 place_behind : (more : List Tree) (x : Tree) (ts : List Tree) → place_of ts x < length ts → place_of (ts ++ more) x ≡ place_of ts x

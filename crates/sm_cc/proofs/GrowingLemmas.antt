@@ -1,21 +1,13 @@
 -- Classes that begin with copies of others stay sound.
-use Rattle.std.proofs.Common.{◌≡◌, ℕ, ◌+◌, ◌<◌, ◌≤◌, Some, None, Option, Bool, true, List, [], ◌∷◌, ◌++◌, length, map, ℤ, slice_get, length-append, refl, sym, ap, subst, ◌∙◌, ⊎_elim, arith, not}
-use Rattle.std.proofs.lemmas.List.{length-map}
-use Rattle.std.proofs.lemmas.Option.{slice_get_within, slice_get-map, same_Some}
-use Rattle.std.proofs.lemmas.Bool.{false≢true, cases_lt}
+use Rattle.sm_cc.proofs.Imports.{◌≡◌, ℕ, ◌+◌, ◌<◌, ◌≤◌, Some, None, Option, Bool, true, List, [], ◌∷◌, ◌++◌, length, map, ℤ, slice_get, refl, sym, ap, subst, ◌∙◌, ⊎_elim, arith, not, length-map, slice_get_within, slice_get-map, same_Some, false≢true, cases_lt, int_eq, if_there, rows_pass, shapes_pass, one_head, Placed, HasElement, SayEqual, Derives, Follows, Before, AllFollow, known_at, Rule, Refl, Sym, Subst, Alike, Cong, Why, IsSound, AllRooted, Noted, GivenHere, pair_of, fact_of, placed_of, placed_with, AreAllGiven, IsCopy, AreKept, AreGrown, IsSameRule, IsSameWhy, AreEntriesKept, get_in_first, get_below, get_last}
+use Rattle.std.proofs.Common.{length-append}
 use Rattle.std.specs.Option.{option_map}
-use Rattle.std.specs.Ordering.{int_eq}
 use Rattle.sm_cc.specs.declared.log.Why.TheVariants as why
-use Rattle.sm_cc.specs.Classes.{if_there}
-use Rattle.sm_cc.specs.Rows.{rows_pass, shapes_pass, one_head, Row, Element}
-use Rattle.sm_cc.specs.Log.{Placed, HasElement, SayEqual, Derives, Follows, Before, AllFollow, known_at, Known, Equal, Unequal, Rule, Refl, Sym, Trans, Subst, Alike, Apart, Cong, Hit, Miss, Why, Entry}
-use Rattle.sm_cc.specs.Closures.{IsSound, AllRooted, Noted, GivenHere, pair_of, fact_of, placed_of, Closure, Equation, Given}
-use Rattle.sm_cc.specs.Exact.{placed_with}
-use Rattle.sm_cc.specs.BaseClasses.{AreAllGiven}
-use Rattle.sm_cc.specs.Growing.{IsCopy, AreKept, AreGrown, IsSameRule, IsSameWhy, AreEntriesKept}
+use Rattle.sm_cc.specs.Rows.{Row, Element}
+use Rattle.sm_cc.specs.Log.{Known, Equal, Unequal, Trans, Apart, Hit, Miss, Entry}
+use Rattle.sm_cc.specs.Closures.{Closure, Equation, Given}
 use Rattle.sm_cc.proofs.CausesLemmas.{given_here}
 use Rattle.sm_cc.proofs.LogLemmas.{get_kept, get_cases, known_kept, known_last, known_within, follows_more, all_follow_more}
-use Rattle.sm_lemmas.proofs.Lists.{get_in_first, get_below, get_last}
 
 -- the entry that a place equals itself
 abbrev pub own_entry : ℕ → Entry

@@ -1,22 +1,11 @@
 -- The places of steps are there, and the terms of a table are well sorted.
-use Rattle.std.proofs.Common.{◌≡◌, ℕ, ◌<◌, ◌+◌, zero, suc, pos, List, [], ◌∷◌, ◌++◌, map, length, slice_get, Option, Some, None, refl, sym, ap, ◌∙◌, subst, arith, ⊎_elim}
-use Rattle.std.specs.Ordering.{int_eq}
+use Rattle.sm_cc.proofs.Imports.{◌≡◌, ℕ, ◌<◌, ◌+◌, zero, suc, pos, List, [], ◌∷◌, ◌++◌, map, length, slice_get, Option, Some, None, refl, sym, ap, ◌∙◌, subst, arith, ⊎_elim, int_eq, slice_get_within, Tree, Lit, tree_at, TermId, CertLine, Step, shapes_pass, Placed, Derives, Rule, IsGiven, IsStated, StepsFollow, step_says, left_of, right_of, AreStepsIn, IsLineOf, AreLinesOf, one_thing}
 use Rattle.std.specs.Option.{option_map}
-use Rattle.std.proofs.lemmas.Option.{slice_get_within}
-use Rattle.sm_term.specs.Terms.{Tree, Lit}
-use Rattle.sm_term.specs.Tables.{tree_at}
-use Rattle.sm_term.specs.declared.term.TermId.{TermId}
-use Rattle.sm_theory.specs.declared.line.CertLine.{CertLine}
 use Rattle.sm_cc.specs.declared.log.Rule.TheVariants as rule
-use Rattle.sm_cc.specs.declared.log.Step.{Step}
-use Rattle.sm_cc.specs.Rows.{shapes_pass, Row}
-use Rattle.sm_cc.specs.Log.{Placed, Derives, Known, Equal, Unequal, Rule}
-use Rattle.sm_cc.specs.Steps.{IsGiven, IsStated, StepsFollow, step_says}
-use Rattle.sm_cc.specs.Explaining.{left_of, right_of, AreStepsIn}
-use Rattle.sm_cc.specs.Explained.{IsLineOf, AreLinesOf}
+use Rattle.sm_cc.specs.Rows.{Row}
+use Rattle.sm_cc.specs.Log.{Known, Equal, Unequal}
 use Rattle.sm_cc.specs.Views.{trees_of}
 use Rattle.sm_cc.proofs.ExplainingLemmas.{pass_gives}
-use Rattle.sm_lemmas.proofs.Lists.{one_thing}
 
 -- the places of what is known are below a number
 abbrev pub AreInside : ℕ → Known → Type 0

@@ -1,7 +1,5 @@
 -- A set that grows within a list is closed after as many rounds as the list is long.
-use Rattle.std.proofs.Common.{◌≡◌, ◌⊎◌, ◌≤◌, ◌<◌, ℕ, zero, suc, ◌+◌, Bool, true, false, if◌then◌else◌, List, [], ◌∷◌, length, inl, inr, ⊎_elim, refl, sym, ap, subst, ◌∙◌, arith}
-use Rattle.std.proofs.Math.Path.{fun_ext}
-use Rattle.sm_lemmas.proofs.Tests.{same_tests}
+use Rattle.sm_cc.proofs.Imports.{◌≡◌, ◌⊎◌, ◌≤◌, ◌<◌, ℕ, zero, suc, ◌+◌, Bool, true, false, if◌then◌else◌, List, [], ◌∷◌, length, inl, inr, ⊎_elim, refl, sym, ap, subst, ◌∙◌, arith, fun_ext, same_tests}
 
 -- each that is in one set is in another
 abbrev pub Below : {X : Type 0} → (X → Bool) → (X → Bool) → Type 0

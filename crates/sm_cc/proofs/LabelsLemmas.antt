@@ -1,25 +1,11 @@
 -- The labels of exact classes tell the classes, of places and of the terms at them.
-use Rattle.std.proofs.Common.{◌≡◌, ℕ, zero, suc, ◌<◌, ◌==◌, [], ◌∷◌, arith, IsTrue, Some, None, Option, option_map, List, length, map, slice_get, refl, sym, ap, subst, ◌∙◌}
-use Rattle.std.proofs.lemmas.Bool.{eqb-true, eq-eqb}
-use Rattle.std.proofs.lemmas.List.{length-map}
-use Rattle.std.proofs.lemmas.Option.{slice_get-map, slice_get-get_or, slice_get_within}
-use Rattle.sm_term.specs.Terms.{Tree}
-use Rattle.sm_term.specs.Tables.{trees_in, tree_at, AreBefore}
-use Rattle.sm_term.specs.declared.term.TermId.{TermId}
-use Rattle.sm_cc.specs.Assumed.{AreClasses}
-use Rattle.sm_cc.specs.Classes.{if_there, Same}
-use Rattle.sm_cc.specs.Rows.{SamePlaces}
-use Rattle.sm_cc.specs.Closures.{are_together, board_of, Closure, Equation}
-use Rattle.sm_cc.specs.Exact.{IsExact}
-use Rattle.sm_cc.specs.Labels.{AreLabels, AreTermLabels}
+use Rattle.sm_cc.proofs.Imports.{◌≡◌, ℕ, zero, suc, ◌<◌, ◌==◌, [], ◌∷◌, arith, IsTrue, Some, None, Option, List, length, map, slice_get, refl, sym, ap, subst, ◌∙◌, eqb-true, eq-eqb, length-map, slice_get-map, slice_get-get_or, slice_get_within, Tree, trees_in, tree_at, AreBefore, TermId, AreClasses, if_there, Same, SamePlaces, are_together, board_of, IsExact, AreLabels, AreTermLabels, Placed, place_at, place_of, ClassesValue, setting_of, there_among}
+use Rattle.std.proofs.Common.{option_map}
+use Rattle.sm_cc.specs.Closures.{Closure, Equation}
 use Rattle.sm_cc.specs.LabelsAt.{label_at}
-use Rattle.sm_cc.specs.Log.{Placed}
-use Rattle.sm_cc.specs.Positions.{place_at, Positions}
-use Rattle.sm_cc.specs.Standing.{place_of}
-use Rattle.sm_cc.specs.Views.{ClassesValue, setting_of}
+use Rattle.sm_cc.specs.Positions.{Positions}
 use Rattle.sm_cc.proofs.ClassesLemmas.{same_of_places}
 use Rattle.sm_cc.proofs.StandingLemmas.{among_there}
-use Rattle.sm_pairs.proofs.AmongLemmas.{there_among}
 use Rattle.sm_cc.proofs.PlacesLemmas.{exact_same}
 
 -- the equation whose right side stands at a place

@@ -1,22 +1,12 @@
 -- The computed classes are the least set of pairs that is closed.
-use Rattle.std.proofs.Common.{◌≡◌, ◌↔◌, IsTrue, ◌≤◌, ℕ, ◌*◌, Bool, true, false, ◌&&◌, ◌||◌, List, [], length, ⊎_elim, refl, sym, ap, subst, ◌∙◌, arith}
-use Rattle.std.specs.List.{list_any}
-use Rattle.std.proofs.lemmas.Bool.{and_parts, or_left, or_right, or_cases}
-use Rattle.std.proofs.Math.Path.{fun_ext}
-use Rattle.sm_term.specs.Terms.{Tree}
-use Rattle.sm_term.specs.SameTerms.{same_tree}
-use Rattle.sm_term.proofs.SameTermsLemmas.{same_tree_is}
-use Rattle.sm_theory.specs.TermsOfFormulas.{is_among}
-use Rattle.sm_pairs.specs.Pairs.{Pairs}
-use Rattle.sm_cc.specs.Classes.{Setting, are_apart, brings, AreClosed, Same, Apart}
-use Rattle.sm_cc.specs.Rounds.{pairs_of, is_listed, follows, are_equal}
+use Rattle.sm_cc.proofs.Imports.{◌≡◌, ◌↔◌, IsTrue, ◌≤◌, ℕ, ◌*◌, Bool, true, false, ◌&&◌, ◌||◌, List, [], length, ⊎_elim, refl, sym, ap, subst, ◌∙◌, arith, list_any, and_parts, or_left, or_right, or_cases, fun_ext, Tree, same_tree, same_tree_is, is_among, Pairs, Setting, are_apart, brings, AreClosed, Same, pairs_of, follows, any_passes_from_place, same_tests}
+use Rattle.sm_cc.specs.Classes.{Apart}
+use Rattle.sm_cc.specs.Rounds.{is_listed, are_equal}
 use Rattle.sm_cc.specs.Laws.{ClassesAreLeast}
 use Rattle.sm_cc.proofs.StandingLemmas.{both, any_from, among_there}
 use Rattle.sm_cc.proofs.IteratedLemmas.{Below, IsIn, rounds, rounds_closed, rounds_within}
 use Rattle.sm_cc.proofs.PairsLemmas.{Duo, paired, round, among_in, pairs_in, length-pairs, listed_after}
 use Rattle.sm_cc.proofs.BringsLemmas.{GivesMore, nothing_more, apart_more, brings_more}
-use Rattle.std.proofs.lemmas.Map.Keys.{any_passes_from_place}
-use Rattle.sm_lemmas.proofs.Tests.{same_tests}
 
 module _ (s : Setting) where
   -- no pairs

@@ -1,3 +1,4 @@
+mod Imports
 pub mod BehindLemmas
 pub mod BehindTerms
 pub mod BringsLemmas

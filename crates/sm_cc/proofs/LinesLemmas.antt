@@ -1,29 +1,9 @@
 -- The lines of the steps that explain places explain the terms at these.
-use Rattle.std.proofs.Common.{◌≡◌, ℕ, ◌<◌, List, [], ◌∷◌, ◌++◌, map, length, slice_get, Option, Some, refl, sym, ap, ◌∙◌, subst, arith}
-use Rattle.std.proofs.lemmas.List.{map-append, length-map}
-use Rattle.std.proofs.lemmas.Option.{slice_get-get_or}
-use Rattle.sm_syntax.specs.text.Sorts.{Sorts}
-use Rattle.sm_term.specs.Terms.{Tree}
-use Rattle.sm_term.specs.Assertions.{Assertion, Eq}
-use Rattle.sm_term.specs.Sorted.{tree_sort, IsSorted}
-use Rattle.sm_term.specs.Tables.{TableValue, trees_in, sorts_in, tree_at}
-use Rattle.sm_term.specs.declared.term.TermId.{TermId}
-use Rattle.sm_term.specs.TableLaws.{AreTreesSorted}
-use Rattle.sm_theory.specs.Facts.{BranchFact, Formal}
-use Rattle.sm_theory.specs.Lines.{CertificateLine}
-use Rattle.sm_theory.specs.Views.{line_in}
-use Rattle.sm_theory.specs.declared.line.CertLine.{CertLine}
-use Rattle.sm_cc.specs.declared.log.Step.{Step}
-use Rattle.sm_cc.specs.Log.{Placed, Known, Equal, Unequal}
-use Rattle.sm_cc.specs.Classes.{Same}
-use Rattle.sm_cc.specs.Rows.{SamePlaces, Row}
-use Rattle.sm_cc.specs.Standing.{place_of}
-use Rattle.sm_cc.specs.Positions.{place_at, Positions}
-use Rattle.sm_cc.specs.Steps.{ExplainPlaces}
-use Rattle.sm_cc.specs.Explained.{Explain, StandAt, added_by}
-use Rattle.sm_cc.specs.Explaining.{AreStepsIn, step_line, known_fact}
-use Rattle.sm_cc.specs.Views.{ClassesValue, setting_of, trees_of, numbers_of, equation_of}
-use Rattle.sm_cc.specs.Assumed.{placed_for, AreClasses}
+use Rattle.sm_cc.proofs.Imports.{◌≡◌, ℕ, ◌<◌, List, [], ◌∷◌, ◌++◌, map, length, slice_get, Option, Some, refl, sym, ap, ◌∙◌, subst, arith, map-append, length-map, slice_get-get_or, Sorts, Tree, Assertion, Eq, tree_sort, IsSorted, TableValue, trees_in, sorts_in, tree_at, TermId, AreTreesSorted, BranchFact, Formal, CertificateLine, line_in, CertLine, Step, Placed, Same, SamePlaces, place_of, place_at, ExplainPlaces, Explain, StandAt, added_by, AreStepsIn, step_line, known_fact, ClassesValue, setting_of, equation_of, placed_for, AreClasses}
+use Rattle.sm_cc.specs.Log.{Known, Equal, Unequal}
+use Rattle.sm_cc.specs.Rows.{Row}
+use Rattle.sm_cc.specs.Positions.{Positions}
+use Rattle.sm_cc.specs.Views.{trees_of, numbers_of}
 use Rattle.sm_cc.proofs.StandingLemmas.{place_found}
 use Rattle.sm_cc.proofs.TermsOfPlaces.{same_told}
 use Rattle.sm_cc.proofs.InsideLemmas.{AreInside, steps_inside, each_tree, each_term}

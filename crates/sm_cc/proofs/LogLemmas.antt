@@ -1,8 +1,7 @@
 -- A log stays one as it grows.
-use Rattle.std.proofs.Common.{◌≡◌, ◌⊎◌, ℕ, zero, suc, ◌<◌, Some, None, List, [], ◌∷◌, ◌++◌, length, slice_get, inl, inr, refl, sym, ap, subst, ⊎_elim, arith}
-use Rattle.std.proofs.lemmas.Option.{same_Some}
+use Rattle.sm_cc.proofs.Imports.{◌≡◌, ◌⊎◌, ℕ, zero, suc, ◌<◌, Some, None, List, [], ◌∷◌, ◌++◌, length, slice_get, inl, inr, refl, sym, ap, subst, ⊎_elim, arith, same_Some, Placed, SayEqual, Derives, Follows, known_at, Before, AllFollow, Rule, Refl, Sym, Subst, Alike, Cong, Why, By}
 use Rattle.sm_cc.specs.declared.row.Row.{Row}
-use Rattle.sm_cc.specs.Log.{Placed, SayEqual, Derives, Follows, known_at, Before, AllFollow, Known, Equal, Unequal, Rule, Refl, Sym, Trans, Subst, Alike, Apart, Cong, Hit, Miss, Why, Given, By, Entry}
+use Rattle.sm_cc.specs.Log.{Known, Equal, Unequal, Trans, Apart, Hit, Miss, Given, Entry}
 
 -- an element of a list stays where it is as another is put behind it
 pub get_kept : {X : Type 0} (xs : List X) (n : ℕ) (x y : X) → slice_get xs n ≡ Some x → slice_get (xs ++ y ∷ []) n ≡ Some x

@@ -1,20 +1,10 @@
 -- Places behind those of a base: one look at each tells what equals it.
-use Rattle.std.proofs.Common.{◌≡◌, ◌⊎◌, ℕ, zero, suc, pos, ◌+◌, ◌<◌, ◌≤◌, Bool, true, ◌&&◌, Some, None, Option, List, [], ◌∷◌, ◌++◌, length, slice_get, take, refl, sym, ap, subst, ◌∙◌, ⊎_elim, inl, inr, arith}
-use Rattle.std.proofs.lemmas.Bool.{false≢true, cases_lt, or_left, or_right}
-use Rattle.std.proofs.lemmas.List.{length_push, take_all, take-append-le}
-use Rattle.std.proofs.lemmas.Option.{same_Some, none-some, slice_get_within}
-use Rattle.std.specs.Ordering.{int_eq}
-use Rattle.sm_theory.specs.Lines.{followed}
+use Rattle.sm_cc.proofs.Imports.{◌≡◌, ◌⊎◌, ℕ, zero, suc, pos, ◌+◌, ◌<◌, ◌≤◌, Bool, true, ◌&&◌, Some, None, Option, List, [], ◌∷◌, ◌++◌, length, slice_get, take, refl, sym, ap, subst, ◌∙◌, ⊎_elim, inl, inr, arith, false≢true, cases_lt, or_left, or_right, length_push, take_all, take-append-le, same_Some, none-some, slice_get_within, int_eq, followed, BaseClasses, Scanned, Board, PlacePairs, rows_pass, one_head, shapes_pass, equal_places, row_brings, ArePlacesClosed, IsSound, are_together, board_of, IsExact, Keyed, Key, first_met, AreFirsts, labels_of, with_labels, row_key, shape_key, alike_at, headed_at, met_at, AreKeyed, over_at, IsBehind, AreRootsSo, seen, alike_in, headed_in, any_two, HaveOneKey, IsKeyNew, IsMetFor, IsLabelOf, IsLabelFor, AreNew, AreLooked}
 use Rattle.sm_cc.specs.declared.log.Known.TheVariants.{Equal}
-use Rattle.sm_cc.specs.declared.ground.BaseClasses.{BaseClasses}
-use Rattle.sm_cc.specs.declared.behind.Scanned.{Scanned}
-use Rattle.sm_cc.specs.Rows.{Board, PlacePairs, rows_pass, one_head, shapes_pass, equal_places, row_brings, ArePlacesClosed, Row}
-use Rattle.sm_cc.specs.Closures.{IsSound, are_together, board_of, Closure, Equation}
-use Rattle.sm_cc.specs.Exact.{IsExact}
-use Rattle.sm_cc.specs.Firsts.{Keyed, Key, first_met, AreFirsts, label_at, labels_of, with_labels, row_key, shape_key, alike_at, headed_at, met_at}
-use Rattle.sm_cc.specs.BaseClasses.{AreBelow, AreKeyed}
-use Rattle.sm_cc.specs.Regrounding.{over_at}
-use Rattle.sm_cc.specs.Scanned.{IsBehind, AreRootsSo, seen, alike_in, headed_in, any_two, HaveOneKey, IsKeyNew, IsMetFor, IsLabelOf, IsLabelFor, AreNew, AreLooked}
+use Rattle.sm_cc.specs.Rows.{Row}
+use Rattle.sm_cc.specs.Closures.{Closure, Equation}
+use Rattle.sm_cc.specs.Firsts.{label_at}
+use Rattle.sm_cc.specs.BaseClasses.{AreBelow}
 use Rattle.sm_cc.proofs.ClosuresLemmas.{roots_of}
 use Rattle.sm_cc.proofs.FirstsLemmas.{firsts_more, met_has, met_still, shapes_bring, rows_bring_headed}
 use Rattle.sm_cc.proofs.FreshLemmas.{IsUnder, kept_behind, brings_pair, closed_before, within_old}

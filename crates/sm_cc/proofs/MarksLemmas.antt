@@ -1,11 +1,9 @@
 -- Marks at what an entry follows from, down to the first entry.
-use Rattle.std.proofs.Common.{◌≡◌, ◌⊎◌, ℕ, zero, suc, ◌+◌, ◌<◌, ◌≤◌, Bool, Some, List, [], ◌∷◌, ◌++◌, length, slice_get, take, get_or, refl, sym, ap, subst, ◌∙◌, ⊎_elim, arith}
-use Rattle.std.proofs.lemmas.List.{take_more}
-use Rattle.std.proofs.lemmas.Option.{slice_get_read, same_Some}
+use Rattle.sm_cc.proofs.Imports.{◌≡◌, ◌⊎◌, ℕ, zero, suc, ◌+◌, ◌<◌, ◌≤◌, Bool, Some, List, [], ◌∷◌, ◌++◌, length, slice_get, take, get_or, refl, sym, ap, subst, ◌∙◌, ⊎_elim, arith, take_more, slice_get_read, same_Some, Placed, SayEqual, Derives, Follows, Before, Rule, Refl, Sym, Subst, Alike, Cong, Why, By, IsSound, placed_of, IsMarked, AreMarked, Marks, AreClosedFrom, numbers_in}
 use Rattle.sm_cc.specs.declared.row.Row.{Row}
-use Rattle.sm_cc.specs.Log.{Placed, SayEqual, Derives, Follows, Before, Known, Equal, Unequal, Rule, Refl, Sym, Trans, Subst, Alike, Apart, Cong, Hit, Miss, Why, Given, By, Entry}
-use Rattle.sm_cc.specs.Closures.{IsSound, placed_of, Closure}
-use Rattle.sm_cc.specs.Steps.{IsMarked, AreMarked, AreBelow, Marks, AreClosedFrom, numbers_of, numbers_in}
+use Rattle.sm_cc.specs.Log.{Known, Equal, Unequal, Trans, Apart, Hit, Miss, Given, Entry}
+use Rattle.sm_cc.specs.Closures.{Closure}
+use Rattle.sm_cc.specs.Steps.{AreBelow, numbers_of}
 
 -- each of these is below a number that is above that one
 pub below_more : (m n : ℕ) (ns : List ℕ) → m ≤ n → AreBelow m ns → AreBelow n ns

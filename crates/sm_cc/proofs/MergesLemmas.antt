@@ -1,12 +1,8 @@
 -- Two classes become one.
-use Rattle.std.proofs.Common.{◌≡◌, ◌⊎◌, ℕ, ◌<◌, ◌==◌, Bool, true, false, if◌then◌else◌, Some, List, slice_get, length, get_or, inl, inr, refl, sym, ap, subst, ◌∙◌, ⊎_elim, arith}
-use Rattle.std.proofs.lemmas.Bool.{eq-eqb}
-use Rattle.std.proofs.lemmas.Option.{slice_get_read, same_Some}
-use Rattle.sm_cc.specs.Closures.{IsSound, AddsEquation, are_together, Closure, Equation}
-use Rattle.sm_cc.specs.Merges.{IsLabel, AddsSome, Bridges, Crosses, relabelled, IsRelabelled, MovesRoots, IsCoarser}
+use Rattle.sm_cc.proofs.Imports.{◌≡◌, ◌⊎◌, ℕ, ◌<◌, ◌==◌, Bool, true, false, if◌then◌else◌, Some, List, slice_get, length, get_or, inl, inr, refl, sym, ap, subst, ◌∙◌, ⊎_elim, arith, eq-eqb, slice_get_read, same_Some, IsSound, AddsEquation, are_together, IsLabel, AddsSome, Bridges, Crosses, relabelled, IsRelabelled, MovesRoots, IsCoarser, get_below}
+use Rattle.sm_cc.specs.Closures.{Closure, Equation}
 use Rattle.sm_cc.proofs.ClosuresLemmas.{grows_on, equation_noted, roots_of}
 use Rattle.sm_cc.proofs.RoundsLemmas.{together_from}
-use Rattle.sm_lemmas.proofs.Lists.{get_below}
 
 -- the root that was read at a place that has a row
 pub root_get : (c : Closure) (i : ℕ) (r : Equation) → IsSound c → i < length c.rows.items → r ≡ get_or c.roots.items i r →

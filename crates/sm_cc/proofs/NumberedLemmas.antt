@@ -1,16 +1,7 @@
 -- Numbers of values in a list that has each once and grows at its end.
-use Rattle.std.proofs.Common.{◌≡◌, ℕ, zero, suc, Bool, true, false, ◌&&◌, List, [], ◌∷◌, ◌++◌, map, Some, slice_get, Decides, refl, sym, ap, ◌∙◌, if◌then◌else◌, true≢false, ℤ, ◌==◌, Vec, Global}
-use Rattle.std.specs.Ordering.{int_eq}
-use Rattle.std.specs.Cmp.Lexicographic.{pointwise}
-use Rattle.std.proofs.lemmas.Bool.Decides.{Decides-eqb, Decides-int_eq}
-use Rattle.std.proofs.lemmas.Slice.Eq.{slice_eq-Decides}
-use Rattle.std.specs.List.{list_any, IsDistinct, AllByRecursion}
+use Rattle.sm_cc.proofs.Imports.{◌≡◌, ℕ, zero, suc, Bool, true, false, ◌&&◌, List, [], ◌∷◌, ◌++◌, map, Some, slice_get, Decides, refl, sym, ap, ◌∙◌, if◌then◌else◌, ℤ, ◌==◌, Vec, Global, int_eq, pointwise, Decides-eqb, Decides-int_eq, slice_eq-Decides, list_any, IsDistinct, AllByRecursion, append-nil, map-append, slice_get-map, IsDistinct-head, IsDistinct-tail, StandApart, IsLonger}
+use Rattle.std.proofs.Common.{true≢false}
 use Rattle.std.specs.Option.{option_map}
-use Rattle.std.proofs.lemmas.List.{append-nil, map-append}
-use Rattle.std.proofs.lemmas.Option.{slice_get-map}
-use Rattle.std.proofs.lemmas.Map.Keys.{IsDistinct-head, IsDistinct-tail}
-use Rattle.sm_cc.specs.Numbered.{StandApart}
-use Rattle.sm_pairs.specs.Longer.{IsLonger}
 
 module _ {K A : Type 0} (eq : K → K → Bool) (f : K → A) (decides : (x y : K) → Decides (eq x y) (f x ≡ f y)) where
   -- keys with one more are longer

@@ -1,18 +1,8 @@
 -- What follows from pairs in one round, as a set.
-use Rattle.std.proofs.Common.{◌≡◌, ◌⊎◌, ℕ, zero, suc, ◌+◌, ◌*◌, Bool, true, false, ◌&&◌, if◌then◌else◌, List, [], ◌∷◌, ◌++◌, map, length, inl, inr, ⊎_elim, refl, sym, ap, subst, ◌∙◌, arith}
-use Rattle.std.specs.List.{filter}
-use Rattle.std.proofs.lemmas.Bool.{and_parts, or_left, or_right, or_cases}
-use Rattle.std.proofs.Math.Path.{fun_ext}
-use Rattle.sm_term.specs.Terms.{Tree}
-use Rattle.sm_term.specs.SameTerms.{same_tree}
-use Rattle.sm_term.proofs.SameTermsLemmas.{same_tree_is}
-use Rattle.sm_theory.specs.TermsOfFormulas.{is_among}
-use Rattle.sm_pairs.specs.Pairs.{Pairs}
-use Rattle.sm_cc.specs.Classes.{Setting}
-use Rattle.sm_cc.specs.Rounds.{pairs_of, is_listed, follows, next_pairs, pairs_after}
+use Rattle.sm_cc.proofs.Imports.{◌≡◌, ◌⊎◌, ℕ, zero, suc, ◌+◌, ◌*◌, Bool, true, false, ◌&&◌, if◌then◌else◌, List, [], ◌∷◌, ◌++◌, map, length, inl, inr, ⊎_elim, refl, sym, ap, subst, ◌∙◌, arith, filter, and_parts, or_left, or_right, or_cases, fun_ext, Tree, same_tree, same_tree_is, is_among, Pairs, Setting, pairs_of, follows, next_pairs, pairs_after, same_tests}
+use Rattle.sm_cc.specs.Rounds.{is_listed}
 use Rattle.sm_cc.proofs.StandingLemmas.{both}
 use Rattle.sm_cc.proofs.IteratedLemmas.{IsIn, rounds}
-use Rattle.sm_lemmas.proofs.Tests.{same_tests}
 
 -- a pair of terms
 abbrev pub Duo : Type 0

@@ -1,20 +1,8 @@
 -- What is given of terms, all at once, is given of their places.
-use Rattle.std.proofs.Common.{◌≡◌, ℕ, suc, Bool, true, false, not, List, [], ◌∷◌, map, slice_get, Some, refl, sym, ap, subst, ◌∙◌, if◌then◌else◌}
-use Rattle.std.specs.List.{filter}
-use Rattle.sm_term.specs.Terms.{Tree}
-use Rattle.sm_term.specs.Assertions.{Assertion, Eq, Ne}
-use Rattle.sm_term.specs.Sorted.{tree_sort}
-use Rattle.sm_term.specs.Tables.{TableValue, trees_in, sorts_in, tree_at}
-use Rattle.sm_term.specs.declared.term.TermId.{TermId}
-use Rattle.sm_theory.specs.Lines.{equal_sides, unequal_sides}
+use Rattle.sm_cc.proofs.Imports.{◌≡◌, ℕ, suc, Bool, true, false, not, List, [], ◌∷◌, map, slice_get, Some, refl, sym, ap, subst, ◌∙◌, if◌then◌else◌, filter, Tree, Assertion, Eq, Ne, tree_sort, TableValue, trees_in, sorts_in, tree_at, TermId, equal_sides, unequal_sides, place_of, RowsStand, with_places, places_given, ArePositions, place_at, Placed, pair_of, fact_of, placed_with, ClassesValue, setting_of, assertion_given, IsOfTwoTerms, AreOfTwoTerms, GivenFact, numbers_where, placed_for, placed_fact, placed_equations, placed_contraries, AreClasses}
 use Rattle.sm_cc.specs.declared.row.Row.{Row}
-use Rattle.sm_cc.specs.Standing.{place_of, RowsStand, with_places, places_given}
-use Rattle.sm_cc.specs.Positions.{ArePositions, place_at, Positions}
-use Rattle.sm_cc.specs.Log.{Placed}
-use Rattle.sm_cc.specs.Closures.{pair_of, fact_of, Given}
-use Rattle.sm_cc.specs.Exact.{placed_with}
-use Rattle.sm_cc.specs.Views.{ClassesValue, setting_of, assertion_given, IsOfTwoTerms, AreOfTwoTerms, GivenFact}
-use Rattle.sm_cc.specs.Assumed.{numbers_where, placed_for, placed_fact, placed_equations, placed_contraries, AreClasses}
+use Rattle.sm_cc.specs.Positions.{Positions}
+use Rattle.sm_cc.specs.Closures.{Given}
 use Rattle.sm_cc.proofs.ClassesLemmas.{placed_alike}
 
 -- the numbers stay

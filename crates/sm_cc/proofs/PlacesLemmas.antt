@@ -1,18 +1,13 @@
 -- Exact classes of places say what is so in each closed set, and stay sound as more is given.
-use Rattle.std.proofs.Common.{◌≡◌, ℕ, ◌<◌, Bool, true, false, Some, None, Option, List, [], ◌∷◌, ◌++◌, length, slice_get, map, is_some, refl, sym, ap, subst, ◌∙◌}
-use Rattle.std.proofs.lemmas.Bool.{false≢true, or_left, or_right}
-use Rattle.std.proofs.lemmas.List.{map_push}
-use Rattle.std.specs.Option.{MatchOption}
+use Rattle.sm_cc.proofs.Imports.{◌≡◌, ℕ, ◌<◌, Bool, true, false, Some, None, Option, List, [], ◌∷◌, ◌++◌, length, slice_get, map, refl, sym, ap, subst, ◌∙◌, false≢true, or_left, or_right, map_push, MatchOption, Witness, PlacePairs, SamePlaces, ApartPlaces, ArePlacesClosed, places_apart, places_differ, Placed, Derives, Follows, Before, Why, By, IsSound, are_together, board_of, placed_of, pair_of, fact_of, Grows, AllRooted, IsWitness, IsDifference, differ_in_form, differ_otherwise, IsExact, with_equal, with_unequal}
+use Rattle.std.proofs.Common.{is_some}
 use Rattle.sm_cc.specs.declared.log.Known.TheVariants as known
 use Rattle.sm_cc.specs.declared.log.Why.TheVariants as why
 use Rattle.sm_cc.specs.declared.witness.Difference.{Difference}
 use Rattle.sm_cc.specs.declared.witness.Difference.TheVariants as difference
-use Rattle.sm_cc.specs.declared.witness.Witness.{Witness}
-use Rattle.sm_cc.specs.Rows.{PlacePairs, SamePlaces, ApartPlaces, ArePlacesClosed, places_apart, places_differ, is_listed, Row}
-use Rattle.sm_cc.specs.Log.{Placed, Derives, Follows, Before, Known, Why, By, Entry}
-use Rattle.sm_cc.specs.Closures.{IsSound, are_together, board_of, placed_of, pair_of, fact_of, Grows, AllRooted, Closure, Given}
-use Rattle.sm_cc.specs.Causes.{IsWitness, IsDifference, differ_in_form, differ_otherwise}
-use Rattle.sm_cc.specs.Exact.{IsExact, with_equal, with_unequal}
+use Rattle.sm_cc.specs.Rows.{is_listed, Row}
+use Rattle.sm_cc.specs.Log.{Known, Entry}
+use Rattle.sm_cc.specs.Closures.{Closure, Given}
 use Rattle.sm_cc.proofs.ClosuresLemmas.{placed_same}
 use Rattle.sm_cc.proofs.LogLemmas.{get_kept}
 use Rattle.sm_cc.proofs.SoundLemmas.{together_so, apart_from, listed_at}

@@ -1,25 +1,7 @@
 -- What the rules bring of terms they bring of the places at which these stand.
-use Rattle.std.proofs.Common.{◌≡◌, ℕ, ◌==◌, ◌<◌, Bool, true, ◌&&◌, List, [], ◌∷◌, map, length, slice_get, Option, Some, None, refl, ap, ◌∙◌, arith}
-use Rattle.std.specs.List.{list_any, range_with_len}
-use Rattle.std.specs.Ordering.{int_eq}
-use Rattle.std.proofs.lemmas.Bool.{and_parts}
-use Rattle.std.proofs.lemmas.Bool.Decides.{Decides-eqb}
-use Rattle.std.proofs.lemmas.Option.{slice_get_within}
-use Rattle.sm_syntax.specs.text.Sorts.{Sorts}
-use Rattle.sm_term.specs.Terms.{Tree, Read}
-use Rattle.sm_term.specs.Assertions.{Assertion}
-use Rattle.sm_term.specs.SameTerms.{same_tree}
-use Rattle.sm_term.specs.Heads.{arguments_of, same_head}
-use Rattle.sm_term.proofs.SameTermsLemmas.{same_tree_is}
-use Rattle.sm_theory.specs.Lines.{followed, equal_sides}
-use Rattle.sm_theory.specs.Elements.{Written, written_in, read_in}
-use Rattle.sm_theory.specs.Arithmetic.{compared_forms}
-use Rattle.sm_pairs.specs.Pairs.{Pairs}
-use Rattle.sm_cc.specs.Classes.{Setting, given_equal, differ, are_apart, equal_lists, if_there, reads_written, brings}
-use Rattle.sm_cc.specs.Rows.{PlacePairs, Board, is_listed, rows_pass, one_head, shapes_pass, places_differ, places_apart, equal_places, row_brings, Row, Element}
-use Rattle.sm_cc.specs.Standing.{place_of, element_of, RowsStand, board_for}
+use Rattle.sm_cc.proofs.Imports.{◌≡◌, ℕ, ◌==◌, ◌<◌, Bool, true, ◌&&◌, List, [], ◌∷◌, map, length, slice_get, Option, Some, None, refl, ap, ◌∙◌, arith, list_any, range_with_len, int_eq, and_parts, Decides-eqb, slice_get_within, Sorts, Tree, Read, Assertion, same_tree, arguments_of, same_head, same_tree_is, followed, equal_sides, Written, written_in, read_in, compared_forms, Pairs, Setting, given_equal, differ, are_apart, equal_lists, if_there, reads_written, brings, PlacePairs, Board, rows_pass, one_head, shapes_pass, places_differ, places_apart, equal_places, row_brings, place_of, element_of, RowsStand, board_for, any_passes_from_place}
+use Rattle.sm_cc.specs.Rows.{is_listed, Row, Element}
 use Rattle.sm_cc.proofs.StandingLemmas.{or_map, and_map, both, any_from, in_range, place_there, row_there, pass, forms_alike, said_of_places, places_differ_alike}
-use Rattle.std.proofs.lemmas.Map.Keys.{any_passes_from_place}
 
 module _ (sorts : Sorts) (terms : List Tree) (given : List Assertion) (rows : List Row) (stand : RowsStand sorts terms rows) where
   abbrev setting : Setting

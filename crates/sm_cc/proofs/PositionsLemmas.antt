@@ -1,29 +1,11 @@
 -- First places in a list that grows at its end, and how numbers of terms tell them.
-use Rattle.std.proofs.Common.{◌≡◌, ℕ, ◌+◌, ◌==◌, ◌<◌, ◌≤◌, zero, suc, nat_eq, Bool, true, false, ◌&&◌, List, [], ◌∷◌, ◌++◌, length, take, get_or, Option, Some, None, unwrap_or, refl, sym, ap, subst, ◌∙◌, if◌then◌else◌, ◌⊎◌, inl, inr}
-use Rattle.std.proofs.Common.{⊎_elim, arith, length-append}
+use Rattle.sm_cc.proofs.Imports.{◌≡◌, ℕ, ◌+◌, ◌==◌, ◌<◌, ◌≤◌, zero, suc, nat_eq, Bool, true, false, ◌&&◌, List, [], ◌∷◌, ◌++◌, length, take, get_or, Option, Some, None, unwrap_or, refl, sym, ap, subst, ◌∙◌, if◌then◌else◌, ◌⊎◌, inl, inr, ⊎_elim, arith, get, ne_eqb, cases_lt, Decides-and, Decides-eqb, map_more, length-map, take_at, get_or_past, slice_get-get_or, Sorts, Code, Tree, Read, same_tree, tree_at, tree_in, IsTermWithin, AreBefore, TermId, Term, AreApart, part_before, tree_at-more, same_tree_is, place_of, IsLonger, first_place, first_or, same_pair, is_read, HasPlaces, HasReads, AreReadsBelow, HasNumber, HavePartsIn, AreNoted, ArePositions}
+use Rattle.std.proofs.Common.{length-append}
 use Rattle.std.specs.Option.{option_map, is_some}
-use Rattle.std.specs.HashMap.{get}
-use Rattle.std.proofs.lemmas.Bool.{ne_eqb, cases_lt}
-use Rattle.std.proofs.lemmas.Bool.Decides.{Decides-and, Decides-eqb}
-use Rattle.std.proofs.lemmas.List.{map_more, length-map, take_at, get_or_past}
-use Rattle.std.proofs.lemmas.Option.{slice_get-get_or}
-use Rattle.sm_syntax.specs.text.Sorts.{Sorts}
-use Rattle.sm_syntax.specs.claim.Syntax.{Code}
 use Rattle.sm_term.specs.declared.term.Term.TheVariants as row
-use Rattle.sm_term.specs.Terms.{Tree, Read}
-use Rattle.sm_term.specs.SameTerms.{same_tree}
-use Rattle.sm_term.specs.Tables.{tree_at, tree_in, IsTermWithin, AreBefore}
-use Rattle.sm_term.specs.declared.term.TermId.{TermId}
-use Rattle.sm_term.specs.declared.term.Term.{Term}
-use Rattle.sm_term.specs.TableLaws.{AreApart}
-use Rattle.sm_term.proofs.TermsLemmas.{part_before}
-use Rattle.sm_term.proofs.TreesLemmas.{tree_at-more}
-use Rattle.sm_term.proofs.SameTermsLemmas.{same_tree_is}
 use Rattle.sm_theory.proofs.SidesLemmas.{numbers_tell}
-use Rattle.sm_cc.specs.Standing.{place_of}
 use Rattle.sm_cc.specs.Views.{trees_of}
-use Rattle.sm_pairs.specs.Longer.{IsLonger}
-use Rattle.sm_cc.specs.Positions.{first_place, first_or, same_pair, is_read, HasPlaces, HasReads, AreReadsBelow, HasNumber, HavePartsIn, AreNoted, ArePositions, Positions}
+use Rattle.sm_cc.specs.Positions.{Positions}
 
 -- the place is that of the first, or the length
 pub place_is_first : (terms : List Tree) (t : Tree) → unwrap_or (first_place terms t) (length terms) ≡ place_of terms t

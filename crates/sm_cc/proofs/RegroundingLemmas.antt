@@ -1,23 +1,12 @@
 -- Classes that begin with others keep the first places that have their keys.
-use Rattle.std.proofs.Common.{◌≡◌, ℕ, pos, ◌<◌, ◌==◌, Bool, true, ◌&&◌, ◌||◌, Some, None, Option, List, [], ◌∷◌, length, slice_get, refl, sym, ap, subst, ◌∙◌, ⊎_elim, arith}
-use Rattle.std.specs.Ordering.{int_eq}
-use Rattle.std.proofs.lemmas.Bool.{or_left, or_right, or_cases}
-use Rattle.std.proofs.lemmas.Option.{same_Some, none-some}
-use Rattle.sm_theory.specs.Lines.{followed}
-use Rattle.sm_cc.specs.declared.ground.BaseClasses.{BaseClasses}
-use Rattle.sm_cc.specs.Classes.{if_there}
-use Rattle.sm_cc.specs.Rows.{is_listed, rows_pass, shapes_pass, one_head, equal_places, places_apart, row_brings, Row}
-use Rattle.sm_cc.specs.Closures.{IsSound, Grows, are_together, board_of, Closure, Equation}
-use Rattle.sm_cc.specs.Exact.{IsExact}
-use Rattle.sm_cc.specs.Settled.{pair_brings}
-use Rattle.sm_cc.specs.Firsts.{Keyed, Key, first_met, AreFirsts, TriesFirsts, KeysBring, label_at, labels_of, with_labels, row_key, shape_key, alike_at, headed_at}
-use Rattle.sm_cc.specs.BaseClasses.{AreBelow, AreInside}
-use Rattle.sm_cc.specs.Growing.{IsCopy, AreKept}
-use Rattle.sm_cc.specs.Regrounding.{met_or, over_at, KeysMeet, MeetsFirst, AreLabelsKept, IsOver}
+use Rattle.sm_cc.proofs.Imports.{◌≡◌, ℕ, pos, ◌<◌, ◌==◌, Bool, true, ◌&&◌, ◌||◌, Some, None, Option, List, [], ◌∷◌, length, slice_get, refl, sym, ap, subst, ◌∙◌, ⊎_elim, arith, int_eq, or_left, or_right, or_cases, same_Some, none-some, followed, BaseClasses, if_there, rows_pass, shapes_pass, one_head, equal_places, places_apart, row_brings, IsSound, Grows, are_together, board_of, IsExact, pair_brings, Keyed, Key, first_met, AreFirsts, TriesFirsts, KeysBring, labels_of, with_labels, row_key, shape_key, alike_at, headed_at, AreInside, IsCopy, AreKept, met_or, over_at, KeysMeet, MeetsFirst, AreLabelsKept, IsOver, get_below}
+use Rattle.sm_cc.specs.Rows.{is_listed, Row}
+use Rattle.sm_cc.specs.Closures.{Closure, Equation}
+use Rattle.sm_cc.specs.Firsts.{label_at}
+use Rattle.sm_cc.specs.BaseClasses.{AreBelow}
 use Rattle.sm_cc.proofs.ClosuresLemmas.{grows_from, roots_of}
 use Rattle.sm_cc.proofs.RoundsLemmas.{together_from}
 use Rattle.sm_cc.proofs.FirstsLemmas.{firsts_more, met_has, met_already}
-use Rattle.sm_lemmas.proofs.Lists.{get_below}
 
 -- one more place is met for its key
 pub meets_first : (key : ℕ → Option Keyed) (equal : ℕ → ℕ → Bool) (bound : ℕ) (old new : Keyed → Option ℕ) (i j : ℕ) (k : Key) →

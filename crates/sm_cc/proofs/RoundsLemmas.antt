@@ -1,13 +1,7 @@
 -- Rounds over pairs of places, until nothing changes.
-use Rattle.std.proofs.Common.{◌≡◌, ℕ, ◌+◌, ◌<◌, ◌==◌, true, Some, Option, length, List, slice_get, refl, sym, ap, subst, ◌∙◌, arith, below_more}
-use Rattle.std.proofs.lemmas.Option.{same_Some}
-use Rattle.std.proofs.lemmas.Bool.{eq-eqb}
-use Rattle.sm_cc.specs.Classes.{if_there}
-use Rattle.sm_cc.specs.Rows.{ArePlacesClosed}
-use Rattle.sm_cc.specs.Closures.{IsSound, are_together, board_of, Closure, Equation}
-use Rattle.sm_cc.specs.Settled.{Tries, AreSettled}
+use Rattle.sm_cc.proofs.Imports.{◌≡◌, ℕ, ◌+◌, ◌<◌, ◌==◌, true, Some, Option, length, List, slice_get, refl, sym, ap, subst, ◌∙◌, arith, below_more, same_Some, eq-eqb, if_there, ArePlacesClosed, IsSound, are_together, board_of, Tries, AreSettled, get_below}
+use Rattle.sm_cc.specs.Closures.{Closure, Equation}
 use Rattle.sm_cc.proofs.ClosuresLemmas.{grows_on, roots_of}
-use Rattle.sm_lemmas.proofs.Lists.{get_below}
 
 -- one more is tried
 pub tries_more : (P : ℕ → Closure → Type 0) (k : ℕ) (a b c : Closure) → Tries (λ (d : Closure). (m : ℕ) → m < k → P m d) a b →

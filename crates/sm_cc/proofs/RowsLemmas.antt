@@ -1,34 +1,10 @@
 -- Rows of single terms stand together for the terms.
-use Rattle.std.proofs.Common.{◌≡◌, ℕ, ℤ, ◌==◌, ◌+◌, ◌≤◌, nat_eq, Bool, true, false, ◌&&◌, List, [], ◌∷◌, ◌++◌, map, length, slice_get, Option, Some, None, Decides, refl, sym, ap, ◌∙◌, subst, ⊎_elim, ◌⊎◌}
-use Rattle.std.specs.Cmp.Lexicographic.{pointwise}
-use Rattle.std.proofs.lemmas.Bool.Decides.{Decides-and, Decides-eqb, same_from_decides}
-use Rattle.std.proofs.lemmas.Slice.Eq.{bytes_eq-Decides}
-use Rattle.sm_syntax.specs.text.Sorts.{Sorts}
+use Rattle.sm_cc.proofs.Imports.{◌≡◌, ℕ, ℤ, ◌==◌, ◌+◌, ◌≤◌, nat_eq, Bool, true, false, ◌&&◌, List, [], ◌∷◌, ◌++◌, map, length, slice_get, Option, Some, None, Decides, refl, sym, ap, ◌∙◌, subst, ⊎_elim, ◌⊎◌, pointwise, Decides-and, Decides-eqb, same_from_decides, bytes_eq-Decides, Sorts, names_in_list, same_numbers, Contents, same_numbers-Decides, Tree, same_head, arguments_of, TableValue, trees_in, sorts_in, codes_in, tree_at, AreBefore, TermId, Term, AreCodesApart, linear_of, is_numeric, same_parts, compared_forms, same_parts_stand, Shape, if_there, one_head, place_of, RowsStand, StandApart, head_of, IsHeadAt, IsShapeAt, heads_met, parts_met, IsLonger, place_at, ArePositions, HasTree, IsRowOf, IsFurther, AreRowsFrom, Numbering, slice_get-longer, longer_twice, get_pushed}
 use Rattle.sm_term.specs.declared.term.Term.TheVariants as row
-use Rattle.sm_term.specs.Rows.{names_in_list, same_numbers}
-use Rattle.sm_term.specs.RowLaws.{Contents, same_numbers-Decides}
-use Rattle.sm_term.specs.Terms.{Tree}
-use Rattle.sm_term.specs.Heads.{same_head, arguments_of}
-use Rattle.sm_term.specs.Tables.{TableValue, trees_in, sorts_in, codes_in, tree_at, AreBefore}
-use Rattle.sm_term.specs.declared.term.TermId.{TermId}
-use Rattle.sm_term.specs.declared.term.Term.{Term}
-use Rattle.sm_term.specs.TableLaws.{AreCodesApart}
-use Rattle.sm_theory.specs.LinearTerms.{linear_of}
-use Rattle.sm_theory.specs.Arithmetic.{is_numeric, same_parts, compared_forms}
-use Rattle.sm_theory.proofs.LinearLater.{same_parts_stand}
 use Rattle.sm_euf.specs.Arguments.{argument_numbers, have_one_head, trees_of}
 use Rattle.sm_euf.proofs.ArgumentsLemmas.{trees_have_one_head, arguments_are, parts_before}
-use Rattle.sm_cc.specs.declared.row.Shape.{Shape}
-use Rattle.sm_cc.specs.Classes.{if_there}
-use Rattle.sm_cc.specs.Rows.{one_head, Row}
-use Rattle.sm_cc.specs.Standing.{place_of, RowsStand}
-use Rattle.sm_cc.specs.Numbered.{StandApart, head_of, IsHeadAt, IsShapeAt, heads_met, parts_met}
-use Rattle.sm_pairs.specs.Longer.{IsLonger}
-use Rattle.sm_cc.specs.Positions.{place_at, ArePositions, Positions}
-use Rattle.sm_cc.specs.RowOf.{HasTree, IsRowOf, IsFurther, AreRowsFrom}
-use Rattle.sm_cc.specs.declared.ground.Numbering.{Numbering}
-use Rattle.sm_pairs.proofs.LongerLemmas.{slice_get-longer, longer_twice}
-use Rattle.sm_lemmas.proofs.Lists.{get_pushed}
+use Rattle.sm_cc.specs.Rows.{Row}
+use Rattle.sm_cc.specs.Positions.{Positions}
 
 -- whether two heads hold the same
 same_heads : Option Contents → Option Contents → Bool

@@ -1,16 +1,9 @@
 -- Where the given pairs, the elements and the pairs of rows are settled, all is.
-use Rattle.std.proofs.Common.{◌≡◌, ◌⊎◌, ℕ, suc, ◌<◌, ◌==◌, Bool, true, ◌&&◌, ◌||◌, Some, None, Option, List, [], ◌∷◌, length, map, slice_get, refl, sym, subst, ◌∙◌, ⊎_elim, arith}
-use Rattle.std.proofs.lemmas.Bool.{false≢true, eqb-true, eq-eqb, and_parts, and_from, or_left, or_right, or_cases, cases_order}
-use Rattle.std.proofs.lemmas.Cmp.{int_eq_equiv}
-use Rattle.std.specs.Ordering.{int_eq}
-use Rattle.sm_cc.specs.declared.row.Shape.{Shape}
-use Rattle.sm_cc.specs.Classes.{if_there}
-use Rattle.sm_cc.specs.Rows.{Board, PlacePairs, is_listed, rows_pass, one_head, shapes_pass, equal_places, places_apart, Row, Element}
-use Rattle.sm_cc.specs.Closures.{IsSound, are_together, board_of, pair_of, Closure, Equation, Given}
-use Rattle.sm_cc.specs.Settled.{IsSettledThere, AreGivenSettled, AreElementsSettled, pair_brings, ArePairSettled, AllPairsSettled, AreSettled}
+use Rattle.sm_cc.proofs.Imports.{◌≡◌, ◌⊎◌, ℕ, suc, ◌<◌, ◌==◌, Bool, true, ◌&&◌, ◌||◌, Some, None, Option, List, [], ◌∷◌, length, map, slice_get, refl, sym, subst, ◌∙◌, ⊎_elim, arith, false≢true, eqb-true, eq-eqb, and_parts, and_from, or_left, or_right, or_cases, cases_order, int_eq_equiv, int_eq, Shape, if_there, Board, PlacePairs, rows_pass, one_head, shapes_pass, equal_places, places_apart, IsSound, are_together, board_of, pair_of, IsSettledThere, AreGivenSettled, AreElementsSettled, pair_brings, ArePairSettled, AllPairsSettled, AreSettled, get_below}
+use Rattle.sm_cc.specs.Rows.{is_listed, Row, Element}
+use Rattle.sm_cc.specs.Closures.{Closure, Equation, Given}
 use Rattle.sm_cc.proofs.ClosuresLemmas.{roots_of}
 use Rattle.sm_cc.proofs.RoundsLemmas.{together_from}
-use Rattle.sm_lemmas.proofs.Lists.{get_below}
 
 -- a listed pair was given
 listed_out : (list : List Given) (i j : ℕ) → is_listed (map pair_of list) i j ≡ true →

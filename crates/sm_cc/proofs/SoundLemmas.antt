@@ -1,18 +1,10 @@
 -- What a sound log says is in each closed set of pairs.
-use Rattle.std.proofs.Common.{◌≡◌, ◌⊎◌, ℕ, zero, suc, ℤ, ◌+◌, ◌<◌, ◌≤◌, ◌==◌, Bool, true, ◌&&◌, ◌||◌, not, Some, None, Option, List, [], ◌∷◌, length, slice_get, refl, sym, ap, subst, ◌∙◌, ⊎_elim, arith}
-use Rattle.std.proofs.lemmas.Bool.{false≢true, eqb-true, eq-eqb, and_parts, and_from, or_left, or_right, or_cases}
-use Rattle.std.proofs.lemmas.Cmp.{int_eq_equiv}
-use Rattle.std.proofs.lemmas.Option.{slice_get_within, same_Some}
-use Rattle.std.specs.List.{list_any, range_with_len}
-use Rattle.std.specs.Ordering.{int_eq}
-use Rattle.sm_cc.specs.declared.row.Shape.{Shape}
-use Rattle.sm_cc.specs.Classes.{if_there}
-use Rattle.sm_cc.specs.Rows.{Board, PlacePairs, is_listed, rows_pass, one_head, shapes_pass, places_differ, places_apart, equal_places, row_brings, ArePlacesClosed, Row, Element}
-use Rattle.sm_cc.specs.Log.{Placed, SayEqual, Derives, Follows, known_at, Before, AllFollow, Known, Equal, Unequal, Rule, Refl, Sym, Trans, Subst, Alike, Apart, Cong, Hit, Miss, Why, Given, By, Entry}
-use Rattle.sm_cc.specs.Closures.{IsSound, are_together, board_of, placed_of, Closure}
+use Rattle.sm_cc.proofs.Imports.{◌≡◌, ◌⊎◌, ℕ, zero, suc, ℤ, ◌+◌, ◌<◌, ◌≤◌, ◌==◌, Bool, true, ◌&&◌, ◌||◌, not, Some, None, Option, List, [], ◌∷◌, length, slice_get, refl, sym, ap, subst, ◌∙◌, ⊎_elim, arith, false≢true, eqb-true, eq-eqb, and_parts, and_from, or_left, or_right, or_cases, int_eq_equiv, slice_get_within, same_Some, list_any, range_with_len, int_eq, Shape, if_there, Board, PlacePairs, rows_pass, one_head, shapes_pass, places_differ, places_apart, equal_places, row_brings, ArePlacesClosed, Placed, SayEqual, Derives, Follows, known_at, Before, AllFollow, Rule, Refl, Sym, Subst, Alike, Cong, Why, By, IsSound, are_together, board_of, placed_of, get_below}
+use Rattle.sm_cc.specs.Rows.{is_listed, Row, Element}
+use Rattle.sm_cc.specs.Log.{Known, Equal, Unequal, Trans, Apart, Hit, Miss, Given, Entry}
+use Rattle.sm_cc.specs.Closures.{Closure}
 use Rattle.sm_cc.proofs.ClosuresLemmas.{roots_of}
 use Rattle.sm_cc.proofs.LogLemmas.{known_within}
-use Rattle.sm_lemmas.proofs.Lists.{get_below}
 
 -- a fact is so by a set of pairs
 abbrev pub IsSo : Board → PlacePairs → Known → Type 0

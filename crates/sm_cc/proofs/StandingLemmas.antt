@@ -1,24 +1,7 @@
 -- Where rows stand for terms: what is given of terms, and how they differ, by their places.
-use Rattle.std.proofs.Common.{◌≡◌, ℕ, ℤ, ◌==◌, ◌<◌, zero, suc, Bool, true, false, ◌&&◌, ◌||◌, not, List, [], ◌∷◌, length, slice_get, Option, Some, None, refl, sym, ap, ◌∙◌, arith, if◌then◌else◌, zero-add}
-use Rattle.std.specs.List.{list_any, range_with_len}
-use Rattle.std.specs.Ordering.{int_eq}
-use Rattle.std.proofs.lemmas.Bool.{eqb-true}
-use Rattle.std.proofs.lemmas.Bool.Decides.{Decides-eqb}
+use Rattle.sm_cc.proofs.Imports.{◌≡◌, ℕ, ℤ, ◌==◌, ◌<◌, zero, suc, Bool, true, false, ◌&&◌, ◌||◌, not, List, [], ◌∷◌, length, slice_get, Option, Some, None, refl, sym, ap, ◌∙◌, arith, if◌then◌else◌, zero-add, list_any, range_with_len, int_eq, eqb-true, Decides-eqb, slice_get-get_or, slice_get_within, Sorts, Tree, Assertion, same_tree, same_tree_is, Sides, unequal_sides, says_equal, compared_forms, Setting, given_unequal, differ, if_there, is_among, Board, rows_pass, shapes_pass, places_differ, place_of, RowsStand, with_places, places_given, board_for, one_thing}
 use Rattle.std.proofs.lemmas.List.FromFn.{get_or-range_with_len, length-range_with_len}
-use Rattle.std.proofs.lemmas.Option.{slice_get-get_or, slice_get_within}
-use Rattle.sm_syntax.specs.text.Sorts.{Sorts}
-use Rattle.sm_term.specs.Terms.{Tree}
-use Rattle.sm_term.specs.Assertions.{Assertion}
-use Rattle.sm_term.specs.SameTerms.{same_tree}
-use Rattle.sm_term.proofs.SameTermsLemmas.{same_tree_is}
-use Rattle.sm_theory.specs.Lines.{Sides, unequal_sides}
-use Rattle.sm_theory.specs.Equality.{says_equal}
-use Rattle.sm_theory.specs.Arithmetic.{compared_forms}
-use Rattle.sm_cc.specs.Classes.{Setting, given_unequal, differ, if_there}
-use Rattle.sm_theory.specs.TermsOfFormulas.{is_among}
-use Rattle.sm_cc.specs.Rows.{Board, is_listed, rows_pass, shapes_pass, places_differ, Row}
-use Rattle.sm_cc.specs.Standing.{place_of, RowsStand, with_places, places_given, board_for}
-use Rattle.sm_lemmas.proofs.Lists.{one_thing}
+use Rattle.sm_cc.specs.Rows.{is_listed, Row}
 
 -- tests of which each part is passed where another is
 pub or_map : (a c : Bool) {b d : Bool} → (a ≡ true → c ≡ true) → (b ≡ true → d ≡ true) → (a || b) ≡ true → (c || d) ≡ true

@@ -1,23 +1,8 @@
 -- The lines of steps add their facts one after the other.
-use Rattle.std.proofs.Common.{◌≡◌, ℕ, ◌<◌, ◌+◌, List, [], ◌∷◌, ◌++◌, map, length, slice_get, Option, Some, refl, sym, ap, ◌∙◌, subst, arith, ◌⊎◌, ⊎_elim}
+use Rattle.sm_cc.proofs.Imports.{◌≡◌, ℕ, ◌<◌, ◌+◌, List, [], ◌∷◌, ◌++◌, map, length, slice_get, Option, Some, refl, sym, ap, ◌∙◌, subst, arith, ◌⊎◌, ⊎_elim, append-nil, map-append, slice_get-map, Sorts, Tree, IsSorted, BranchFact, CertificateLine, followed, adds, Step, Placed, IsGiven, IsStated, StepsFollow, step_says, RowsStand, added_by, line_of, known_fact, IsOfTerms, slice_get-longer, get_below, get_in_second, together, get_pushed, one_thing}
 use Rattle.std.specs.Option.{option_map}
-use Rattle.std.proofs.lemmas.List.{append-nil, map-append}
-use Rattle.std.proofs.lemmas.Option.{slice_get-map}
-use Rattle.sm_syntax.specs.text.Sorts.{Sorts}
-use Rattle.sm_term.specs.Terms.{Tree}
-use Rattle.sm_term.specs.Sorted.{IsSorted}
-use Rattle.sm_theory.specs.Facts.{BranchFact}
-use Rattle.sm_theory.specs.Lines.{CertificateLine, followed}
-use Rattle.sm_theory.specs.Ways.{adds}
-use Rattle.sm_cc.specs.declared.log.Step.{Step}
-use Rattle.sm_cc.specs.Log.{Placed, Known}
-use Rattle.sm_cc.specs.Steps.{IsGiven, IsStated, StepsFollow, step_says}
-use Rattle.sm_cc.specs.Standing.{RowsStand}
-use Rattle.sm_cc.specs.Explained.{added_by}
-use Rattle.sm_cc.specs.Explaining.{line_of, known_fact, IsOfTerms}
-use Rattle.sm_pairs.proofs.LongerLemmas.{slice_get-longer}
+use Rattle.sm_cc.specs.Log.{Known}
 use Rattle.sm_cc.proofs.ExplainingLemmas.{rule_adds}
-use Rattle.sm_lemmas.proofs.Lists.{get_below, get_in_second, together, get_pushed, one_thing}
 
 -- the first behind a list
 pub first_behind : {A : Type 0} (xs : List A) (y : A) (ys : List A) → slice_get (xs ++ y ∷ ys) (length xs) ≡ Some y

@@ -1,29 +1,10 @@
 -- Where rows stand for terms, two terms are in one class exactly where their places are, and known
 -- apart exactly where these are.
-use Rattle.std.proofs.Common.{◌≡◌, ◌↔◌, ℕ, ◌==◌, ◌<◌, Bool, true, ◌&&◌, List, [], ◌∷◌, map, length, slice_get, Option, Some, None, refl, sym, ap, ◌∙◌, subst, arith}
-use Rattle.std.specs.List.{list_any, range_with_len}
-use Rattle.std.specs.Ordering.{int_eq}
-use Rattle.std.proofs.lemmas.Bool.{eqb-true, and_parts}
-use Rattle.std.proofs.lemmas.Option.{slice_get_within}
-use Rattle.sm_syntax.specs.text.Sorts.{Sorts}
-use Rattle.sm_term.specs.Terms.{Tree, Read}
-use Rattle.sm_term.specs.Assertions.{Assertion}
-use Rattle.sm_term.specs.SameTerms.{same_tree}
-use Rattle.sm_term.specs.Heads.{arguments_of, same_head}
-use Rattle.sm_term.proofs.SameTermsLemmas.{same_tree_is}
-use Rattle.sm_theory.specs.Lines.{followed, equal_sides}
-use Rattle.sm_theory.specs.Elements.{Written, written_in, read_in}
-use Rattle.sm_theory.specs.Arithmetic.{compared_forms}
-use Rattle.sm_theory.specs.TermsOfFormulas.{is_among}
-use Rattle.sm_pairs.specs.Pairs.{Pairs}
-use Rattle.sm_cc.specs.Classes.{Setting, given_equal, differ, are_apart, equal_lists, if_there, reads_written, brings, AreClosed, Same, Apart}
-use Rattle.sm_cc.specs.Rows.{PlacePairs, Board, is_listed, rows_pass, one_head, shapes_pass, places_differ, places_apart, equal_places, row_brings, ArePlacesClosed, SamePlaces, ApartPlaces, Row, Element}
-use Rattle.sm_cc.specs.Standing.{place_of, element_of, RowsStand, board_for}
+use Rattle.sm_cc.proofs.Imports.{◌≡◌, ◌↔◌, ℕ, ◌==◌, ◌<◌, Bool, true, ◌&&◌, List, [], ◌∷◌, map, length, slice_get, Option, Some, None, refl, sym, ap, ◌∙◌, subst, arith, list_any, range_with_len, int_eq, eqb-true, and_parts, slice_get_within, Sorts, Tree, Read, Assertion, same_tree, arguments_of, same_head, same_tree_is, followed, equal_sides, Written, written_in, read_in, compared_forms, is_among, Pairs, Setting, given_equal, differ, are_apart, equal_lists, if_there, reads_written, brings, AreClosed, Same, PlacePairs, Board, rows_pass, one_head, shapes_pass, places_differ, places_apart, equal_places, row_brings, ArePlacesClosed, SamePlaces, ApartPlaces, place_of, element_of, RowsStand, board_for, there_among, one_thing, any_passes_from_place}
+use Rattle.sm_cc.specs.Classes.{Apart}
+use Rattle.sm_cc.specs.Rows.{is_listed, Row, Element}
 use Rattle.sm_cc.proofs.StandingLemmas.{or_map, and_map, both, any_from, term_there, place_found, among_there, row_there, pass, forms_alike, said_of_terms, differ_alike}
-use Rattle.sm_pairs.proofs.AmongLemmas.{there_among}
 use Rattle.sm_cc.proofs.PlacesOfTerms.{apart_of_places, brings_of_places}
-use Rattle.sm_lemmas.proofs.Lists.{one_thing}
-use Rattle.std.proofs.lemmas.Map.Keys.{any_passes_from_place}
 
 module _ (sorts : Sorts) (terms : List Tree) (given : List Assertion) (rows : List Row) (stand : RowsStand sorts terms rows) where
   abbrev setting : Setting

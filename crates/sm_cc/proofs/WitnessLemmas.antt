@@ -1,17 +1,11 @@
 -- Where two places are apart: a contrary was given of their classes, or one of their forms has a constant.
-use Rattle.std.proofs.Common.{◌≡◌, ℕ, ℤ, pos, ◌<◌, ◌==◌, Bool, true, false, ◌&&◌, ◌||◌, not, Option, Some, None, List, length, slice_get, map, refl, sym, ap, ◌∙◌, ⊎_elim, arith}
-use Rattle.std.proofs.lemmas.Bool.{true≢false, eqb-true, and_parts, and_from, or_left, or_right, or_cases, false_from_ne_true}
-use Rattle.std.specs.List.{list_any}
-use Rattle.std.specs.Ordering.{int_eq}
-use Rattle.sm_cc.specs.declared.row.Shape.{Shape}
-use Rattle.sm_cc.specs.Classes.{if_there}
-use Rattle.sm_cc.specs.Rows.{PlacePairs, is_listed, rows_pass, shapes_pass, places_apart, Row}
-use Rattle.sm_cc.specs.Closures.{pair_of, board_of, are_together, Closure, Given}
-use Rattle.sm_cc.specs.Causes.{is_between, are_given_apart, has_constant, is_constant_of, have_constant, may_be_apart}
+use Rattle.sm_cc.proofs.Imports.{◌≡◌, ℕ, ℤ, pos, ◌<◌, ◌==◌, Bool, true, false, ◌&&◌, ◌||◌, not, Option, Some, None, List, length, slice_get, map, refl, sym, ap, ◌∙◌, ⊎_elim, arith, eqb-true, and_parts, and_from, or_left, or_right, or_cases, false_from_ne_true, list_any, int_eq, Shape, if_there, PlacePairs, rows_pass, shapes_pass, places_apart, pair_of, board_of, are_together, is_between, are_given_apart, has_constant, is_constant_of, have_constant, may_be_apart, any_passes_from_place}
+use Rattle.std.proofs.lemmas.Bool.{true≢false}
+use Rattle.sm_cc.specs.Rows.{is_listed, Row}
+use Rattle.sm_cc.specs.Closures.{Closure, Given}
 use Rattle.sm_cc.proofs.CausesLemmas.{is_pair, is_listed-map}
 use Rattle.sm_cc.proofs.SoundLemmas.{any_in, parts_of}
 use Rattle.sm_cc.proofs.StandingLemmas.{any_from}
-use Rattle.std.proofs.lemmas.Map.Keys.{any_passes_from_place}
 
 -- a listed pair of places of two classes is between these
 given_between : (equal : PlacePairs) (list : List Given) (p q i j : ℕ) → equal p i ≡ true → equal q j ≡ true →

@@ -1,8 +1,7 @@
 -- The laws of certificates over equality, arithmetic and arrays.
-use Rattle.sm_theory.specs.Ways.{adds}
+use Rattle.sm_cert.proofs.Imports.{adds, adds_hold, adds_sorted, adds_anywhere}
 use Rattle.sm_theory.proofs.ArithmeticSound.{arithmetic_holds}
 use Rattle.sm_theory.proofs.ArithmeticKept.{arithmetic_sorted, arithmetic_moves}
-use Rattle.sm_theory.proofs.TheoriesLemmas.{adds_hold, adds_sorted, adds_anywhere}
 use Rattle.sm_cert.specs.Laws.{ClosedIsContradictory, ClosesMoved}
 use Rattle.sm_cert.proofs.CertificateSound.{closes}
 use Rattle.sm_cert.proofs.CertificateMoves.{refused_moves}

@@ -1,18 +1,10 @@
 -- A certificate closes each other branch on which the facts of its own stand.
-use Rattle.std.proofs.Common.{◌≡◌, ◌⊎◌, ◌<◌, ℕ, suc, ◌+◌, ◌-◌, Bool, true, false, nat_lt, if◌then◌else◌, slice_get, Option, Some, None, List, [], ◌∷◌, ◌++◌, length, inl, inr, refl, ap, sym, ◌∙◌, subst, arith}
+use Rattle.sm_cert.proofs.Imports.{◌≡◌, ◌⊎◌, ◌<◌, ℕ, suc, ◌+◌, ◌-◌, Bool, true, false, nat_lt, if◌then◌else◌, slice_get, Some, None, List, [], ◌∷◌, ◌++◌, length, inl, inr, refl, ap, sym, ◌∙◌, subst, arith, length-append, ltb-true, lt-ltb, Sorts, BranchFact, CertificateLine, Both, Either, Cases, Order, Refl, Sym, Trans, Subst, Cong, Same, Apart, Hit, Miss, Lin, Elim, Tight, Exact, Close, Clash, or_other, Ways, ways_with, ways_with_move, Certificate, Next, Closed, Split, lines_in, splits_above, in_one_way, in_no_way, in_two_ways, Theories, first_bad, TooManySplits, bad_line, refused}
+use Rattle.std.proofs.Common.{Option}
 use Rattle.std.proofs.lemmas.Option.{slice_get_within}
-use Rattle.std.proofs.lemmas.List.{length-append}
-use Rattle.std.proofs.lemmas.Bool.{ltb-true, lt-ltb}
-use Rattle.sm_syntax.specs.text.Sorts.{Sorts}
-use Rattle.sm_theory.specs.Facts.{BranchFact}
-use Rattle.sm_theory.specs.Lines.{CertificateLine, Both, Either, Cases, Order, Refl, Sym, Trans, Subst, Cong, Same, Apart, Hit, Miss, Lin, Elim, Tight, Exact, Close, Clash}
-use Rattle.sm_theory.specs.Equality.{or_other}
-use Rattle.sm_theory.specs.Ways.{Ways, ways_with}
 use Rattle.sm_theory.specs.Named.{reads_all}
 use Rattle.sm_theory.specs.Moved.{moved_line, StandAmong, ReadsAlike}
 use Rattle.sm_theory.proofs.FactsLemmas.{among_alike}
-use Rattle.sm_theory.proofs.WaysLemmas.{ways_with_move}
-use Rattle.sm_cert.specs.Certificates.{Certificate, Next, Closed, Split, lines_in, splits_above, in_one_way, in_no_way, in_two_ways, Theories, first_bad, TooManySplits, bad_line, refused}
 use Rattle.sm_cert.specs.MovedTrees.{moved_certificate, NamesWhatItReads, moved_past}
 use Rattle.sm_lemmas.proofs.Lists.{get_in_first, get_in_either, get_in_second}
 

@@ -1,17 +1,8 @@
 -- A certificate that closes a branch shows that the facts of the branch can't all hold.
-use Rattle.std.proofs.Common.{◌≡◌, ℕ, suc, ◌+◌, Bool, true, false, nat_lt, if◌then◌else◌, Option, Some, None, List, [], ◌∷◌, ◌++◌, refl}
-use Rattle.sm_syntax.specs.text.Sorts.{Sorts}
+use Rattle.sm_cert.proofs.Imports.{◌≡◌, ℕ, suc, ◌+◌, Bool, true, false, nat_lt, if◌then◌else◌, Some, None, List, [], ◌∷◌, ◌++◌, refl, Sorts, BranchFact, IsFact, AreFacts, IsContradictory, CertificateLine, or_other, Ways, ways_with, IsFactSorted, AreFactsSorted, IsLineSorted, NoWayHolds, EachWay, ways_with_sorted, Certificate, Next, Closed, Split, lines_in, splits_above, in_one_way, in_no_way, in_two_ways, Theories, first_bad, TooManySplits, bad_line, refused, IsCertificateSorted}
+use Rattle.std.proofs.Common.{Option}
 use Rattle.sm_term.specs.Structures.{Structure}
-use Rattle.sm_theory.specs.Facts.{BranchFact, IsFact, AreFacts, IsContradictory}
-use Rattle.sm_theory.specs.Lines.{CertificateLine}
-use Rattle.sm_theory.specs.Equality.{or_other}
-use Rattle.sm_theory.specs.Ways.{Ways, ways_with}
-use Rattle.sm_theory.specs.SortedFacts.{IsFactSorted, AreFactsSorted, IsLineSorted}
-use Rattle.sm_theory.specs.Laws.{NoWayHolds, EachWay}
 use Rattle.sm_theory.proofs.WaysSound.{some_way_with_holds}
-use Rattle.sm_theory.proofs.WaysLemmas.{ways_with_sorted}
-use Rattle.sm_cert.specs.Certificates.{Certificate, Next, Closed, Split, lines_in, splits_above, in_one_way, in_no_way, in_two_ways, Theories, first_bad, TooManySplits, bad_line, refused}
-use Rattle.sm_cert.specs.NamedTerms.{IsCertificateSorted}
 use Rattle.sm_cert.proofs.CertificateMoves.{parts_none}
 
 -- facts of which both parts hold

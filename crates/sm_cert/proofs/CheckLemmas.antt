@@ -1,32 +1,10 @@
 -- Certificates of the program by their lines, and branches by what lines lead to.
-use Rattle.std.proofs.Common.{◌≡◌, ◌<◌, ◌≤◌, ◌+◌, ◌-◌, ℕ, zero, suc, max, nat_lt, Bool, true, false, get_or, Some, None, List, [], ◌∷◌, ◌++◌, length, drop, take, refl, ap, sym, ◌∙◌, arith}
-use Rattle.std.specs.Prelude.{Box}
-use Rattle.std.specs.declared.alloc.Global.{Global}
-use Rattle.std.proofs.lemmas.List.{length-append, drop_more, take_more}
-use Rattle.std.proofs.lemmas.Bool.{ltb-true, ltb-false, lt-ltb}
-use Rattle.sm_syntax.specs.text.Sorts.{Sorts}
-use Rattle.sm_term.specs.Terms.{Tree}
-use Rattle.sm_term.specs.TableLaws.{AreTreesSorted}
+use Rattle.sm_cert.proofs.Imports.{◌≡◌, ◌<◌, ◌≤◌, ◌+◌, ◌-◌, ℕ, zero, suc, max, nat_lt, Bool, true, false, get_or, Some, None, List, [], ◌∷◌, ◌++◌, length, drop, take, refl, ap, sym, ◌∙◌, arith, Box, Global, length-append, drop_more, take_more, ltb-true, ltb-false, lt-ltb, Sorts, Tree, AreTreesSorted, tree_at, BranchFact, AreFactsSorted, IsLineSorted, TheoryAdds, AddsWhatHolds, AddsWhatIsSorted, line_in, IsLineWithin, AllStand, numbered_line, CertLine, Fact, Ways, ways_with, ways_with_sorted, one_of, one_of_holds, one_of_sorted, Certificate, Next, Closed, Split, splits_above, in_one_way, Theories, first_of_three, first_bad, bad_line, lines_before, tree_layer, end_layer, certificate_in, end_lines, tree_lines, lines_of, AreLinesWithin, FaultTells, CertTree, fold_out-CertTree, CertEnd, fold-CertEnd, fold-roll-CertEnd, rolls-Close, rolls-Split, GoesOn, line_number, Arrives}
 use Rattle.sm_term.specs.Sorted.{IsSorted}
-use Rattle.sm_term.specs.Tables.{tree_at}
-use Rattle.sm_theory.specs.Facts.{BranchFact}
-use Rattle.sm_theory.specs.SortedFacts.{AreFactsSorted, IsLineSorted}
-use Rattle.sm_theory.specs.Laws.{TheoryAdds, AddsWhatHolds, AddsWhatIsSorted}
-use Rattle.sm_theory.specs.Views.{line_in, IsLineWithin, AllStand, numbered_line}
-use Rattle.sm_theory.specs.declared.line.CertLine.{CertLine}
-use Rattle.sm_theory.specs.declared.fact.Fact.{Fact}
 use Rattle.sm_theory.proofs.LinesOver.{each_with, each_more}
-use Rattle.sm_theory.specs.Ways.{Ways, ways_with}
-use Rattle.sm_theory.proofs.WaysLemmas.{ways_with_sorted}
-use Rattle.sm_theory.proofs.TheoriesLemmas.{one_of, one_of_holds, one_of_sorted}
 use Rattle.sm_cert.specs.declared.tree.CertEnd.TheOpen as layer
 use Rattle.sm_cert.specs.declared.tree.CertEnd.TheVariants as ends
 use Rattle.sm_cert.specs.declared.error.CertFault.TheVariants as fault
-use Rattle.sm_cert.specs.Certificates.{Certificate, Next, Closed, Split, splits_above, in_one_way, Theories, first_of_three, first_bad, bad_line}
-use Rattle.sm_cert.specs.Views.{lines_before, tree_layer, end_layer, certificate_in, end_lines, tree_lines, lines_of, AreLinesWithin, FaultTells, CertTree, fold_out-CertTree, CertEnd, fold-CertEnd, fold-roll-CertEnd, rolls-Close}
-use Rattle.sm_cert.specs.Views.{rolls-Split}
-use Rattle.sm_cert.specs.Ways.{GoesOn}
-use Rattle.sm_cert.specs.Check.{line_number, Arrives}
 use Rattle.sm_cert.proofs.CertificateSound.{AreSound, sorted_append}
 
 -- the certificate of an end

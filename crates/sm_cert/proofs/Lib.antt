@@ -1,3 +1,4 @@
+mod Imports
 pub mod CertificateSound
 pub mod CertificateMoves
 pub mod CertificateLaws

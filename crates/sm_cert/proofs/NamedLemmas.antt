@@ -1,16 +1,6 @@
 -- The terms of a certificate whose lines name terms of a table are sorted.
-use Rattle.std.proofs.Common.{◌≡◌, ℕ, List, [], ◌∷◌, ◌++◌, length, sym, subst}
-use Rattle.std.specs.Prelude.{Box}
-use Rattle.std.specs.declared.alloc.Global.{Global}
-use Rattle.sm_syntax.specs.text.Sorts.{Sorts}
-use Rattle.sm_term.specs.Terms.{Tree}
-use Rattle.sm_term.specs.TableLaws.{AreTreesSorted}
-use Rattle.sm_theory.specs.Views.{line_in, IsLineWithin}
-use Rattle.sm_theory.specs.declared.line.CertLine.{CertLine}
+use Rattle.sm_cert.proofs.Imports.{◌≡◌, ℕ, List, [], ◌∷◌, ◌++◌, length, sym, subst, Box, Global, Sorts, Tree, AreTreesSorted, line_in, IsLineWithin, CertLine, Certificate, Closed, Split, IsCertificateSorted, lines_before, certificate_in, lines_of, AreLinesWithin, CertTree}
 use Rattle.sm_cert.specs.declared.tree.CertEnd.TheVariants as ends
-use Rattle.sm_cert.specs.Certificates.{Certificate, Closed, Split}
-use Rattle.sm_cert.specs.NamedTerms.{IsCertificateSorted}
-use Rattle.sm_cert.specs.Views.{lines_before, certificate_in, lines_of, AreLinesWithin, CertTree}
 use Rattle.sm_cert.proofs.CheckLemmas.{tree_closed, tree_split, lines_closed, within_parts, line_sorted}
 use Rattle.sm_cert.proofs.TreeLemmas.{own_within, split_within}
 

@@ -1,25 +1,8 @@
 -- Where the lines of a tree have led, and how its end goes on from there.
-use Rattle.std.proofs.Common.{◌≡◌, ◌<◌, ◌+◌, ℕ, suc, nat_lt, if◌then◌else◌, Bool, true, false, Option, Some, None, List, [], ◌∷◌, ◌++◌, length, Result, Ok, Err, IfErr, IsErrAnd, refl, ap, sym, ◌∙◌, subst, arith}
-use Rattle.sm_syntax.specs.text.Sorts.{Sorts}
-use Rattle.sm_term.specs.Terms.{Tree}
-use Rattle.sm_theory.specs.Facts.{BranchFact}
-use Rattle.sm_theory.specs.Equality.{or_other}
-use Rattle.sm_theory.specs.SortedFacts.{AreFactsSorted, IsLineSorted}
-use Rattle.sm_theory.specs.Views.{line_in, IsLineWithin, AllStand}
-use Rattle.sm_theory.specs.declared.line.CertLine.{CertLine}
-use Rattle.sm_theory.specs.declared.fact.Fact.{Fact}
-use Rattle.sm_theory.specs.Ways.{Ways, ways_with}
-use Rattle.sm_theory.proofs.WaysLemmas.{ways_with_sorted}
-use Rattle.std.proofs.lemmas.List.{length-append}
-use Rattle.std.specs.Prelude.{Box}
-use Rattle.std.specs.declared.alloc.Global.{Global}
+use Rattle.sm_cert.proofs.Imports.{◌≡◌, ◌<◌, ◌+◌, ℕ, suc, nat_lt, if◌then◌else◌, Bool, true, false, Some, None, List, [], ◌∷◌, ◌++◌, length, Result, Ok, Err, IfErr, IsErrAnd, refl, ap, sym, ◌∙◌, subst, arith, Sorts, Tree, BranchFact, or_other, AreFactsSorted, IsLineSorted, line_in, IsLineWithin, AllStand, CertLine, Fact, Ways, ways_with, ways_with_sorted, length-append, Box, Global, CertFault, Certificate, Closed, Split, lines_in, in_no_way, in_two_ways, Theories, first_bad, splits_above, TooManySplits, bad_line, refused, lines_before, lines_of, AreLinesWithin, FaultTells, CertTree, is_closed, SplitsInto, line_number, Arrives, Passes}
+use Rattle.std.proofs.Common.{Option}
 use Rattle.sm_cert.specs.declared.tree.CertEnd.TheVariants as ends
-use Rattle.sm_cert.specs.declared.error.CertFault.{CertFault}
 use Rattle.sm_cert.specs.declared.error.CertFault.TheVariants as fault
-use Rattle.sm_cert.specs.Certificates.{Certificate, Closed, Split, lines_in, in_no_way, in_two_ways, Theories, first_bad, splits_above, TooManySplits, bad_line, refused}
-use Rattle.sm_cert.specs.Views.{lines_before, lines_of, AreLinesWithin, FaultTells, CertTree}
-use Rattle.sm_cert.specs.Ways.{is_closed, SplitsInto}
-use Rattle.sm_cert.specs.Check.{line_number, Arrives, Passes}
 use Rattle.sm_cert.proofs.CertificateSound.{AreSound, sorted_append}
 use Rattle.sm_cert.proofs.CheckLemmas.{counted_more, within_parts, lines_split, lines_are, lines_of_end}
 use Rattle.sm_cert.proofs.CertificateMoves.{both_none}

@@ -1,12 +1,7 @@
 -- What is found on a branch of the program, by the ways in which the branch that it stands for goes on.
-use Rattle.std.proofs.Common.{◌≡◌, ◌<◌, ◌+◌, ℕ, Bool, true, false, slice_get, get_or, Option, Some, None, List, [], ◌∷◌, ◌++◌, length, drop, take, refl, ap, sym, ◌∙◌, subst}
-use Rattle.std.proofs.lemmas.List.{drop_more}
-use Rattle.sm_syntax.specs.text.Sorts.{Sorts}
-use Rattle.sm_term.specs.Terms.{Tree}
-use Rattle.sm_term.specs.Tables.{tree_at}
+use Rattle.sm_cert.proofs.Imports.{◌≡◌, ◌<◌, ◌+◌, ℕ, Bool, true, false, slice_get, get_or, Some, None, List, [], ◌∷◌, ◌++◌, length, drop, take, refl, ap, sym, ◌∙◌, subst, drop_more, Sorts, Tree, tree_at, AreApart, NumberedFormula, And, numbered, assertion_in, IsFormulaWithin, BranchFact, Formal, Sum, Sides, followed, formula_at, equation_at, contrary_at, says_equal, line_in, FactStands, AllStand, StandsIf, CertLine, Fact, ways_with, adding, cannot_hold, closing_if, is_absurd, both_parts, GoesOn, is_closed, SplitsInto}
+use Rattle.std.proofs.Common.{Option}
 use Rattle.sm_term.specs.declared.term.TermId.{TermId}
-use Rattle.sm_term.specs.TableLaws.{AreApart}
-use Rattle.sm_term.specs.Formulas.{NumberedFormula, And, numbered, assertion_in, IsFormulaWithin}
 use Rattle.sm_term.specs.declared.formula.Formula.{Formula}
 use Rattle.sm_term.specs.Assertions as plain
 use Rattle.sm_term.specs.Assertions.{Assertion}
@@ -14,16 +9,8 @@ use Rattle.sm_num.specs.Forms.{Linear}
 use Rattle.sm_num.specs.Tightening.{is_contradictory}
 use Rattle.sm_theory.specs.declared.fact.Fact.TheVariants as fact
 use Rattle.sm_theory.specs.declared.line.CertLine.TheVariants as line
-use Rattle.sm_theory.specs.Facts.{BranchFact, Formal, Sum}
-use Rattle.sm_theory.specs.Lines.{Sides, followed, formula_at, equation_at, contrary_at}
-use Rattle.sm_theory.specs.Equality.{says_equal}
 use Rattle.sm_theory.specs.Sides.{OptionStands, FormulaStands, SidesStand}
-use Rattle.sm_theory.specs.Views.{line_in, FactStands, AllStand, StandsIf}
-use Rattle.sm_theory.specs.declared.line.CertLine.{CertLine}
-use Rattle.sm_theory.specs.declared.fact.Fact.{Fact}
-use Rattle.sm_theory.specs.Ways.{ways_with, adding, cannot_hold, closing_if, is_absurd, both_parts}
 use Rattle.sm_theory.proofs.LinearStanding.{contradictory_stands}
-use Rattle.sm_cert.specs.Ways.{GoesOn, is_closed, SplitsInto}
 use Rattle.sm_theory.proofs.FormsOfTermsLemmas.{one_place}
 
 -- facts behind facts

@@ -1,8 +1,6 @@
 -- A line that goes on in no way, in one or in two: what follows where none of its ways is faulty.
-use Rattle.std.proofs.Common.{◌≡◌, ℕ, Option, Some, None, List, [], ◌∷◌, refl}
-use Rattle.sm_theory.specs.Facts.{BranchFact}
-use Rattle.sm_theory.specs.Ways.{Ways}
-use Rattle.sm_cert.specs.Certificates.{in_two_ways, in_one_way, in_no_way}
+use Rattle.sm_cert.proofs.Imports.{◌≡◌, ℕ, Some, None, List, [], ◌∷◌, refl, BranchFact, Ways, in_two_ways, in_one_way, in_no_way}
+use Rattle.std.proofs.Common.{Option}
 
 -- a line that goes on in two ways
 pub two_ways : (w : Ways) (n : ℕ) (next : List BranchFact → List BranchFact → Option ℕ) → in_two_ways w n next ≡ None →

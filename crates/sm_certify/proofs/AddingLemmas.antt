@@ -1,18 +1,6 @@
 -- Lines that each add a fact, one after the other, and what is bad of a certificate under them.
-use Rattle.std.proofs.Common.{◌≡◌, ℕ, suc, ◌+◌, List, [], ◌∷◌, ◌++◌, map, length, sym, ap, ◌∙◌, arith, Option, Some}
-use Rattle.std.proofs.lemmas.List.{append-nil}
-use Rattle.sm_syntax.specs.text.Sorts.{Sorts}
-use Rattle.sm_term.specs.Terms.{Tree}
-use Rattle.sm_theory.specs.Facts.{BranchFact}
-use Rattle.sm_theory.specs.Lines.{CertificateLine, Both, Either, Cases, Order, Refl, Sym, Trans, followed, Subst, Cong, Same, Apart, Hit, Miss, Lin, Elim, Tight, Exact, Close, Clash}
-use Rattle.sm_theory.specs.Ways.{adds, Ways, ways_with, goes_on_with, adding}
-use Rattle.sm_theory.specs.Views.{line_in}
-use Rattle.sm_theory.specs.declared.line.CertLine.{CertLine}
-use Rattle.sm_cc.specs.Explained.{added_by}
-use Rattle.sm_cert.specs.Certificates.{Certificate, first_bad, in_one_way}
-use Rattle.sm_cert.specs.Views.{lines_before}
-use Rattle.sm_theory.proofs.FactsLemmas.{followed_from}
-use Rattle.sm_lemmas.proofs.Lists.{one_thing, together}
+use Rattle.sm_certify.proofs.Imports.{◌≡◌, ℕ, suc, ◌+◌, List, [], ◌∷◌, ◌++◌, map, length, sym, ap, ◌∙◌, arith, Option, Some, append-nil, Sorts, Tree, BranchFact, CertificateLine, Both, Either, Cases, Order, Refl, Sym, Trans, followed, Subst, Cong, Apart, Hit, Miss, Lin, Elim, Tight, Exact, Close, Clash, adds, Ways, ways_with, goes_on_with, adding, line_in, CertLine, added_by, Certificate, first_bad, in_one_way, lines_before, followed_from, one_thing, together}
+use Rattle.sm_theory.specs.Lines.{Same}
 
 module _ (sorts : Sorts) where
   -- a line that adds a fact goes on in one way

@@ -1,38 +1,12 @@
 -- What is written for the branch of facts of the program leads to a contradiction, step by step.
-use Rattle.std.proofs.Common.{Bool, false, IsTrue, ◌≡◌, ℕ, ◌<◌, ◌+◌, ◌-◌, List, [], ◌∷◌, ◌++◌, map, length, slice_get, refl, sym, ap, ◌∙◌, subst, Some, drop, get_or}
-use Rattle.std.proofs.lemmas.List.{length-map, drop_more}
-use Rattle.sm_num.specs.Forms.{Linear}
-use Rattle.sm_term.specs.Terms.{Tree}
-use Rattle.sm_term.specs.TableLaws.{AreApart}
-use Rattle.sm_term.specs.Formulas.{numbered, assertion_in}
-use Rattle.sm_term.specs.declared.formula.Formula.{Formula}
-use Rattle.sm_term.specs.Tables.{TableValue, trees_in, sorts_in}
-use Rattle.sm_term.specs.declared.term.TermId.{TermId}
+use Rattle.sm_certify.proofs.Imports.{Bool, false, IsTrue, ◌≡◌, ℕ, ◌<◌, ◌+◌, ◌-◌, List, [], ◌∷◌, ◌++◌, map, length, slice_get, refl, sym, ap, ◌∙◌, subst, Some, drop, get_or, length-map, drop_more, Linear, Tree, AreApart, numbered, assertion_in, Formula, TableValue, trees_in, sorts_in, TermId, line_in, CertLine, Explain, ClassesValue, setting_of, equation_of, as_facts, Close, Closed, lines_before, AreLinesWithin, ElimLine, Refutes, IsWhole, classes_by, branch_of, Seen, all_numbered, AreFormulasWithin, IsSource, Source, HavePlaces, AreWritten, Leads, AddsEquation, AddsSource, one_place, within-append}
 use Rattle.sm_theory.specs.declared.line.CertLine.TheVariants as line
-use Rattle.sm_theory.specs.Views.{line_in}
-use Rattle.sm_theory.specs.declared.line.CertLine.{CertLine}
-use Rattle.sm_cc.specs.Explained.{Explain}
-use Rattle.sm_cc.specs.Views.{ClassesValue, setting_of, equation_of, numbers_of}
-use Rattle.sm_theory.specs.Facts.{as_facts}
-use Rattle.sm_theory.specs.Lines.{Close}
-use Rattle.sm_cert.specs.Certificates.{Closed}
-use Rattle.sm_cert.specs.Views.{lines_before, AreLinesWithin}
-use Rattle.sm_judge.specs.declared.eliminating.ElimLine.{ElimLine}
+use Rattle.sm_cc.specs.Views.{numbers_of}
 use Rattle.sm_judge.specs.declared.forms.Source.TheVariants as source
-use Rattle.sm_certify.specs.Refutes.{Refutes}
-use Rattle.sm_certify.specs.Given.{IsWhole, classes_by, branch_of}
-use Rattle.sm_judge.specs.Holding.{Seen}
-use Rattle.sm_list.specs.Parts.{all_numbered, AreFormulasWithin}
-use Rattle.sm_judge.specs.Refutations.{IsSource}
-use Rattle.sm_judge.specs.declared.forms.Source.{Source}
-use Rattle.sm_judge.specs.Places.{HavePlaces}
-use Rattle.sm_certify.specs.Refuting.{AreWritten, Leads, AddsEquation, AddsSource}
 use Rattle.sm_certify.proofs.EquationLemmas.{written_equation, branch_stand}
 use Rattle.sm_certify.proofs.LeadsLemmas.{leads_next, leads_skip, leads_sum, leads_skip_sum, leads_closed, leads_places}
 use Rattle.sm_certify.proofs.SourcesLemmas.{fact_makes}
 use Rattle.sm_certify.proofs.WrittenLemmas.{written_lin}
-use Rattle.sm_theory.proofs.FormsOfTermsLemmas.{one_place}
-use Rattle.sm_list.proofs.RenumberLemmas.{within-append}
 
 -- the first that is left of a list
 pub item_left : {X : Type 0} (P : List X → Type 0) (xs ys : List X) (i : ℕ) (d : X) → xs ≡ ys → i < length xs → P (drop i ys) →

@@ -1,23 +1,8 @@
 -- What labels tell of the classes of a branch, of whose terms those with one label are in one class.
-use Rattle.std.proofs.Common.{◌≡◌, ℕ, ◌<◌, true, Option, option_map, Some, None, List, length, get_or, slice_get, pos, refl, sym, ap, ◌∙◌}
-use Rattle.std.specs.List.{list_any}
-use Rattle.std.proofs.lemmas.Bool.{or_left}
-use Rattle.std.proofs.lemmas.Option.{slice_get-map, slice_get-get_or}
-use Rattle.sm_term.specs.Terms.{Tree, Lit}
-use Rattle.sm_term.specs.Formulas.{numbered, assertion_in}
-use Rattle.sm_term.specs.declared.formula.Formula.{Formula}
-use Rattle.sm_term.specs.Tables.{TableValue, trees_in, sorts_in, tree_at}
-use Rattle.sm_term.specs.declared.term.TermId.{TermId}
-use Rattle.sm_cc.specs.AddedTerms.{AreEqualByLabels}
-use Rattle.sm_pairs.specs.Pairs.{Pairs}
-use Rattle.sm_cc.specs.Rounds.{are_equal}
-use Rattle.sm_cc.specs.Views.{setting_of}
-use Rattle.sm_certify.specs.Given.{IsWhole, classes_by, branch_of}
-use Rattle.sm_judge.specs.Holding.{is_refuted, is_closed}
-use Rattle.sm_terms.specs.Listing.{trees_at, numbers_of}
-use Rattle.sm_judge.proofs.ClosingLemmas.{fact_at, some_refuted}
+use Rattle.sm_certify.proofs.Imports.{◌≡◌, ℕ, ◌<◌, true, Option, Some, None, List, length, get_or, slice_get, pos, refl, sym, ap, ◌∙◌, list_any, or_left, slice_get-map, slice_get-get_or, Tree, Lit, numbered, assertion_in, Formula, TableValue, trees_in, sorts_in, tree_at, TermId, AreEqualByLabels, Pairs, are_equal, setting_of, IsWhole, classes_by, branch_of, is_refuted, is_closed, trees_at, fact_at, some_refuted, equal_is_same}
+use Rattle.std.proofs.Common.{option_map}
+use Rattle.sm_terms.specs.Listing.{numbers_of}
 use Rattle.sm_certify.proofs.GivenLemmas.{equal_seen}
-use Rattle.sm_cc.proofs.LeastLemmas.{equal_is_same}
 
 -- the term at a place of a list that has all terms
 term_at : (trees : List Tree) (ids : List TermId) → IsWhole trees ids → (i : ℕ) → i < length trees →

@@ -1,47 +1,18 @@
 -- Certificates of branches that are closed at once refute them.
-use Rattle.std.proofs.Common.{◌≡◌, ℕ, zero, suc, ◌+◌, ◌<◌, ◌≤◌, true, not, ℤ, List, [], ◌∷◌, ◌++◌, map, length, Option, Some, None, slice_get, get_or, refl, sym, ap, subst, ◌∙◌, arith}
+use Rattle.sm_certify.proofs.Imports.{◌≡◌, ℕ, zero, suc, ◌+◌, ◌<◌, ◌≤◌, true, not, ℤ, List, [], ◌∷◌, ◌++◌, map, length, Option, Some, None, slice_get, get_or, refl, sym, ap, subst, ◌∙◌, arith, int_eq, and_parts, append-nil, length-map, slice_get-map, slice_get_within, slice_get_read, Sorts, Tree, Assertion, tree_sort, NumberedFormula, numbered, assertion_in, IsFormulaWithin, Formula, TableValue, trees_in, sorts_in, tree_at, TermId, BranchFact, Formal, as_facts, Close, followed, compared_forms, ways, closing_if, cannot_hold, line_in, IsLineWithin, CertLine, Closed, splits_above, certificate_in, lines_before, lines_of, AreLinesWithin, Pairs, ClassesValue, setting_of, assertion_given, equation_of, GivenFact, added_by, StandAt, Explain, AreLinesOf, Refutes, IsWhole, given_from, classes_by, branch_of, Seen, is_refuted, are_torn, all_numbered, assertions_in, AreFormulasWithin, equal_is_same, one_thing}
 use Rattle.std.specs.Option.{option_map}
-use Rattle.std.specs.Ordering.{int_eq}
-use Rattle.std.proofs.lemmas.Bool.{and_parts}
-use Rattle.std.proofs.lemmas.List.{append-nil, length-map}
-use Rattle.std.proofs.lemmas.Option.{slice_get-map, slice_get_within, slice_get_read}
-use Rattle.sm_syntax.specs.text.Sorts.{Sorts}
 use Rattle.sm_term.specs.declared.formula.Formula.TheVariants as tree
-use Rattle.sm_term.specs.Terms.{Tree}
 use Rattle.sm_term.specs.Assertions as plain
-use Rattle.sm_term.specs.Assertions.{Assertion}
-use Rattle.sm_term.specs.Sorted.{tree_sort}
-use Rattle.sm_term.specs.Formulas.{NumberedFormula, Yes, No, Eq, Ne, Le, Lt, And, Or, numbered, assertion_in, IsFormulaWithin}
-use Rattle.sm_term.specs.declared.formula.Formula.{Formula}
-use Rattle.sm_term.specs.Tables.{TableValue, trees_in, sorts_in, tree_at}
-use Rattle.sm_term.specs.declared.term.TermId.{TermId}
+use Rattle.sm_term.specs.Formulas.{Yes, No, Eq, Ne, Le, Lt, And, Or}
 use Rattle.sm_theory.specs.declared.line.CertLine.TheVariants as line
-use Rattle.sm_theory.specs.Facts.{BranchFact, Formal, as_facts}
-use Rattle.sm_theory.specs.Lines.{Close, followed}
-use Rattle.sm_theory.specs.Arithmetic.{compared_forms}
-use Rattle.sm_theory.specs.Ways.{ways, closing_if, cannot_hold}
-use Rattle.sm_theory.specs.Views.{line_in, IsLineWithin}
-use Rattle.sm_theory.specs.declared.line.CertLine.{CertLine}
-use Rattle.sm_cert.specs.Certificates.{Closed, splits_above}
-use Rattle.sm_cert.specs.Views.{certificate_in, lines_before, lines_of, AreLinesWithin}
 use Rattle.sm_cert.specs.declared.tree.CertTree.{CertTree}
-use Rattle.sm_pairs.specs.Pairs.{Pairs}
 use Rattle.sm_cc.specs.Classes.{Same}
 use Rattle.sm_cc.specs.Views as classes
-use Rattle.sm_cc.specs.Views.{ClassesValue, setting_of, assertion_given, equation_of}
-use Rattle.sm_cc.specs.declared.classes.GivenFact.{GivenFact}
-use Rattle.sm_cc.specs.Explained.{added_by, StandAt, Explain, AreLinesOf}
 use Rattle.sm_certify.specs.Certifying.{contrary_numbers, IsRefuting}
 use Rattle.sm_judge.specs.Closings.{IsClosing}
-use Rattle.sm_certify.specs.Refutes.{Refutes}
 use Rattle.sm_judge.specs.declared.closing.Closing.TheVariants as why
-use Rattle.sm_certify.specs.Given.{IsWhole, given_from, classes_by, branch_of}
-use Rattle.sm_judge.specs.Holding.{Seen, is_refuted, are_torn}
-use Rattle.sm_list.specs.Parts.{all_numbered, assertions_in, AreFormulasWithin}
 use Rattle.sm_certify.proofs.GivenLemmas.{equal_seen}
-use Rattle.sm_cc.proofs.LeastLemmas.{equal_is_same}
 use Rattle.sm_certify.proofs.RefutingLemmas.{refuted_by, contrary_refuted, torn_refuted, no_splits, lines_within, within_more, counted}
-use Rattle.sm_lemmas.proofs.Lists.{one_thing}
 
 -- two terms that are torn are equal
 pub torn_equal : (b : Seen) (t u : Tree) → are_torn b t u ≡ true → b.equal t u ≡ true

@@ -1,16 +1,8 @@
 -- Facts that are given before but for their numbers, and the pairs of those that say that terms aren't equal.
-use Rattle.std.proofs.Common.{◌≡◌, ◌⊎◌, inl, inr, ℕ, zero, suc, ◌+◌, ◌-◌, ◌<◌, Bool, true, not, ◌&&◌, Some, List, [], ◌∷◌, ◌++◌, map, length, take, drop, get_or, slice_get, slice_set, refl, sym, ap, ◌∙◌, subst, arith, append_assoc}
-use Rattle.std.specs.List.{list_all}
-use Rattle.std.proofs.lemmas.List.{map-append, length-drop}
+use Rattle.sm_certify.proofs.Imports.{◌≡◌, ◌⊎◌, inl, inr, ℕ, zero, suc, ◌+◌, ◌-◌, ◌<◌, Bool, true, not, ◌&&◌, Some, List, [], ◌∷◌, ◌++◌, map, length, take, drop, get_or, slice_get, slice_set, refl, sym, ap, ◌∙◌, subst, arith, list_all, map-append, length-drop, same_Some, TermId, Formula, IsGivenBefore, IsContraryOf, AddsOnly, equation_under, contrary_under, GivenFact, given_from}
+use Rattle.std.proofs.Common.{append_assoc}
 use Rattle.std.proofs.Math.Seq.{take-length}
-use Rattle.std.proofs.lemmas.Option.{same_Some}
-use Rattle.sm_term.specs.declared.term.TermId.{TermId}
-use Rattle.sm_term.specs.declared.formula.Formula.{Formula}
 use Rattle.sm_term.specs.declared.formula.Formula.TheVariants as tree
-use Rattle.sm_cc.specs.AddedTerms.{IsGivenBefore, IsContraryOf, AddsOnly}
-use Rattle.sm_cc.specs.Views.{equation_under, contrary_under}
-use Rattle.sm_cc.specs.declared.classes.GivenFact.{GivenFact}
-use Rattle.sm_certify.specs.Given.{given_from}
 use Rattle.sm_certify.proofs.GivenLemmas.{given_from-cons, left_step}
 use Rattle.sm_lemmas.proofs.Tests.{not_true, both_pass}
 

@@ -1,55 +1,18 @@
 -- Lines name the terms of a table in order, give the forms of sources in order, and close the branch
 -- by the exact decision of these.
-use Rattle.std.proofs.Common.{◌≡◌, ℕ, ◌+◌, ◌-◌, ◌<◌, ◌≤◌, nat_le, true, Bool, ◌&&◌, List, [], ◌∷◌, ◌++◌, map, length, take, slice_get, pos, Option, Some, None, refl, sym, ap, ◌∙◌, subst, arith}
-use Rattle.std.specs.List.{filter_map}
-use Rattle.std.proofs.lemmas.Bool.{le-leb}
-use Rattle.std.proofs.lemmas.List.{append-nil, append_assoc, length-append, length-map, map-append}
-use Rattle.std.proofs.lemmas.Option.{slice_get-get_or}
-use Rattle.sm_num.specs.Forms.{Linear}
+use Rattle.sm_certify.proofs.Imports.{◌≡◌, ℕ, ◌+◌, ◌-◌, ◌<◌, ◌≤◌, nat_le, true, Bool, ◌&&◌, List, [], ◌∷◌, ◌++◌, map, length, take, slice_get, pos, Option, Some, None, refl, sym, ap, ◌∙◌, subst, arith, filter_map, le-leb, append-nil, length-map, map-append, slice_get-get_or, Linear, Sorts, Formula, Assertion, arguments_of, tree_sort, AreApart, TableValue, trees_in, sorts_in, codes_in, tree_at, tree_in, IsTermWithin, TermId, Tree, Lit, form_of_comparison, formula_if, or_other, forms_by_places, forms_of_branch, has_no_solution, exact_adds, BranchFact, Formal, Sum, as_facts, Lin, Exact, Close, followed, formula_in, form_in, formula_at, line_in, CertLine, adds, cannot_hold, closing_if, added_by, IsListed, ClassesValue, equation_of, first_behind, Closed, lines_before, AreLinesWithin, Seen, HavePlaces, IsSource, AreSources, Source, all_numbered, AreFormulasWithin, there_among, AllAmong, is_among, with_formulas, StandInOrder, Decides, IsWhole, classes_by, branch_of, Refutes, IsUsable, AddsEquation, AddsSource, one_place, within-append}
+use Rattle.std.proofs.lemmas.List.{append_assoc, length-append}
 use Rattle.sm_omega.specs.Counting.{Done}
 use Rattle.sm_omega.specs.Exact.{exact}
 use Rattle.sm_omega.specs.Rules.{Answer}
-use Rattle.sm_syntax.specs.text.Sorts.{Sorts}
-use Rattle.sm_term.specs.declared.formula.Formula.{Formula}
-use Rattle.sm_term.specs.Assertions.{Assertion, No, Eq}
+use Rattle.sm_term.specs.Assertions.{No, Eq}
 use Rattle.sm_term.specs.Fitting.{term_fits}
-use Rattle.sm_term.specs.Heads.{arguments_of}
-use Rattle.sm_term.specs.Sorted.{tree_sort}
-use Rattle.sm_term.specs.TableLaws.{AreApart}
-use Rattle.sm_term.specs.Tables.{TableValue, trees_in, sorts_in, codes_in, tree_at, tree_in, IsTermWithin}
-use Rattle.sm_term.specs.declared.term.TermId.{TermId}
 use Rattle.sm_term.specs.declared.term.Term.{Term}
-use Rattle.sm_term.specs.Terms.{Tree, Lit}
 use Rattle.sm_theory.specs.declared.line.CertLine.TheVariants as line
-use Rattle.sm_theory.specs.Arithmetic.{form_of_comparison}
-use Rattle.sm_theory.specs.Equality.{formula_if, or_other}
-use Rattle.sm_theory.specs.ExactLine.{forms_by_places, forms_of_branch, has_no_solution, exact_adds}
-use Rattle.sm_theory.specs.Facts.{BranchFact, Formal, Sum, as_facts}
-use Rattle.sm_theory.specs.Lines.{Lin, Exact, Close, followed, formula_in, form_in, formula_at}
-use Rattle.sm_theory.specs.Views.{line_in}
-use Rattle.sm_theory.specs.declared.line.CertLine.{CertLine}
-use Rattle.sm_theory.specs.Ways.{adds, cannot_hold, closing_if}
-use Rattle.sm_cc.specs.Explained.{added_by, IsListed}
-use Rattle.sm_cc.specs.Views.{ClassesValue, equation_of}
-use Rattle.sm_cc.proofs.StepsLemmas.{first_behind}
-use Rattle.sm_cert.specs.Certificates.{Closed}
-use Rattle.sm_cert.specs.Views.{lines_before, AreLinesWithin}
 use Rattle.sm_euf.specs.Arguments.{argument_numbers, trees_of}
 use Rattle.sm_euf.proofs.ArgumentsLemmas.{arguments_are, parts_before}
 use Rattle.sm_judge.specs.declared.forms.Source.TheVariants as source
-use Rattle.sm_judge.specs.Holding.{Seen}
-use Rattle.sm_judge.specs.Places.{HavePlaces}
-use Rattle.sm_judge.specs.Refutations.{IsSource, AreSources}
-use Rattle.sm_judge.specs.declared.forms.Source.{Source}
-use Rattle.sm_list.specs.Parts.{all_numbered, AreFormulasWithin}
-use Rattle.sm_pairs.proofs.AmongLemmas.{there_among}
-use Rattle.sm_terms.specs.Listing.{AllAmong}
-use Rattle.sm_theory.specs.TermsOfFormulas.{is_among, with_formulas}
 use Rattle.sm_certify.specs.Decided.{AreDecided}
-use Rattle.sm_certify.specs.Deciding.{StandInOrder, Decides}
-use Rattle.sm_certify.specs.Given.{IsWhole, classes_by, branch_of}
-use Rattle.sm_certify.specs.Refutes.{Refutes}
-use Rattle.sm_certify.specs.Refuting.{IsUsable, AddsEquation, AddsSource}
 use Rattle.sm_certify.proofs.AddingLemmas.{added_both, added_count, added_then}
 use Rattle.sm_certify.proofs.BranchLeadsLemmas.{count_facts}
 use Rattle.sm_certify.proofs.EquationLemmas.{branch_stand, given_stand, listed_below, lines_below, stand_first}
@@ -59,8 +22,6 @@ use Rattle.sm_certify.proofs.NamingLemmas.{next_named, numbers_before, same_with
 use Rattle.sm_certify.proofs.OrderLemmas.{so_far, order_among, order_closed, order_count, order_form, order_formulas}
 use Rattle.sm_certify.proofs.RefutingLemmas.{refuted_by}
 use Rattle.sm_certify.proofs.SourcesLemmas.{MakesFor, equation_makes, fact_makes}
-use Rattle.sm_theory.proofs.FormsOfTermsLemmas.{one_place}
-use Rattle.sm_list.proofs.RenumberLemmas.{within-append}
 
 -- the line of a comparison that has a number
 lin_makes : (sorts : Sorts) (trees : List Tree) (facts : List BranchFact) (n : ℕ) (a : Assertion) (f : Linear ℕ) →

@@ -1,36 +1,12 @@
 -- The equation of two numbers of one class is written with what explains it.
-use Rattle.std.proofs.Common.{◌≡◌, ℕ, zero, suc, ◌<◌, ◌+◌, ◌-◌, Bool, IsTrue, List, [], ◌∷◌, ◌++◌, map, length, slice_get, refl, sym, ap, ◌∙◌, subst, Some, arith}
+use Rattle.sm_certify.proofs.Imports.{◌≡◌, ℕ, zero, suc, ◌<◌, ◌+◌, ◌-◌, Bool, IsTrue, List, [], ◌∷◌, ◌++◌, map, length, slice_get, refl, sym, ap, ◌∙◌, subst, Some, arith, length-map, slice_get-map, Linear, Fits, Formula, Assertion, TableValue, trees_in, sorts_in, tree_at, TermId, BranchFact, Formal, as_facts, is_numeric, HaveOnePlace, line_in, IsLineWithin, CertLine, StandAt, Explain, IsListed, AreLinesOf, IsLineOf, ClassesValue, setting_of, assertion_given, equation_of, GivenFact, slice_get-longer, first_behind, AreLinesWithin, given_from, classes_by, branch_of, Seen, AreBelow, all_numbered, assertions_in, HavePlaces, AreWritten, less_by}
 use Rattle.std.specs.Option.{option_map}
-use Rattle.std.proofs.lemmas.List.{append_assoc, length-append, length-map}
-use Rattle.std.proofs.lemmas.Option.{slice_get-map}
+use Rattle.std.proofs.lemmas.List.{append_assoc, length-append}
 use Rattle.sm_num.specs.declared.kind.Kind.TheVariants as kind
-use Rattle.sm_num.specs.Forms.{Linear}
-use Rattle.sm_num.specs.Combining.{Fits}
-use Rattle.sm_term.specs.declared.formula.Formula.{Formula}
 use Rattle.sm_term.specs.declared.formula.Formula.TheVariants as tree
-use Rattle.sm_term.specs.Assertions.{Assertion}
-use Rattle.sm_term.specs.Tables.{TableValue, trees_in, sorts_in, tree_at}
-use Rattle.sm_term.specs.declared.term.TermId.{TermId}
 use Rattle.sm_theory.specs.declared.line.CertLine.TheVariants as line
-use Rattle.sm_theory.specs.Facts.{BranchFact, Formal, as_facts}
-use Rattle.sm_theory.specs.Arithmetic.{is_numeric}
-use Rattle.sm_theory.specs.Standing.{HaveOnePlace}
-use Rattle.sm_theory.specs.Views.{line_in, IsLineWithin}
-use Rattle.sm_theory.specs.declared.line.CertLine.{CertLine}
-use Rattle.sm_cc.specs.Explained.{StandAt, Explain, IsListed, AreLinesOf, IsLineOf}
-use Rattle.sm_cc.specs.Views.{ClassesValue, setting_of, assertion_given, equation_of, numbers_of}
-use Rattle.sm_cc.specs.declared.classes.GivenFact.{GivenFact}
-use Rattle.sm_pairs.proofs.LongerLemmas.{slice_get-longer}
-use Rattle.sm_cc.proofs.StepsLemmas.{first_behind}
-use Rattle.sm_cert.specs.Views.{AreLinesWithin}
-use Rattle.sm_certify.specs.Given.{given_from, classes_by, branch_of}
-use Rattle.sm_judge.specs.Holding.{Seen}
+use Rattle.sm_cc.specs.Views.{numbers_of}
 use Rattle.sm_terms.specs.Listing as listing
-use Rattle.sm_terms.specs.Listing.{AreBelow}
-use Rattle.sm_list.specs.Parts.{all_numbered, assertions_in}
-use Rattle.sm_judge.specs.Places.{HavePlaces}
-use Rattle.sm_certify.specs.Refuting.{AreWritten}
-use Rattle.sm_judge.specs.Forms.{less_by}
 use Rattle.sm_certify.proofs.AddingLemmas.{added_count}
 use Rattle.sm_certify.proofs.SourcesLemmas.{equation_makes}
 use Rattle.sm_certify.proofs.WrittenLemmas.{so_far, count_so_far, written_more, written_lin}

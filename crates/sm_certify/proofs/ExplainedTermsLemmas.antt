@@ -1,32 +1,9 @@
 -- Each line of an explanation adds a formula whose terms are those of the table.
-use Rattle.std.proofs.Common.{◌≡◌, ℕ, zero, suc, Bool, true, false, ◌&&◌, not, ℤ, List, [], ◌∷◌, ◌++◌, map, Option, Some, None, refl, sym, subst}
-use Rattle.std.specs.Ordering.{int_eq}
-use Rattle.std.specs.List.{filter_map}
-use Rattle.sm_syntax.specs.text.Sorts.{Sorts}
-use Rattle.sm_syntax.specs.declared.tree.Sort.TheVariants.{Num}
-use Rattle.sm_term.specs.Assertions.{Assertion, Yes, No, Eq, Ne, Le, Lt, And, Or}
-use Rattle.sm_term.specs.Heads.{arguments_of, same_head}
-use Rattle.sm_term.specs.SameTerms.{same_tree}
-use Rattle.sm_term.specs.Sorted.{tree_sort}
-use Rattle.sm_term.specs.Tables.{tree_at}
-use Rattle.sm_term.specs.declared.term.TermId.{TermId}
-use Rattle.sm_term.specs.Terms.{Tree, Read, Write}
+use Rattle.sm_certify.proofs.Imports.{◌≡◌, ℕ, zero, suc, Bool, true, false, ◌&&◌, not, ℤ, List, [], ◌∷◌, ◌++◌, map, Option, Some, None, refl, sym, subst, int_eq, filter_map, Sorts, Num, Assertion, arguments_of, same_head, same_tree, tree_sort, tree_at, TermId, Tree, Read, Write, compared_forms, formula_if, turned_equation, turned_contrary, or_other, chained, substituted, is_inhabited_list, say_equal, says_equal, BranchFact, Formal, Sum, followed, formula_in, form_in, formula_at, Sides, equal_sides, unequal_sides, equation_at, contrary_at, is_among, line_in, CertLine, adds, added_by, IsListed, IsLineOf, AreLinesOf, IsClosed, FormulaAmong, FormulasAmong, followed_from, one_thing}
+use Rattle.sm_term.specs.Assertions.{Yes, No, Eq, Ne, Le, Lt, And, Or}
 use Rattle.sm_theory.specs.declared.line.CertLine.TheVariants as line
-use Rattle.sm_theory.specs.Arithmetic.{compared_forms}
 use Rattle.sm_theory.specs.Elements.{Written, read_of_written}
-use Rattle.sm_theory.specs.Equality.{formula_if, turned_equation, turned_contrary, or_other, chained, substituted, is_inhabited_list, say_equal, says_equal}
-use Rattle.sm_theory.specs.Facts.{BranchFact, Formal, Sum}
-use Rattle.sm_theory.specs.Lines.{followed, formula_in, form_in, formula_at, Sides, equal_sides, unequal_sides, equation_at, contrary_at}
-use Rattle.sm_theory.specs.TermsOfFormulas.{is_among}
-use Rattle.sm_theory.specs.Views.{line_in}
-use Rattle.sm_theory.specs.declared.line.CertLine.{CertLine}
-use Rattle.sm_theory.specs.Ways.{adds}
-use Rattle.sm_cc.specs.Explained.{added_by, IsListed, IsLineOf, AreLinesOf}
-use Rattle.sm_terms.specs.Listing.{IsClosed}
-use Rattle.sm_list.proofs.BuiltLemmas.{FormulaAmong, FormulasAmong}
 use Rattle.sm_certify.proofs.AddingLemmas.{added_first}
-use Rattle.sm_theory.proofs.FactsLemmas.{followed_from}
-use Rattle.sm_lemmas.proofs.Lists.{one_thing}
 
 -- where a fact is a formula, its terms are among these
 abbrev pub NamesAmong : List Tree → BranchFact → Type 0

@@ -1,34 +1,12 @@
 -- The classes of a table's terms by the equations and contraries among facts are those of the facts.
-use Rattle.std.proofs.Common.{◌≡◌, ℕ, zero, suc, ◌+◌, ◌<◌, ◌≤◌, pos, Bool, true, ◌&&◌, ◌||◌, List, [], ◌∷◌, ◌++◌, map, length, drop, get_or, slice_get, Some, refl, sym, ap, subst, ◌∙◌, arith, append_assoc}
-use Rattle.std.specs.List.{list_any, range_with_len}
-use Rattle.std.proofs.lemmas.Bool.{or_left, or_right}
-use Rattle.std.proofs.lemmas.List.{append-nil, map-append, drop_more}
+use Rattle.sm_certify.proofs.Imports.{◌≡◌, ℕ, zero, suc, ◌+◌, ◌<◌, ◌≤◌, pos, Bool, true, ◌&&◌, ◌||◌, List, [], ◌∷◌, ◌++◌, map, length, drop, get_or, slice_get, Some, refl, sym, ap, subst, ◌∙◌, arith, list_any, range_with_len, or_left, or_right, append-nil, map-append, drop_more, same_Some, Formula, Tree, Lit, Assertion, same_tree, AreFormsSorted, TableValue, trees_in, sorts_in, tree_at, AreBefore, TermId, same_tree_is, equal_sides, unequal_sides, says_equal, is_among, Pairs, Setting, are_apart, are_equal, ClassesValue, setting_of, assertion_given, equation_under, contrary_under, IsTermOf, IsOfTwoTerms, AreOfTwoTerms, GivenFact, IsWhole, given_from, classes_by, branch_of, trees_at, AreBelow, all_numbered, assertions_in, AreFormulasWithin, equal_alike, apart_alike, range_more}
+use Rattle.std.proofs.Common.{append_assoc}
 use Rattle.std.proofs.lemmas.List.FromFn.{fill_by_all}
-use Rattle.std.proofs.lemmas.Option.{same_Some}
-use Rattle.sm_term.specs.declared.formula.Formula.{Formula}
 use Rattle.sm_term.specs.declared.formula.Formula.TheVariants as tree
-use Rattle.sm_term.specs.Terms.{Tree, Lit}
-use Rattle.sm_term.specs.Assertions.{Assertion}
-use Rattle.sm_term.specs.SameTerms.{same_tree}
-use Rattle.sm_term.specs.Sorted.{AreFormsSorted}
-use Rattle.sm_term.specs.Tables.{TableValue, trees_in, sorts_in, tree_at, AreBefore}
-use Rattle.sm_term.specs.declared.term.TermId.{TermId}
-use Rattle.sm_term.proofs.SameTermsLemmas.{same_tree_is}
-use Rattle.sm_theory.specs.Lines.{equal_sides, unequal_sides}
-use Rattle.sm_theory.specs.Equality.{says_equal}
-use Rattle.sm_theory.specs.TermsOfFormulas.{is_among}
-use Rattle.sm_pairs.specs.Pairs.{Pairs}
-use Rattle.sm_cc.specs.Classes.{Setting, are_apart}
-use Rattle.sm_cc.specs.Rounds.{are_equal}
-use Rattle.sm_cc.specs.Views.{ClassesValue, setting_of, trees_of, assertion_given, equation_under, contrary_under, IsTermOf, IsOfTwoTerms, AreOfTwoTerms}
-use Rattle.sm_cc.specs.declared.classes.GivenFact.{GivenFact}
-use Rattle.sm_certify.specs.Given.{IsWhole, given_from, classes_by, branch_of}
-use Rattle.sm_terms.specs.Listing.{trees_at, numbers_of, AreBelow}
-use Rattle.sm_list.specs.Parts.{all_numbered, assertions_in, AreFormulasWithin}
+use Rattle.sm_cc.specs.Views.{trees_of}
+use Rattle.sm_terms.specs.Listing.{numbers_of}
 use Rattle.sm_judge.specs.Seeing.{seen_in}
 use Rattle.sm_cc.proofs.BringsLemmas.{GivesMore}
-use Rattle.sm_cc.proofs.LeastLemmas.{equal_alike, apart_alike}
-use Rattle.sm_lemmas.proofs.Lists.{range_more}
 
 -- the trees of a list that has all terms
 trees_alike : (trees : List Tree) (ts : List TermId) → trees_of trees ts ≡ trees_at trees (numbers_of ts)

@@ -1,26 +1,10 @@
 -- What is written leads to a contradiction, step by step.
-use Rattle.std.proofs.Common.{◌≡◌, ℕ, suc, ◌<◌, ◌+◌, true, false, Bool, IsTrue, List, [], ◌∷◌, ◌++◌, length, slice_get, refl, sym, ap, ◌∙◌, subst, Option, Some, arith}
-use Rattle.std.proofs.lemmas.List.{append-nil, append_assoc, length-append}
-use Rattle.std.proofs.lemmas.Option.{slice_get_within}
-use Rattle.sm_num.specs.Forms.{Linear}
+use Rattle.sm_certify.proofs.Imports.{◌≡◌, ℕ, suc, ◌<◌, ◌+◌, true, false, Bool, IsTrue, List, [], ◌∷◌, ◌++◌, length, slice_get, refl, sym, ap, ◌∙◌, subst, Option, Some, arith, append-nil, slice_get_within, Linear, CertLine, BranchFact, Sum, as_facts, Close, followed, HaveOnePlace, cannot_hold, closing_if, contradictory_stands, Closed, in_no_way, lines_before, ElimLine, Refutes, Seen, IsSource, AreSources, Contradict, IsRefutation, Source, IsUsable, AreWritten, AreMarked, ArePlaces, Leads}
+use Rattle.std.proofs.lemmas.List.{append_assoc, length-append}
 use Rattle.sm_num.specs.Tightening.{is_contradictory}
-use Rattle.sm_theory.specs.declared.line.CertLine.{CertLine}
 use Rattle.sm_theory.specs.declared.line.CertLine.TheVariants as line
-use Rattle.sm_theory.specs.Facts.{BranchFact, Sum, as_facts}
-use Rattle.sm_theory.specs.Lines.{Close, followed}
-use Rattle.sm_theory.specs.Standing.{HaveOnePlace}
-use Rattle.sm_theory.specs.Ways.{cannot_hold, closing_if}
-use Rattle.sm_theory.proofs.LinearStanding.{contradictory_stands}
-use Rattle.sm_cert.specs.Certificates.{Closed, in_no_way}
-use Rattle.sm_cert.specs.Views.{lines_before}
-use Rattle.sm_judge.specs.declared.eliminating.ElimLine.{ElimLine}
 use Rattle.sm_judge.specs.declared.eliminating.Refutation.{Refutation}
 use Rattle.sm_judge.specs.declared.forms.Source.TheVariants as source
-use Rattle.sm_certify.specs.Refutes.{Refutes}
-use Rattle.sm_judge.specs.Holding.{Seen}
-use Rattle.sm_judge.specs.Refutations.{IsSource, AreSources, Contradict, IsRefutation}
-use Rattle.sm_judge.specs.declared.forms.Source.{Source}
-use Rattle.sm_certify.specs.Refuting.{IsUsable, AreWritten, AreMarked, ArePlaces, Leads}
 use Rattle.sm_certify.proofs.AddingLemmas.{bad_under}
 use Rattle.sm_certify.proofs.WrittenLemmas.{written_none, written_sum, written_skip, so_far, stand_at, stand_count}
 

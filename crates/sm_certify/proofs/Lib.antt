@@ -1,3 +1,4 @@
+mod Imports
 pub mod AddingLemmas
 pub mod BranchLeadsLemmas
 pub mod ByLabelsLemmas

@@ -1,8 +1,5 @@
 -- Marks go from a sum to the forms of which it is made, the last sum first.
-use Rattle.std.proofs.Common.{◌≡◌, ℕ, zero, suc, ◌<◌, ◌≤◌, ◌+◌, ◌-◌, Bool, IsTrue, List, [], ◌∷◌, length, drop, get_or, sym, subst, ◌∙◌, arith}
-use Rattle.std.proofs.lemmas.List.{drop_more}
-use Rattle.sm_judge.specs.declared.eliminating.ElimLine.{ElimLine}
-use Rattle.sm_certify.specs.Refuting.{mark_at, AreMarked, ArePlaces, MarksSum}
+use Rattle.sm_certify.proofs.Imports.{◌≡◌, ℕ, zero, suc, ◌<◌, ◌≤◌, ◌+◌, ◌-◌, Bool, IsTrue, List, [], ◌∷◌, length, drop, get_or, sym, subst, ◌∙◌, arith, drop_more, ElimLine, mark_at, AreMarked, ArePlaces, MarksSum}
 
 -- the form that can't hold is among forms and sums
 pub bad_below : (at : ℕ) (es : List ElimLine) (bad : ℕ) → ArePlaces at es bad → bad < at + length es

@@ -1,24 +1,7 @@
 -- Which terms formulas name: those of more formulas behind them, and a term that is equal to itself.
-use Rattle.std.proofs.Common.{◌≡◌, ℕ, suc, ◌+◌, ◌<◌, Bool, true, false, ◌||◌, List, [], ◌∷◌, ◌++◌, length, take, Some, slice_get, refl, sym, ap, ◌∙◌, arith, ⊎_elim, pos}
-use Rattle.std.specs.List.{list_any}
-use Rattle.std.proofs.lemmas.Bool.{cases_Bool}
-use Rattle.std.proofs.lemmas.List.{take_more, length-take-le, get_or-take}
-use Rattle.std.proofs.lemmas.Option.{slice_get_within, slice_get-get_or, get_or_from_slice_get}
-use Rattle.sm_syntax.specs.declared.tree.Sort.{Sort}
-use Rattle.sm_term.specs.Assertions.{Assertion, Yes, No, Eq, Ne, Le, Lt, And, Or}
-use Rattle.sm_term.specs.Heads.{arguments_of}
-use Rattle.sm_term.specs.SameTerms.{same_tree}
-use Rattle.sm_term.specs.TableLaws.{AreApart}
-use Rattle.sm_term.specs.Tables.{tree_at, AreBefore}
-use Rattle.sm_term.specs.declared.term.TermId.{TermId}
-use Rattle.sm_term.specs.Terms.{Tree, Lit}
-use Rattle.sm_term.proofs.SameTermsLemmas.{same_tree_is}
-use Rattle.sm_theory.specs.TermsOfFormulas.{is_among, put, with_term, with_formula, with_formulas}
+use Rattle.sm_certify.proofs.Imports.{◌≡◌, ℕ, suc, ◌+◌, ◌<◌, Bool, true, false, ◌||◌, List, [], ◌∷◌, ◌++◌, length, take, Some, slice_get, refl, sym, ap, ◌∙◌, arith, ⊎_elim, pos, list_any, cases_Bool, take_more, length-take-le, get_or-take, slice_get_within, slice_get-get_or, get_or_from_slice_get, Sort, Assertion, arguments_of, same_tree, AreApart, tree_at, AreBefore, TermId, Tree, Lit, same_tree_is, is_among, put, with_term, with_formula, with_formulas, there_among, IsClosed, AllAmong, with_terms, with_term_is, among_with_term, closed_with_term, same_with_term, put_new, FormulaAmong, FormulasAmong}
+use Rattle.sm_term.specs.Assertions.{Yes, No, Eq, Ne, Le, Lt, And, Or}
 use Rattle.sm_euf.specs.Arguments.{trees_of}
-use Rattle.sm_pairs.proofs.AmongLemmas.{there_among}
-use Rattle.sm_terms.specs.Listing.{IsClosed, AllAmong}
-use Rattle.sm_terms.proofs.WithTermLemmas.{with_terms, with_term_is, among_with_term, closed_with_term, same_with_term, put_new}
-use Rattle.sm_list.proofs.BuiltLemmas.{FormulaAmong, FormulasAmong}
 
 -- formulas behind others
 pub with_formulas-append : (fs gs : List Assertion) (seen : List Tree) → with_formulas (fs ++ gs) seen ≡ with_formulas gs (with_formulas fs seen)

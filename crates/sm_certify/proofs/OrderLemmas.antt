@@ -1,33 +1,11 @@
 -- Lines that add formulas with terms in order and forms in order: those behind others, and none.
-use Rattle.std.proofs.Common.{◌≡◌, ℕ, ◌+◌, List, [], ◌∷◌, ◌++◌, map, length, take, Option, Some, refl, sym, ap, ◌∙◌, subst}
-use Rattle.std.specs.List.{filter_map}
-use Rattle.std.proofs.lemmas.List.{append-nil, append_assoc, length-append, length-map, map-append, take_at}
+use Rattle.sm_certify.proofs.Imports.{◌≡◌, ℕ, ◌+◌, List, [], ◌∷◌, ◌++◌, map, length, take, Option, Some, refl, sym, ap, ◌∙◌, subst, filter_map, append-nil, length-map, map-append, take_at, Linear, Assertion, Tree, form_by_places, forms_by_places, BranchFact, Formal, Sum, as_facts, followed, formula_in, form_in, HaveOnePlace, with_formulas, all_terms, line_in, IsLineWithin, CertLine, adds, added_by, AreLinesWithin, Seen, IsClosed, closed_none, closed_with_formulas, FormulasAmong, formulas_among, StandInOrder, followed_from, one_thing, within-append}
+use Rattle.std.proofs.lemmas.List.{append_assoc, length-append}
 use Rattle.std.proofs.lemmas.List.Elements.{filter_map-append}
-use Rattle.sm_num.specs.Forms.{Linear}
-use Rattle.sm_term.specs.Assertions.{Assertion}
-use Rattle.sm_term.specs.Terms.{Tree}
-use Rattle.sm_theory.specs.ExactLine.{form_by_places, forms_by_places}
-use Rattle.sm_theory.specs.Facts.{BranchFact, Formal, Sum, as_facts}
-use Rattle.sm_theory.specs.Lines.{followed, formula_in, form_in}
-use Rattle.sm_theory.specs.Standing.{HaveOnePlace}
-use Rattle.sm_theory.specs.TermsOfFormulas.{with_formulas, all_terms}
-use Rattle.sm_theory.specs.Views.{line_in, IsLineWithin}
-use Rattle.sm_theory.specs.declared.line.CertLine.{CertLine}
-use Rattle.sm_theory.specs.Ways.{adds}
 use Rattle.sm_theory.proofs.PlacedForms.{placed_is}
-use Rattle.sm_cc.specs.Explained.{added_by}
-use Rattle.sm_cert.specs.Views.{AreLinesWithin}
-use Rattle.sm_judge.specs.Holding.{Seen}
-use Rattle.sm_terms.specs.Listing.{IsClosed}
-use Rattle.sm_terms.proofs.WithTermLemmas.{closed_none, closed_with_formulas}
-use Rattle.sm_list.proofs.BuiltLemmas.{FormulasAmong, formulas_among}
-use Rattle.sm_certify.specs.Deciding.{StandInOrder}
 use Rattle.sm_certify.proofs.AddingLemmas.{added_both, added_count, added_then}
 use Rattle.sm_certify.proofs.NamingLemmas.{with_formulas-append}
 use Rattle.sm_certify.proofs.SourcesLemmas.{MakesFor}
-use Rattle.sm_theory.proofs.FactsLemmas.{followed_from}
-use Rattle.sm_lemmas.proofs.Lists.{one_thing}
-use Rattle.sm_list.proofs.RenumberLemmas.{within-append}
 
 -- formulas as facts
 formulas_back : (fs : List Assertion) → filter_map formula_in (as_facts fs) ≡ fs

@@ -1,32 +1,11 @@
 -- Lines that add facts, and then a line that closes the branch, refute it.
-use Rattle.std.proofs.Common.{◌≡◌, ℕ, zero, suc, ◌+◌, ◌<◌, Bool, true, not, ℤ, List, [], ◌∷◌, ◌++◌, map, length, Option, Some, None, slice_get, refl, sym, ap, subst, ◌∙◌, arith, append_assoc, length-append}
-use Rattle.std.specs.Ordering.{int_eq}
-use Rattle.std.proofs.lemmas.List.{append-nil, map-append}
-use Rattle.sm_syntax.specs.text.Sorts.{Sorts}
-use Rattle.sm_syntax.specs.declared.tree.Sort.{Sort}
-use Rattle.sm_syntax.specs.declared.tree.Sort.TheVariants.{Num}
-use Rattle.sm_term.specs.Terms.{Tree}
-use Rattle.sm_term.specs.Tables.{tree_at}
-use Rattle.sm_term.specs.declared.term.TermId.{TermId}
+use Rattle.sm_certify.proofs.Imports.{◌≡◌, ℕ, zero, suc, ◌+◌, ◌<◌, Bool, true, not, ℤ, List, [], ◌∷◌, ◌++◌, map, length, Option, Some, None, slice_get, refl, sym, ap, subst, ◌∙◌, arith, int_eq, append-nil, map-append, Sorts, Sort, Num, Tree, tree_at, TermId, Assertion, same_tree_is, BranchFact, Formal, CertificateLine, Both, Either, Cases, Order, Refl, Sym, Trans, Subst, Cong, Apart, Hit, Miss, Lin, Elim, Tight, Exact, Close, Clash, followed, formula_in, equal_sides, unequal_sides, equation_at, contrary_at, Sides, says_equal, formula_if, or_other, compared_forms, Ways, ways, ways_with, adds, adding, closing_if, line_in, IsLineWithin, CertLine, Closed, splits_above, in_one_way, in_no_way, first_bad, lines_before, AreLinesWithin, added_by, IsLineOf, AreLinesOf, Refutes, AreBelow, get_in_first, one_thing}
+use Rattle.std.proofs.Common.{append_assoc, length-append}
 use Rattle.sm_term.specs.Assertions as plain
-use Rattle.sm_term.specs.Assertions.{Assertion}
-use Rattle.sm_term.proofs.SameTermsLemmas.{same_tree_is}
 use Rattle.sm_theory.specs.declared.line.CertLine.TheVariants as line
-use Rattle.sm_theory.specs.Facts.{BranchFact, Formal}
-use Rattle.sm_theory.specs.Lines.{CertificateLine, Both, Either, Cases, Order, Refl, Sym, Trans, Subst, Cong, Same, Apart, Hit, Miss, Lin, Elim, Tight, Exact, Close, Clash, followed, formula_in, equal_sides, unequal_sides, equation_at}
-use Rattle.sm_theory.specs.Lines.{contrary_at, Sides}
-use Rattle.sm_theory.specs.Equality.{says_equal, formula_if, or_other}
-use Rattle.sm_theory.specs.Arithmetic.{compared_forms}
-use Rattle.sm_theory.specs.Ways.{Ways, ways, ways_with, adds, adding, closing_if}
-use Rattle.sm_theory.specs.Views.{line_in, IsLineWithin}
-use Rattle.sm_theory.specs.declared.line.CertLine.{CertLine}
-use Rattle.sm_cert.specs.Certificates.{Closed, splits_above, in_one_way, in_no_way, first_bad}
-use Rattle.sm_cert.specs.Views.{lines_before, AreLinesWithin}
-use Rattle.sm_cc.specs.Explained.{added_by, IsLineOf, AreLinesOf}
+use Rattle.sm_theory.specs.Lines.{Same}
 use Rattle.sm_cc.proofs.StandingLemmas.{both}
-use Rattle.sm_certify.specs.Refutes.{Refutes}
-use Rattle.sm_terms.specs.Listing.{numbers_of, AreBelow}
-use Rattle.sm_lemmas.proofs.Lists.{get_in_first, one_thing}
+use Rattle.sm_terms.specs.Listing.{numbers_of}
 
 -- a line that adds a fact goes on in one way
 pub one_way : (sorts : Sorts) (facts : List BranchFact) (l : CertificateLine) (k : BranchFact) → adds sorts facts l ≡ Some k →

@@ -1,16 +1,7 @@
 -- Terms that are equal on a branch are of one class by its facts.
-use Rattle.std.proofs.Common.{◌≡◌, true, IsTrue, List, ap, ◌∙◌, subst, sym}
-use Rattle.sm_term.specs.declared.formula.Formula.{Formula}
-use Rattle.sm_term.specs.Terms.{Tree}
-use Rattle.sm_term.specs.Tables.{TableValue, trees_in, tree_at}
-use Rattle.sm_term.specs.declared.term.TermId.{TermId}
-use Rattle.sm_pairs.specs.Pairs.{Pairs}
-use Rattle.sm_cc.specs.Classes.{Setting, Same}
-use Rattle.sm_cc.specs.Rounds.{are_equal}
-use Rattle.sm_cc.specs.Views.{ClassesValue, setting_of}
-use Rattle.sm_certify.specs.Given.{IsWhole, classes_by, branch_of}
+use Rattle.sm_certify.proofs.Imports.{◌≡◌, true, IsTrue, List, ap, ◌∙◌, subst, sym, Formula, Tree, TableValue, trees_in, tree_at, TermId, Pairs, Setting, are_equal, ClassesValue, setting_of, IsWhole, classes_by, branch_of, equal_is_same}
+use Rattle.sm_cc.specs.Classes.{Same}
 use Rattle.sm_certify.proofs.GivenLemmas.{equal_seen}
-use Rattle.sm_cc.proofs.LeastLemmas.{equal_is_same}
 
 -- the other way round too
 pub same_on_branch : (table : TableValue) (ts : List TermId) (fs : List Formula) → IsWhole (trees_in table) ts → (t u : Tree) →

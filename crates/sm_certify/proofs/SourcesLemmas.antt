@@ -1,27 +1,12 @@
 -- The form of a source is kept for the form of a line.
-use Rattle.std.proofs.Common.{◌≡◌, ℕ, zero, suc, ◌<◌, pos, negsuc, IsTrue, List, [], ◌∷◌, length, slice_get, refl, sym, ap, ◌∙◌, subst, Option, Some, None, if◌then◌else◌}
+use Rattle.sm_certify.proofs.Imports.{◌≡◌, ℕ, zero, suc, ◌<◌, pos, negsuc, IsTrue, List, [], ◌∷◌, length, slice_get, refl, sym, ap, ◌∙◌, subst, Option, Some, None, if◌then◌else◌, Linear, Outcome, Fits, Leaves, then_with, Tree, tree_at, Assertion, tree_sort, NumberedFormula, assertion_in, IsFormulaWithin, BranchFact, Sum, is_numeric, form_fact, difference, one_more, form_of_comparison, HaveOnePlace, IsKeptFor, IsOutcomeFor, combined_stands, Seen, assertions_in, AreFormulasWithin, comparison_by, HavePlaces, place_in, less_by}
 use Rattle.sm_num.specs.declared.kind.Kind.TheVariants as kind
-use Rattle.sm_num.specs.Forms.{Linear}
 use Rattle.sm_num.specs.declared.kind.Kind.{Kind}
-use Rattle.sm_num.specs.Combining.{Outcome, Fits, Leaves, then_with}
-use Rattle.sm_term.specs.Terms.{Tree}
-use Rattle.sm_term.specs.Tables.{tree_at}
-use Rattle.sm_term.specs.Assertions.{Assertion}
 use Rattle.sm_term.specs.Assertions as plain
-use Rattle.sm_term.specs.Sorted.{tree_sort}
-use Rattle.sm_term.specs.Formulas.{NumberedFormula, Yes, No, Eq, Ne, Le, Lt, And, Or, assertion_in, IsFormulaWithin}
+use Rattle.sm_term.specs.Formulas.{Yes, No, Eq, Ne, Le, Lt, And, Or}
 use Rattle.sm_theory.specs.LinearTerms.{linear_of, linear_by}
-use Rattle.sm_theory.specs.Facts.{BranchFact, Sum}
-use Rattle.sm_theory.specs.Arithmetic.{is_numeric, form_fact, difference, one_more, form_of_comparison}
-use Rattle.sm_theory.specs.Standing.{HaveOnePlace, IsKeptFor, IsOutcomeFor}
 use Rattle.sm_theory.proofs.LinearLater.{one_more_stands}
 use Rattle.sm_theory.proofs.LinearNumbers.{linear_stands}
-use Rattle.sm_theory.proofs.LinearStanding.{combined_stands}
-use Rattle.sm_judge.specs.Holding.{Seen}
-use Rattle.sm_list.specs.Parts.{assertions_in, AreFormulasWithin}
-use Rattle.sm_judge.specs.Refutations.{comparison_by}
-use Rattle.sm_judge.specs.Places.{HavePlaces}
-use Rattle.sm_judge.specs.Forms.{place_in, less_by}
 
 -- a line makes a form for which a form by numbers is kept
 abbrev pub MakesFor : List Tree → Option BranchFact → Linear ℕ → Type 0

@@ -1,39 +1,13 @@
 -- Lines are written for sources and sums until one closes the branch.
-use Rattle.std.proofs.Common.{◌≡◌, ℕ, zero, suc, ◌+◌, true, false, IsTrue, List, [], ◌∷◌, ◌++◌, map, length, slice_get, Bool, refl, sym, ap, ◌∙◌, subst, Option, Some, None, ℤ, pos, if◌then◌else◌, ⊎_elim, not, ◌&&◌, ◌||◌}
-use Rattle.std.specs.Ordering.{int_eq}
-use Rattle.std.proofs.lemmas.List.{append_assoc, map-append, length-append, length-map}
-use Rattle.std.proofs.lemmas.Option.{get_or_from_slice_get, slice_get_within}
-use Rattle.sm_num.specs.Forms.{Linear, coefficient}
-use Rattle.sm_num.specs.Combining.{Fits}
+use Rattle.sm_certify.proofs.Imports.{◌≡◌, ℕ, zero, suc, ◌+◌, true, false, IsTrue, List, [], ◌∷◌, ◌++◌, map, length, slice_get, Bool, refl, sym, ap, ◌∙◌, subst, Option, Some, None, ℤ, pos, if◌then◌else◌, ⊎_elim, not, ◌&&◌, ◌||◌, int_eq, map-append, length-map, get_or_from_slice_get, slice_get_within, Linear, coefficient, Fits, Tree, tree_at, same_tree, Assertion, BranchFact, Formal, Sum, as_facts, Lin, Elim, followed, formula_in, form_in, formula_at, form_at, or_other, form_of_comparison, form_fact, cancelled, StandsAt, HaveOnePlace, IsKeptFor, adds, line_in, IsLineWithin, CertLine, eliminated_stands, can_cancel_stands, added_by, slice_get-longer, first_behind, AreLinesWithin, ElimLine, Seen, IfMarked, IsFormAt, StandAsForms, AreWritten, within-append, one_thing}
+use Rattle.std.proofs.lemmas.List.{append_assoc, length-append}
 use Rattle.sm_num.specs.Eliminating.{can_cancel, eliminated, elimination, is_equation, signs_alike}
 use Rattle.sm_num.proofs.SameAtomLemmas.{not_both}
 use Rattle.sm_num.specs.FormLaws.{same_atom}
-use Rattle.sm_term.specs.Terms.{Tree}
-use Rattle.sm_term.specs.Tables.{tree_at}
-use Rattle.sm_term.specs.SameTerms.{same_tree}
-use Rattle.sm_term.specs.Assertions.{Assertion}
 use Rattle.sm_theory.specs.declared.line.CertLine.TheVariants as line
-use Rattle.sm_theory.specs.Facts.{BranchFact, Formal, Sum, as_facts}
-use Rattle.sm_theory.specs.Lines.{Lin, Elim, followed, formula_in, form_in, formula_at, form_at}
-use Rattle.sm_theory.specs.Equality.{or_other}
-use Rattle.sm_theory.specs.Arithmetic.{form_of_comparison, form_fact, cancelled}
-use Rattle.sm_theory.specs.Standing.{StandsAt, HaveOnePlace, IsKeptFor}
-use Rattle.sm_theory.specs.Ways.{adds}
-use Rattle.sm_theory.specs.Views.{line_in, IsLineWithin}
-use Rattle.sm_theory.specs.declared.line.CertLine.{CertLine}
 use Rattle.sm_theory.proofs.LinearPlaces.{place_or_not}
-use Rattle.sm_theory.proofs.LinearStanding.{eliminated_stands, can_cancel_stands}
-use Rattle.sm_cc.specs.Explained.{added_by}
-use Rattle.sm_pairs.proofs.LongerLemmas.{slice_get-longer}
-use Rattle.sm_cc.proofs.StepsLemmas.{first_behind}
-use Rattle.sm_cert.specs.Views.{AreLinesWithin}
-use Rattle.sm_judge.specs.declared.eliminating.ElimLine.{ElimLine}
-use Rattle.sm_judge.specs.Holding.{Seen}
-use Rattle.sm_certify.specs.Refuting.{IfMarked, IsFormAt, StandAsForms, AreWritten}
 use Rattle.sm_certify.proofs.AddingLemmas.{added_both, added_then, added_count}
 use Rattle.sm_certify.proofs.SourcesLemmas.{MakesFor, outcome_makes}
-use Rattle.sm_list.proofs.RenumberLemmas.{within-append}
-use Rattle.sm_lemmas.proofs.Lists.{one_thing}
 
 -- what is so is so where there is a mark
 pub if_marked : (m : Bool) (P : Type 0) → P → IfMarked m P

@@ -1,17 +1,12 @@
 -- What is answered where lines stop, where a file ends, past its limit, and where a read fails.
-use Rattle.std.proofs.Common.{◌≡◌, ◌<◌, ◌≤◌, ℕ, List, length, take, Result, Ok, Err, sym, ap, subst, ◌∙◌}
-use Rattle.std.specs.Result.{IfErr}
+use Rattle.sm_check.proofs.Imports.{◌≡◌, ◌<◌, ◌≤◌, ℕ, List, length, take, Result, Ok, Err, sym, ap, subst, ◌∙◌, IfErr, Word, Subject, Reached, Refused, Before, Verdict, verdict, verdict_at_end, lines_in, StopsAt, Judged, cut_answer, file_answer, TellsAnswer, Checked, Pass, Rejected, CheckError, ReadFault, TooLong, StopsIn, reach, stopped_answer}
 use Rattle.sm_io.specs.declared.error.IoError.{IoError}
 use Rattle.sm_io.specs.declared.error.IoError.TheVariants.{Fault as a_fault, Memory as no_memory}
-use Rattle.sm_proof.specs.declared.word.Word.{Word}
-use Rattle.sm_proof.specs.Verdicts.{Subject, Reached, Refused, Before, Verdict, verdict, verdict_at_end, lines_in}
 use Rattle.sm_proof.specs.Verdicts as proof
 use Rattle.sm_check.specs.declared.fault.Stopped.TheVariants as stopped
-use Rattle.sm_check.specs.Aside.{StopsAt}
 use Rattle.sm_check.specs.Errors.{check_error_of}
-use Rattle.sm_check.specs.Files.{Judged, cut_answer, file_answer, TellsAnswer, Checked, Pass, Rejected, CheckError, ReadFault, TooLong, Memory}
-use Rattle.sm_check.specs.Pieces.{StopsIn, reach, Stopped}
-use Rattle.sm_check.specs.Stops.{stopped_answer}
+use Rattle.sm_check.specs.Files.{Memory}
+use Rattle.sm_check.specs.Pieces.{Stopped}
 use Rattle.sm_check.proofs.EndLemmas.{answer_past, answer_within, refused_answer, verdict-reach}
 
 -- what is answered where lines stop tells how far they come

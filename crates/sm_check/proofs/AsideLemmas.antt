@@ -1,19 +1,10 @@
 -- Lines that were taken, with lines set aside behind them.
-use Rattle.std.proofs.Common.{◌≡◌, ◌≢◌, ◌+◌, ℕ, suc, Bool, true, false, ◌==◌, length, List, [], ◌∷◌, ◌++◌, refl, sym, ap, ◌∙◌, subst, Result, Ok, Err, append_assoc, append-nil, arith, ◌≤◌, zero, drop}
-use Rattle.std.proofs.lemmas.Bool.Decides.{nat_tests}
-use Rattle.sm_syntax.specs.text.Sorts.{Sorts}
-use Rattle.sm_term.specs.Terms.{Tree}
+use Rattle.sm_check.proofs.Imports.{◌≡◌, ◌≢◌, ◌+◌, ℕ, suc, Bool, true, false, ◌==◌, length, List, [], ◌∷◌, ◌++◌, refl, sym, ap, ◌∙◌, subst, Result, Ok, Err, append_assoc, append-nil, arith, ◌≤◌, zero, drop, nat_tests, Sorts, Tree, Word, Pending, Branch, Progress, Subject, Standing, Unopened, Underway, Reached, Refused, Before, reached, reached_after, reads_exact, FileLines, lines_in, TakenLines, Unfinished, standing_after, with_line, ComesTo, StopsAt, progress_at, AreRead, IsAt, Closes, CloseFirst, HasNoEnd, Takes, RefusesAt, StopsIn, IsKept, AreTaken}
 use Rattle.sm_plan.specs.States.{State}
-use Rattle.sm_proof.specs.declared.word.Word.{Word}
-use Rattle.sm_proof.specs.Passing.{Pending, Due, Branch, Progress}
-use Rattle.sm_proof.specs.Verdicts.{Subject, Standing, Unopened, Underway, Reached, Refused, Before, reached, reached_after, reads_exact, FileLines, lines_in}
-use Rattle.sm_check.specs.declared.taken_lines.TakenLines.{TakenLines}
-use Rattle.sm_check.specs.declared.unfinished.Unfinished.{Unfinished}
-use Rattle.sm_check.specs.Aside.{standing_after, with_line, ComesTo, StopsAt, joined, progress_at, AreRead}
-use Rattle.sm_check.specs.Checkers.{IsAt, GoesOn}
-use Rattle.sm_check.specs.Closing.{Closes, CloseFirst}
-use Rattle.sm_check.specs.LineEnds.{HasNoEnd}
-use Rattle.sm_check.specs.Pieces.{reach, StandsAt, Takes, RefusesAt, StopsIn, IsKept, AreTaken, Stopped, Wrong, Memory}
+use Rattle.sm_proof.specs.Passing.{Due}
+use Rattle.sm_check.specs.Aside.{joined}
+use Rattle.sm_check.specs.Checkers.{GoesOn}
+use Rattle.sm_check.specs.Pieces.{reach, StandsAt, Stopped, Wrong, Memory}
 use Rattle.sm_check.proofs.ClosingLemmas.{closes_along}
 use Rattle.sm_check.proofs.LineLemmas.{lines_in-end}
 

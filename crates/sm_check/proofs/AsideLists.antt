@@ -1,11 +1,6 @@
 -- Certificates as lists of lines, one behind the other.
-use Rattle.std.proofs.Common.{◌≡◌, ◌<◌, ◌≤◌, ◌+◌, ℕ, zero, suc, List, [], ◌∷◌, ◌++◌, length, take, drop, get_or, refl, sym, ap, ◌∙◌, subst, arith, append_assoc}
-use Rattle.std.proofs.lemmas.List.{length-append, drop_more}
-use Rattle.sm_proof.specs.Verdicts.{Subject, Reached}
-use Rattle.sm_check.specs.declared.raw_lines.RawLines.{RawLines}
-use Rattle.sm_check.specs.declared.taken_lines.TakenLines.{TakenLines}
-use Rattle.sm_check.specs.Aside.{ComesTo, certificates_of, joined}
-use Rattle.sm_check.specs.LineEnds.{ended_in}
+use Rattle.sm_check.proofs.Imports.{◌≡◌, ◌<◌, ◌≤◌, ◌+◌, ℕ, zero, suc, List, [], ◌∷◌, ◌++◌, length, take, drop, get_or, refl, sym, ap, ◌∙◌, subst, arith, append_assoc, length-append, drop_more, Subject, Reached, RawLines, TakenLines, ComesTo, certificates_of, ended_in}
+use Rattle.sm_check.specs.Aside.{joined}
 use Rattle.sm_check.proofs.AsideLemmas.{Skips, drop_whole}
 
 -- the certificate at a place is the next

@@ -1,18 +1,7 @@
 -- Lines that are set aside: one more, or all of them taken.
-use Rattle.std.proofs.Common.{◌≡◌, ◌+◌, ℕ, Bool, List, [], ◌∷◌, ◌++◌, length, take, drop, Result, Ok, Err, sym, ap, ◌∙◌, subst, arith, append_assoc, append-nil}
-use Rattle.std.proofs.lemmas.List.{length-append}
-use Rattle.std.specs.Result.{OnOk, IfErr}
-use Rattle.sm_syntax.specs.text.Sorts.{Sorts}
-use Rattle.sm_term.specs.Terms.{Tree}
-use Rattle.sm_proof.specs.Passing.{Pending}
-use Rattle.sm_proof.specs.Verdicts.{Subject, Standing, Reached, reached, reads_exact}
-use Rattle.sm_check.specs.declared.raw_lines.RawLines.{RawLines}
-use Rattle.sm_check.specs.declared.taken_lines.TakenLines.{TakenLines}
-use Rattle.sm_check.specs.Aside.{ComesTo, StopsAt, certificates_of, joined, progress_at, standing_after, with_line}
-use Rattle.sm_check.specs.Checkers.{IsAt}
-use Rattle.sm_check.specs.Closing.{CloseFirst}
-use Rattle.sm_check.specs.LineEnds.{ended_in}
-use Rattle.sm_check.specs.Pieces.{RefusesAt, Takes, Stopped}
+use Rattle.sm_check.proofs.Imports.{◌≡◌, ◌+◌, ℕ, Bool, List, [], ◌∷◌, ◌++◌, length, take, drop, Result, Ok, Err, sym, ap, ◌∙◌, subst, arith, append_assoc, append-nil, length-append, OnOk, IfErr, Sorts, Tree, Pending, Subject, Standing, Reached, reached, reads_exact, RawLines, TakenLines, ComesTo, StopsAt, certificates_of, progress_at, standing_after, with_line, IsAt, CloseFirst, ended_in, RefusesAt, Takes}
+use Rattle.sm_check.specs.Aside.{joined}
+use Rattle.sm_check.specs.Pieces.{Stopped}
 use Rattle.sm_check.proofs.AsideLemmas.{line_taken, line_refused}
 use Rattle.sm_check.proofs.AsideLists.{joined_cut, take_certificates}
 

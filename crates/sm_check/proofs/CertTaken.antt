@@ -1,35 +1,12 @@
 -- How a proof on its way goes on with a line of a certificate.
-use Rattle.std.proofs.Common.{◌≡◌, ℕ, suc, ◌+◌, ◌≤◌, ◌<◌, ◌⊎◌, ⊎_elim, min, Bool, true, false, if◌then◌else◌, Option, Some, None, Result, Ok, Err, List, [], ◌∷◌, length, reverse, refl, sym, ap, ◌∙◌, subst, arith}
-use Rattle.sm_syntax.specs.claim.ConflictFree.{Copy}
-use Rattle.sm_syntax.specs.declared.copies.PerCopy.{PerCopy}
-use Rattle.sm_syntax.specs.text.Sorts.{Sorts}
-use Rattle.std.specs.declared.rc.Rc.{Rc}
+use Rattle.sm_check.proofs.Imports.{◌≡◌, ℕ, suc, ◌+◌, ◌≤◌, ◌<◌, ◌⊎◌, ⊎_elim, min, Bool, true, false, if◌then◌else◌, Option, Some, None, Result, Ok, Err, List, [], ◌∷◌, length, reverse, refl, sym, ap, ◌∙◌, subst, arith, Copy, PerCopy, Sorts, Rc, SymbolicStore, SymStore, TableValue, trees_in, sorts_in, Tree, BranchFact, CertificateLine, Ways, ways, is_split, is_shallow, stores_in, NumberedLine, found_or, tested_or, and_then, named_line, line_head, Word, BadNumber, Deep, First, Pending, Progress, branches_before, after_line, splits_above, pending_after, WalksIn, RowsStand, Misses, AllPending, PendingStands, Tells, WalkValue, Walks, terms_in, is_few}
 use Rattle.std.specs.declared.alloc.Global.{Global}
-use Rattle.sm_term.specs.Symbolic.{SymbolicStore}
-use Rattle.sm_term.specs.declared.symbolic.SymStore.{SymStore}
-use Rattle.sm_term.specs.Tables.{TableValue, trees_in, sorts_in}
-use Rattle.sm_term.specs.Terms.{Tree}
-use Rattle.sm_theory.specs.Facts.{BranchFact}
-use Rattle.sm_theory.specs.Lines.{CertificateLine}
-use Rattle.sm_theory.specs.Ways.{Ways, ways}
-use Rattle.sm_theory.specs.Named.{is_split}
-use Rattle.sm_plan.specs.Limits.{is_shallow}
-use Rattle.sm_plan.specs.Views.{stores_in}
-use Rattle.sm_proof.specs.Lines.{NumberedLine}
-use Rattle.sm_proof.specs.Named.{found_or, tested_or, and_then, named_line, line_head}
-use Rattle.sm_proof.specs.declared.word.Word.{Word}
-use Rattle.sm_proof.specs.declared.word.Word.TheVariants.{BadNumber, Deep, First}
 use Rattle.sm_proof.specs.Passing as plain
-use Rattle.sm_proof.specs.Passing.{Pending, Progress, branches_before, after_line}
 use Rattle.sm_check.specs.declared.pending.Due.TheVariants as due
-use Rattle.sm_check.specs.CertsTaken.{splits_above, pending_after, WalksIn}
-use Rattle.sm_check.specs.FormRows.{RowsStand, FormRow}
-use Rattle.sm_check.specs.LineKinds.{Misses}
-use Rattle.sm_check.specs.Pending.{AllPending, PendingStands, Due}
-use Rattle.sm_check.specs.Tells.{Tells, LineFault, Wrong, Memory}
-use Rattle.sm_check.specs.Walks.{WalkValue, Walks, terms_in}
+use Rattle.sm_check.specs.FormRows.{FormRow}
+use Rattle.sm_check.specs.Pending.{Due}
+use Rattle.sm_check.specs.Tells.{LineFault, Wrong, Memory}
 use Rattle.sm_check.proofs.NodesLemmas.{too_many, tells_word}
-use Rattle.sm_plan.proofs.NodeListsExact.{is_few}
 
 -- how many splits stand above, and whether they are too many
 pub splits_told : (l : NumberedLine) (splits over : ℕ) →

@@ -1,42 +1,15 @@
 -- Lines at a branch, by the ways in which it goes on.
-use Rattle.std.proofs.Common.{◌≡◌, ℕ, ◌≤◌, Bool, true, false, Option, Some, None, Result, Ok, Err, List, [], ◌∷◌, ◌++◌, length, take, reverse, slice_get, refl, sym, ap, ◌∙◌, subst, arith}
-use Rattle.std.proofs.Math.Seq.{take-append_seam}
-use Rattle.std.proofs.lemmas.List.{length-append}
-use Rattle.sm_syntax.specs.declared.copies.PerCopy.{PerCopy}
-use Rattle.sm_syntax.specs.claim.ConflictFree.{Copy}
-use Rattle.sm_syntax.specs.text.Sorts.{Sorts}
-use Rattle.sm_term.specs.Terms.{Tree}
-use Rattle.sm_term.specs.Assertions.{Assertion, Yes, No, Eq, Ne, Le, Lt, And, Or}
-use Rattle.sm_term.specs.Symbolic.{SymbolicStore}
-use Rattle.sm_term.specs.declared.symbolic.SymStore.{SymStore}
+use Rattle.sm_check.proofs.Imports.{◌≡◌, ℕ, ◌≤◌, Bool, true, false, Option, Some, None, Result, Ok, Err, List, [], ◌∷◌, ◌++◌, length, take, reverse, refl, sym, ap, ◌∙◌, subst, arith, take-append_seam, length-append, PerCopy, Copy, Sorts, Tree, Assertion, Yes, No, Eq, Ne, Le, Lt, And, Or, SymbolicStore, SymStore, BranchFact, Sides, followed, formula_at, contrary_at, equation_at, AreFactsSorted, Ways, ways_with, either_part, both_parts, adding, closing_if, cannot_hold, AllStand, line_in, CertLine, Fact, is_closed, SplitsInto, stand_append, sorted_append, stores_in, numbered_line, found_or, Word, First, Head, Pending, branches_before, Rc, is_split, is_closing, AllWait, PendingStands, Waiting, Tells}
+use Rattle.std.proofs.Common.{slice_get}
 use Rattle.sm_theory.specs.declared.line.CertLine.TheVariants as line
-use Rattle.sm_theory.specs.Facts.{BranchFact}
 use Rattle.sm_theory.specs.Laws.{EachWay}
-use Rattle.sm_theory.specs.Lines.{Sides, followed, formula_at, contrary_at, equation_at}
 use Rattle.sm_theory.specs.Equality.{says_equal}
-use Rattle.sm_theory.specs.SortedFacts.{AreFactsSorted}
-use Rattle.sm_theory.specs.Ways.{Ways, ways_with, either_part, both_parts, adding, closing_if, cannot_hold}
-use Rattle.sm_theory.specs.Views.{AllStand, line_in}
-use Rattle.sm_theory.specs.declared.line.CertLine.{CertLine}
-use Rattle.sm_theory.specs.declared.fact.Fact.{Fact}
-use Rattle.sm_cert.specs.Ways.{GoesOn, is_closed, SplitsInto}
-use Rattle.sm_cert.proofs.WaysLemmas.{stand_append}
-use Rattle.sm_cert.proofs.CertificateSound.{sorted_append}
-use Rattle.sm_plan.specs.Views.{stores_in}
-use Rattle.sm_proof.specs.Lines.{numbered_line}
-use Rattle.sm_proof.specs.Named.{found_or}
-use Rattle.sm_proof.specs.declared.word.Word.{Word}
-use Rattle.sm_proof.specs.declared.word.Word.TheVariants.{First}
-use Rattle.sm_proof.specs.declared.word.Head.{Head}
+use Rattle.sm_cert.specs.Ways.{GoesOn}
 use Rattle.sm_proof.specs.Passing as plain
-use Rattle.sm_proof.specs.Passing.{Pending, branches_before}
-use Rattle.std.specs.declared.rc.Rc.{Rc}
 use Rattle.std.specs.declared.alloc.Global.{Global}
-use Rattle.sm_theory.specs.Named.{is_split, is_closing}
 use Rattle.sm_check.specs.declared.pending.Due.TheVariants as due
 use Rattle.sm_check.specs.declared.pending.Waiting.TheVariants as waits
-use Rattle.sm_check.specs.Pending.{AllWait, PendingStands, Waiting, Due}
-use Rattle.sm_check.specs.Tells.{Tells}
+use Rattle.sm_check.specs.Pending.{Due}
 use Rattle.sm_check.proofs.PendingLemmas.{wait_moves, wait_looser, last_first, take_whole}
 
 -- a line is refused, or there are two ways

@@ -1,21 +1,8 @@
 -- Where the proof of a checker stands, and how it goes on.
-use Rattle.std.proofs.Common.{◌≡◌, inl, inr, Bool, true, false, if◌then◌else◌, Some, None, Result, Ok, Err, refl, sym, ap, ◌∙◌, subst}
-use Rattle.sm_syntax.specs.text.Sorts.{Sorts}
-use Rattle.sm_term.specs.Tables.{sorts_in}
-use Rattle.sm_proof.specs.Lines.{ProofLine}
-use Rattle.sm_proof.specs.Named.{tested_or, and_then}
-use Rattle.sm_proof.specs.declared.word.Word.{Word}
-use Rattle.sm_proof.specs.declared.word.Word.TheVariants.{BadLine, BadVersion}
-use Rattle.sm_proof.specs.Passing.{Progress, start_progress, taken}
-use Rattle.sm_proof.specs.Verdicts.{Subject, Standing, Unopened, Underway, none_waits, passes_version, opens_if, next_standing, reads_exact}
-use Rattle.sm_proof.specs.Versions.{has_exact, may_stand}
-use Rattle.sm_check.specs.declared.checker.Checker.{Checker}
+use Rattle.sm_check.proofs.Imports.{◌≡◌, inl, inr, Bool, true, false, if◌then◌else◌, Some, None, Result, Ok, Err, refl, sym, ap, ◌∙◌, subst, Sorts, sorts_in, ProofLine, tested_or, and_then, Word, BadLine, BadVersion, Progress, start_progress, taken, Subject, Standing, Unopened, Underway, none_waits, passes_version, opens_if, next_standing, reads_exact, has_exact, may_stand, Checker, Done, More, progress_at, IsAbout, state_of, Stops, Tells, WalkValue, Walks}
 use Rattle.sm_check.specs.declared.checker.State.{State}
-use Rattle.sm_check.specs.declared.checker.State.TheVariants.{Done, More}
-use Rattle.sm_check.specs.Aside.{progress_at}
-use Rattle.sm_check.specs.Checkers.{IsAbout, IsAt, StandsAt, state_of, GoesOn, Stops}
-use Rattle.sm_check.specs.Tells.{Tells, LineFault, Wrong, Memory}
-use Rattle.sm_check.specs.Walks.{WalkValue, Walks}
+use Rattle.sm_check.specs.Checkers.{IsAt, StandsAt, GoesOn}
+use Rattle.sm_check.specs.Tells.{LineFault, Wrong, Memory}
 use Rattle.sm_check.proofs.CertTaken.{tells_then}
 use Rattle.sm_check.proofs.NodeTaken.{tells_on}
 use Rattle.sm_check.proofs.NodesLemmas.{tells_word}

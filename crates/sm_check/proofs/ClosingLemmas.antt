@@ -1,23 +1,7 @@
 -- Lines that close a branch alone close it where more is pending behind it.
-use Rattle.std.proofs.Common.{◌≡◌, ℕ, suc, ◌+◌, Bool, true, false, Option, Some, None, Result, Ok, List, [], ◌∷◌, ◌++◌, length, map, refl, ap, ◌∙◌, subst, arith, append-nil}
-use Rattle.sm_syntax.specs.claim.ConflictFree.{Copy}
-use Rattle.sm_syntax.specs.text.Sorts.{Sorts}
-use Rattle.sm_term.specs.Symbolic.{SymbolicStore}
-use Rattle.sm_term.specs.Terms.{Tree}
-use Rattle.sm_theory.specs.Facts.{BranchFact}
-use Rattle.sm_theory.specs.Lines.{CertificateLine}
-use Rattle.sm_theory.specs.Ways.{Ways, ways}
-use Rattle.sm_plan.specs.Limits.{is_shallow}
-use Rattle.sm_proof.specs.Lines.{ProofLine, NumberedLine, Cert}
-use Rattle.sm_proof.specs.Named.{found_or, tested_or, and_then, named_line, line_head}
-use Rattle.sm_proof.specs.declared.word.Word.{Word}
-use Rattle.sm_proof.specs.declared.word.Word.TheVariants.{BadLine, BadNumber, Deep, First}
-use Rattle.sm_proof.specs.Passing.{Pending, Due, Branch, Progress, branches_before, taken_at}
-use Rattle.sm_proof.specs.Verdicts.{Subject, Standing, Underway, reached, reached_after, next_standing}
+use Rattle.sm_check.proofs.Imports.{◌≡◌, ℕ, suc, ◌+◌, Bool, true, false, Option, Some, None, Result, Ok, List, [], ◌∷◌, ◌++◌, length, map, refl, ap, ◌∙◌, subst, arith, append-nil, Copy, Sorts, SymbolicStore, Tree, BranchFact, CertificateLine, Ways, ways, is_shallow, ProofLine, NumberedLine, Cert, found_or, tested_or, and_then, named_line, line_head, Word, BadLine, BadNumber, Deep, First, Pending, Branch, Progress, branches_before, taken_at, Subject, Standing, Underway, reached, reached_after, next_standing, standing_after, splits_above, pending_after, LeadsTo, Closes}
+use Rattle.sm_proof.specs.Passing.{Due}
 use Rattle.sm_proof.proofs.ExactLines.{stands_there}
-use Rattle.sm_check.specs.Aside.{standing_after}
-use Rattle.sm_check.specs.CertsTaken.{splits_above, pending_after}
-use Rattle.sm_check.specs.Closing.{LeadsTo, Closes}
 use Rattle.sm_check.proofs.CertTaken.{goes, cert_after_is}
 
 -- a branch with these stores

@@ -1,17 +1,7 @@
 -- What a file answers by how far the bytes come that were read.
-use Rattle.std.proofs.Common.{◌≡◌, ◌<◌, ◌≤◌, ◌+◌, ◌-◌, ℕ, Bool, true, false, nat_le, if◌then◌else◌, length, take, drop, List, [], ◌∷◌, ◌++◌, refl, sym, ap, ◌∙◌, subst, arith, length-take, length-drop}
-use Rattle.std.proofs.lemmas.Bool.Decides.{nat_tests}
-use Rattle.std.proofs.lemmas.List.{take-append-drop, take-take}
-use Rattle.std.proofs.Math.Seq.{take-add}
-use Rattle.sm_io.specs.Files.{ReadsFrom}
-use Rattle.sm_proof.specs.declared.word.Word.{Word}
-use Rattle.sm_proof.specs.declared.word.Word.TheVariants.{Truncated}
-use Rattle.sm_proof.specs.Verdicts.{Subject, Standing, Unopened, Reached, Refused, Before, Verdict, verdict, verdict_at_end, is_done, lines_in, reached}
+use Rattle.sm_check.proofs.Imports.{◌≡◌, ◌<◌, ◌≤◌, ◌+◌, ◌-◌, ℕ, Bool, true, false, nat_le, if◌then◌else◌, length, take, drop, List, [], ◌∷◌, ◌++◌, refl, sym, ap, ◌∙◌, subst, arith, length-take, length-drop, nat_tests, take-append-drop, take-take, take-add, ReadsFrom, Word, Truncated, Subject, Standing, Unopened, Reached, Refused, Before, Verdict, verdict, verdict_at_end, is_done, lines_in, reached, Done, More, TakenLines, Judged, file_answer, cut_answer, AreEndedTaken}
 use Rattle.sm_proof.specs.Verdicts as proof
-use Rattle.sm_check.specs.declared.checker.State.TheVariants.{Done, More}
-use Rattle.sm_check.specs.declared.taken_lines.TakenLines.{TakenLines}
-use Rattle.sm_check.specs.Files.{Judged, file_answer, cut_answer}
-use Rattle.sm_check.specs.Pieces.{reach, AreEndedTaken}
+use Rattle.sm_check.specs.Pieces.{reach}
 use Rattle.sm_check.proofs.LineLemmas.{reach_refused}
 
 -- the verdict by how far the bytes come

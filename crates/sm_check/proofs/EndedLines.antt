@@ -1,9 +1,5 @@
 -- The lines of bytes that have an end: the first of them, how many there are, and one more.
-use Rattle.std.proofs.Common.{◌≡◌, ◌≤◌, ◌+◌, ◌-◌, ℕ, suc, Bool, true, false, ◌==◌, length, take, drop, List, [], ◌∷◌, ◌++◌, refl, ap, ◌∙◌, arith, append_assoc, sym, if◌then◌else◌}
-use Rattle.std.proofs.lemmas.List.{take_rest, take-append-drop}
-use Rattle.std.proofs.Math.Seq.{take-add}
-use Rattle.sm_proof.specs.Verdicts.{FileLines, lines_in, in_first_line}
-use Rattle.sm_check.specs.LineEnds.{HasNoEnd, ended_in}
+use Rattle.sm_check.proofs.Imports.{◌≡◌, ◌≤◌, ◌+◌, ◌-◌, ℕ, suc, Bool, true, false, ◌==◌, length, take, drop, List, [], ◌∷◌, ◌++◌, refl, ap, ◌∙◌, arith, append_assoc, sym, if◌then◌else◌, take_rest, take-append-drop, take-add, FileLines, lines_in, in_first_line, HasNoEnd, ended_in}
 use Rattle.sm_check.proofs.LineLemmas.{lines_of, with_byte, lines_in-plain, lines_in-rest, lines_in-end}
 
 -- the first line, with its end

@@ -1,21 +1,8 @@
 -- Lines that make formulas, as rows.
-use Rattle.std.proofs.Common.{◌≡◌, ℕ, zero, suc, ◌+◌, min, max, Bool, Option, Some, None, Result, Ok, Err, slice_get, List, [], ◌∷◌, length, refl, sym, ap, ◌∙◌, subst, arith}
-use Rattle.std.proofs.lemmas.Option.{same_Some}
-use Rattle.sm_term.specs.Terms.{Tree}
-use Rattle.sm_term.specs.Assertions.{Assertion}
-use Rattle.sm_term.specs.Tables.{tree_at}
-use Rattle.sm_term.specs.declared.term.TermId.{TermId}
-use Rattle.sm_theory.specs.Lines.{followed}
+use Rattle.sm_check.proofs.Imports.{◌≡◌, ℕ, zero, suc, ◌+◌, min, max, Bool, Option, Some, None, Result, Ok, Err, List, [], ◌∷◌, length, refl, sym, ap, ◌∙◌, subst, arith, same_Some, Tree, Assertion, tree_at, TermId, followed, found_or, tested_or, Word, BadNumber, First, form_about, form_from, Sorts, form_nodes, form_depth, row_form, RowStands, RowsStand, TellsRows, Tells, terms_in}
+use Rattle.std.proofs.Common.{slice_get}
 use Rattle.sm_proof.specs.declared.word.Head.TheVariants as head
-use Rattle.sm_proof.specs.Named.{found_or, tested_or}
-use Rattle.sm_proof.specs.declared.word.Word.{Word}
-use Rattle.sm_proof.specs.declared.word.Word.TheVariants.{BadNumber, First}
-use Rattle.sm_proof.specs.Passing.{form_about, form_from}
-use Rattle.sm_syntax.specs.text.Sorts.{Sorts}
-use Rattle.sm_plan.specs.Limits.{form_nodes, form_depth}
-use Rattle.sm_check.specs.FormRows.{joined, row_form, RowStands, RowsStand, TellsRows, FormRow}
-use Rattle.sm_check.specs.Tells.{Tells}
-use Rattle.sm_check.specs.Walks.{terms_in}
+use Rattle.sm_check.specs.FormRows.{joined, FormRow}
 
 -- a term that a line made
 pub named_there : (trees : List Tree) (terms : List TermId) (n : ℕ) (t : TermId) → slice_get terms n ≡ Some t →

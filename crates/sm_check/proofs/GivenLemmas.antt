@@ -1,13 +1,7 @@
 -- What the reads of a proof file gave, and what is answered to that.
-use Rattle.std.proofs.Common.{◌≡◌, ◌<◌, ◌≤◌, ◌+◌, ◌++◌, ℕ, List, [], ◌∷◌, length, take, drop, Result, Ok, Err, IsErrOf, inl, inr, refl, sym, ap, ◌∙◌, subst, arith, length-take}
-use Rattle.std.proofs.lemmas.List.{length-append, take_all, take-take}
-use Rattle.sm_io.specs.Files.{ReadsFrom}
-use Rattle.sm_io.specs.Reads.{Read, ReadsOn, ReadsWhole}
-use Rattle.sm_io.proofs.ReadLemmas.{reads_none}
-use Rattle.sm_proof.specs.Verdicts.{Subject}
-use Rattle.sm_check.specs.Files.{file_answer, TellsAnswer, Checked, Pass, CheckError, Memory, ReadFault}
+use Rattle.sm_check.proofs.Imports.{◌≡◌, ◌<◌, ◌≤◌, ◌+◌, ◌++◌, ℕ, List, [], ◌∷◌, length, take, drop, Result, Ok, Err, IsErrOf, inl, inr, refl, sym, ap, ◌∙◌, subst, arith, length-take, length-append, take_all, take-take, ReadsFrom, Read, ReadsOn, ReadsWhole, reads_none, Subject, file_answer, TellsAnswer, Checked, Pass, CheckError, ReadFault, stopped_answer}
+use Rattle.sm_check.specs.Files.{Memory}
 use Rattle.sm_check.specs.FilesRead.{AnswersRead}
-use Rattle.sm_check.specs.Stops.{stopped_answer}
 use Rattle.sm_check.specs.declared.fault.Stopped.{Stopped}
 use Rattle.sm_check.specs.declared.fault.Stopped.TheVariants as stopped
 

@@ -1,43 +1,15 @@
 -- Certificates that jobs let pass close the branches that are due.
-use Rattle.std.proofs.Common.{◌≡◌, ◌<◌, ◌≤◌, ◌+◌, ℕ, zero, suc, Bool, true, Option, Some, None, Result, Ok, Err, List, [], ◌∷◌, ◌++◌, length, take, refl, sym, ap, ◌∙◌, subst, arith, reverse, append_assoc, append-nil, get_or, ◌-◌, min}
-use Rattle.std.proofs.Common.{is_some, not, zero-add}
-use Rattle.std.proofs.lemmas.List.{length-append, take_more, take_min}
-use Rattle.std.specs.List.{slice_get, slice_index_or}
+use Rattle.sm_check.proofs.Imports.{◌≡◌, ◌<◌, ◌≤◌, ◌+◌, ℕ, zero, suc, Bool, true, Option, Some, None, Result, Ok, Err, List, [], ◌∷◌, ◌++◌, length, take, refl, sym, ap, ◌∙◌, subst, arith, reverse, append_assoc, append-nil, get_or, ◌-◌, min, is_some, not, zero-add, length-append, take_more, take_min, slice_index_or, Rc, Copy, PerCopy, Sorts, SymbolicStore, SymStore, AreBefore, TermId, Tree, BranchFact, AreFactsSorted, FactStands, AllStand, Fact, stores_in, Word, NumberedLine, Cert, Pending, read_with, Opening, RawLines, certificates_of, pending_after, LeadsTo, Closes, CloseFirst, IsGoalDue, MoreStands, OpenFirst, Passes, ended_in, shared_by, WaitingStands, AllWait, AllPending, PendingStands, Waiting, Tells, sorted_append, stand_append}
+use Rattle.std.specs.List.{slice_get}
 use Rattle.std.specs.declared.alloc.Global.{Global}
-use Rattle.std.specs.declared.rc.Rc.{Rc}
 use Rattle.sm_par.specs.Results.{StandInOrder}
-use Rattle.sm_syntax.specs.claim.ConflictFree.{Copy}
-use Rattle.sm_syntax.specs.declared.copies.PerCopy.{PerCopy}
-use Rattle.sm_syntax.specs.text.Sorts.{Sorts}
-use Rattle.sm_term.specs.Symbolic.{SymbolicStore}
-use Rattle.sm_term.specs.declared.symbolic.SymStore.{SymStore}
-use Rattle.sm_term.specs.Tables.{AreBefore}
-use Rattle.sm_term.specs.declared.term.TermId.{TermId}
-use Rattle.sm_term.specs.Terms.{Tree}
-use Rattle.sm_theory.specs.Facts.{BranchFact}
-use Rattle.sm_theory.specs.SortedFacts.{AreFactsSorted}
-use Rattle.sm_theory.specs.Views.{FactStands, AllStand}
-use Rattle.sm_theory.specs.declared.fact.Fact.{Fact}
-use Rattle.sm_plan.specs.Views.{stores_in}
-use Rattle.sm_proof.specs.declared.word.Word.{Word}
-use Rattle.sm_proof.specs.Lines.{NumberedLine, Cert}
 use Rattle.sm_proof.specs.Passing as plain
-use Rattle.sm_proof.specs.Passing.{Pending}
-use Rattle.sm_proof.specs.Versions.{read_with}
-use Rattle.sm_check.specs.declared.openings.Opening.{Opening}
 use Rattle.sm_check.specs.declared.pending.Due.TheVariants as due
-use Rattle.sm_check.specs.declared.raw_lines.RawLines.{RawLines}
 use Rattle.sm_check.specs.declared.pending.Waiting.TheVariants as waits
-use Rattle.sm_check.specs.Aside.{certificates_of}
-use Rattle.sm_check.specs.CertsTaken.{pending_after}
-use Rattle.sm_check.specs.Closing.{LeadsTo, Closes, CloseFirst, IsGoalDue, MoreStands, OpensAs, OpenFirst, Passes}
-use Rattle.sm_check.specs.LineEnds.{ended_in}
-use Rattle.sm_check.specs.Pending.{shared_by, WaitingStands, AllWait, AllPending, PendingStands, Waiting, Due}
-use Rattle.sm_check.specs.Tells.{Tells}
+use Rattle.sm_check.specs.Closing.{OpensAs}
+use Rattle.sm_check.specs.Pending.{Due}
 use Rattle.sm_check.proofs.ClosingLemmas.{closes_restored}
 use Rattle.sm_check.proofs.PendingLemmas.{take_whole, stand_cut, stand_long, sorted_cut, last_first}
-use Rattle.sm_cert.proofs.CertificateSound.{sorted_append}
-use Rattle.sm_cert.proofs.WaysLemmas.{stand_append}
 
 -- the first certificates pass
 pub first_close : (exact : Bool) (sorts : Sorts) (trees terms : List Tree) (path : List Fact) (facts : List BranchFact) →

@@ -1,32 +1,17 @@
 -- Formulas made of rows.
-use Rattle.std.proofs.Common.{◌≡◌, ℕ, ◌+◌, ◌<◌, ◌≤◌, min, nat_le, Bool, true, false, ◌&&◌, length, slice_get, Some, None, List, [], ◌∷◌, refl, sym, ap, ◌∙◌, subst, arith, ◌⊎◌, ⊎_elim, map, ◌++◌, not, ◌||◌, if◌then◌else◌}
-use Rattle.std.proofs.lemmas.Bool.Decides.{nat_tests}
-use Rattle.std.proofs.lemmas.Option.{same_Some}
-use Rattle.sm_syntax.specs.claim.ConflictFree.{Copy}
-use Rattle.sm_syntax.specs.text.Parts.{by_copy}
-use Rattle.sm_term.specs.Assertions.{conj, Assertion}
+use Rattle.sm_check.proofs.Imports.{◌≡◌, ℕ, ◌+◌, ◌<◌, ◌≤◌, min, nat_le, Bool, true, false, ◌&&◌, length, Some, None, List, [], ◌∷◌, refl, sym, ap, ◌∙◌, subst, arith, ◌⊎◌, ⊎_elim, map, ◌++◌, not, ◌||◌, if◌then◌else◌, nat_tests, same_Some, Copy, by_copy, conj, Assertion, form_nodes, form_depth, set_of, opened_by, where_true, follows, NodeLine, keep_of, node_with, Sorts, Num, tree_sort, HasSort, tree_at, AreTreesSorted, Tree, FormLine, row_form, RowsStand, IsRowReady, AreRowsReady, HaveOneSort, AreNumeric, get_below}
+use Rattle.std.proofs.Common.{slice_get}
 use Rattle.sm_term.specs.Slots.{all_at_stores}
 use Rattle.sm_plan.specs.Copies.{each, has, is_inhabited, subsets}
-use Rattle.sm_plan.specs.Limits.{form_nodes, form_depth, is_kept}
-use Rattle.sm_plan.specs.Masks.{set_of}
+use Rattle.sm_plan.specs.Limits.{is_kept}
 use Rattle.sm_plan.specs.Nodes as plan
-use Rattle.sm_plan.specs.Nodes.{Opened, opened_by, where_true, follows}
+use Rattle.sm_plan.specs.Nodes.{Opened}
 use Rattle.sm_plan.specs.Statements.{is_long, is_loop}
 use Rattle.sm_plan.specs.States.{State}
 use Rattle.sm_plan.specs.Successors as next
-use Rattle.sm_proof.specs.declared.line.NodeLine.{NodeLine}
 use Rattle.sm_proof.specs.declared.line.NodeLine.TheVariants as node
-use Rattle.sm_check.specs.Kept.{keep_of, node_with}
-use Rattle.sm_syntax.specs.text.Sorts.{Sorts}
-use Rattle.sm_syntax.specs.declared.tree.Sort.TheVariants.{Num}
-use Rattle.sm_term.specs.Sorted.{tree_sort, HasSort}
-use Rattle.sm_term.specs.Tables.{tree_at}
-use Rattle.sm_term.specs.TableLaws.{AreTreesSorted}
-use Rattle.sm_term.specs.Terms.{Tree}
-use Rattle.sm_proof.specs.declared.line.FormLine.{FormLine}
-use Rattle.sm_check.specs.FormRows.{joined, row_form, RowsStand, IsRowReady, AreRowsReady, HaveOneSort, AreNumeric, FormRow}
+use Rattle.sm_check.specs.FormRows.{joined, FormRow}
 use Rattle.sm_check.proofs.FormRowsLemmas.{there_too, joined_there}
-use Rattle.sm_lemmas.proofs.Lists.{get_below}
 
 module _ (sorts : Sorts) (trees : List Tree) (rows : List FormRow) where
   -- the formula of a row, by what it makes

@@ -1,3 +1,4 @@
+mod Imports
 pub mod TellsLemmas
 pub mod FormRowsLemmas
 pub mod TermsLemmas

@@ -1,13 +1,6 @@
 -- The lines of bytes that come after others, and how far they come.
-use Rattle.std.proofs.Common.{◌≡◌, ◌<◌, ℕ, suc, Bool, true, false, ◌==◌, nat_le, length, List, [], ◌∷◌, ◌++◌, refl, ap, ◌∙◌, if◌then◌else◌, Result, Ok, Err, arith}
-use Rattle.std.proofs.lemmas.Bool.Decides.{nat_tests}
-use Rattle.sm_proof.specs.declared.word.Word.{Word}
-use Rattle.sm_proof.specs.declared.word.Word.TheVariants.{BadLine}
+use Rattle.sm_check.proofs.Imports.{◌≡◌, ◌<◌, ℕ, suc, Bool, true, false, ◌==◌, nat_le, length, List, [], ◌∷◌, ◌++◌, refl, ap, ◌∙◌, if◌then◌else◌, Result, Ok, Err, arith, nat_tests, Word, BadLine, begins_exact, Subject, Standing, Unopened, Reached, Refused, Before, reached, reached_after, FileLines, lines_in, in_first_line, IsNoLine, standing_after, HasNoEnd}
 use Rattle.sm_proof.specs.Reading.{read}
-use Rattle.sm_proof.specs.Versions.{begins_exact}
-use Rattle.sm_proof.specs.Verdicts.{Subject, Standing, Unopened, Reached, Refused, Before, reached, reached_after, FileLines, lines_in, in_first_line}
-use Rattle.sm_check.specs.Aside.{IsNoLine, standing_after}
-use Rattle.sm_check.specs.LineEnds.{HasNoEnd}
 use Rattle.sm_check.specs.Pieces.{reach}
 use Rattle.sm_proof.proofs.ReadLemmas.{long_line}
 

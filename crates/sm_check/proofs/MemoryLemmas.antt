@@ -1,17 +1,9 @@
 -- The verdict on bytes that lie in memory.
-use Rattle.std.proofs.Common.{◌≡◌, ◌<◌, ◌+◌, ◌-◌, ℕ, Bool, true, false, ◌==◌, Some, None, length, take, List, [], ◌∷◌, ◌++◌, refl, sym, ap, ◌∙◌, subst, Result, Ok, Err, IfOk, Decides, slice_get, get_or, arith}
-use Rattle.std.proofs.lemmas.Bool.Decides.{nat_tests}
-use Rattle.std.proofs.lemmas.List.{take_all, take_more}
-use Rattle.std.proofs.lemmas.Option.{slice_get-get_or, slice_get_within, get_or_from_slice_get}
+use Rattle.sm_check.proofs.Imports.{◌≡◌, ◌<◌, ◌+◌, ◌-◌, ℕ, Bool, true, false, ◌==◌, Some, None, length, take, List, [], ◌∷◌, ◌++◌, refl, sym, ap, ◌∙◌, subst, Result, Ok, Err, IfOk, Decides, get_or, arith, nat_tests, take_all, take_more, slice_get-get_or, slice_get_within, get_or_from_slice_get, Word, Subject, Unopened, Reached, Refused, Verdict, verdict, verdict_at_end, FileLines, lines_in, reached, TakenLines, ComesTo, verdict_of, Checked, Pass, Rejected, ended_in, AreEndedTaken}
+use Rattle.std.proofs.Common.{slice_get}
 use Rattle.std.specs.declared.alloc.AllocError.{AllocError}
-use Rattle.sm_proof.specs.declared.word.Word.{Word}
 use Rattle.sm_proof.specs.Verdicts as proof
-use Rattle.sm_proof.specs.Verdicts.{Subject, Unopened, Reached, Refused, Verdict, verdict, verdict_at_end, FileLines, lines_in, reached}
-use Rattle.sm_check.specs.declared.taken_lines.TakenLines.{TakenLines}
-use Rattle.sm_check.specs.Aside.{ComesTo}
-use Rattle.sm_check.specs.Files.{verdict_of, Checked, Pass, Rejected}
-use Rattle.sm_check.specs.LineEnds.{ended_in}
-use Rattle.sm_check.specs.Pieces.{AreEndedTaken, StandsAt, reach}
+use Rattle.sm_check.specs.Pieces.{StandsAt, reach}
 use Rattle.sm_check.proofs.AsideSteps.{begun_comes}
 use Rattle.sm_check.proofs.EndLemmas.{verdict-reach}
 use Rattle.sm_check.proofs.LineLemmas.{lines_in-end, lines_in-rest}

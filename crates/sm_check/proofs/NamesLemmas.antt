@@ -1,21 +1,7 @@
 -- What lines of certificates name.
-use Rattle.std.proofs.Common.{◌≡◌, ℕ, ◌<◌, true, false, Bool, ◌&&◌, if◌then◌else◌, Option, Some, None, get_or, List, length, refl, sym, ap, ◌∙◌, subst}
-use Rattle.std.proofs.lemmas.Bool.{and_from, and_left, and_right}
-use Rattle.std.proofs.lemmas.List.{length-map}
-use Rattle.std.proofs.lemmas.Option.{slice_get-get_or, get_or_from_slice_get}
-use Rattle.sm_term.specs.Tables.{AreBefore, tree_at}
-use Rattle.sm_term.specs.declared.term.TermId.{TermId}
-use Rattle.sm_term.specs.Terms.{Tree}
-use Rattle.sm_term.proofs.TermsLemmas.{part_before}
-use Rattle.sm_theory.specs.Lines.{CertificateLine}
-use Rattle.sm_theory.specs.Named.{facts_named, terms_named, with_terms, EachNamed}
-use Rattle.sm_theory.specs.Views.{line_in, IsLineWithin, number_under}
-use Rattle.sm_theory.specs.declared.line.CertLine.{CertLine}
+use Rattle.sm_check.proofs.Imports.{◌≡◌, ℕ, ◌<◌, true, false, Bool, ◌&&◌, if◌then◌else◌, Option, Some, None, get_or, List, length, refl, sym, ap, ◌∙◌, subst, and_from, and_left, and_right, length-map, slice_get-get_or, get_or_from_slice_get, AreBefore, tree_at, TermId, Tree, part_before, CertificateLine, facts_named, terms_named, with_terms, EachNamed, line_in, IsLineWithin, number_under, CertLine, NumberedLine, numbered_line, are_there, named_line, terms_in}
 use Rattle.sm_theory.proofs.LinesOver.{with_twice, with_same, each_with, each_more}
-use Rattle.sm_proof.specs.Lines.{NumberedLine, numbered_line}
-use Rattle.sm_proof.specs.Named.{are_there, named_line}
 use Rattle.sm_proof.proofs.NamedKept.{there_below}
-use Rattle.sm_check.specs.Walks.{terms_in}
 use Rattle.sm_check.proofs.FormRowsLemmas.{named_there}
 
 module _ (trees : List Tree) (terms : List TermId) (count : ℕ) (l : NumberedLine) where

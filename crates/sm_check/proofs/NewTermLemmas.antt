@@ -1,32 +1,15 @@
 -- Terms that lines tell by names and terms.
-use Rattle.std.proofs.Common.{◌≡◌, ℕ, ◌<◌, ◌≤◌, nat_lt, Bool, true, false, ◌&&◌, if◌then◌else◌, Option, Some, None, Result, Ok, Err, slice_get, List, refl, sym, ap, ◌∙◌, subst, arith}
+use Rattle.sm_check.proofs.Imports.{◌≡◌, ℕ, ◌<◌, ◌≤◌, nat_lt, Bool, true, false, ◌&&◌, if◌then◌else◌, Option, Some, None, Result, Ok, Err, List, refl, sym, ap, ◌∙◌, subst, arith, same_Some, slice_get-map, copy_of, Name, Sorts, Num, Arr, IsDeclaredIn, Code, AreBefore, IsTermWithin, tree_at, tree_in, TermId, Tree, part_before, followed, TermLine, found_or, tested_or, Word, BadNumber, First, Pending, is_of, of_name, term_made, with_tree, is_new, name_in, new_term, pair_of, terms_in}
+use Rattle.std.proofs.Common.{slice_get}
 use Rattle.std.specs.Option.{option_map}
-use Rattle.std.proofs.lemmas.Option.{same_Some, slice_get-map}
-use Rattle.sm_syntax.specs.claim.ConflictFree.{copy_of}
-use Rattle.sm_syntax.specs.declared.tree.Name.{Name}
-use Rattle.sm_syntax.specs.text.Sorts.{Sorts}
-use Rattle.sm_syntax.specs.declared.tree.Sort.TheVariants.{Num, Arr}
 use Rattle.sm_term.specs.declared.term.Term.TheVariants as row
 use Rattle.sm_term.specs.Fitting.{term_fits}
-use Rattle.sm_term.specs.Sorted.{IsDeclaredIn}
-use Rattle.sm_syntax.specs.claim.Syntax.{Code}
-use Rattle.sm_term.specs.Tables.{AreBefore, IsTermWithin, tree_at, tree_in}
-use Rattle.sm_term.specs.declared.term.TermId.{TermId}
 use Rattle.sm_term.specs.declared.term.Term.{Term}
 use Rattle.sm_term.specs.Terms as tree
-use Rattle.sm_term.specs.Terms.{Tree}
-use Rattle.sm_term.proofs.TermsLemmas.{part_before}
-use Rattle.sm_theory.specs.Lines.{followed}
-use Rattle.sm_proof.specs.declared.line.TermLine.{TermLine}
 use Rattle.sm_proof.specs.declared.line.TermLine.TheVariants as line
 use Rattle.sm_proof.specs.declared.word.Head.TheVariants as head
 use Rattle.sm_proof.specs.FieldRanges.{IsTermLineWithin}
-use Rattle.sm_proof.specs.Named.{found_or, tested_or}
-use Rattle.sm_proof.specs.declared.word.Word.{Word}
-use Rattle.sm_proof.specs.declared.word.Word.TheVariants.{BadNumber, First}
-use Rattle.sm_proof.specs.Passing.{Pending, is_of, of_name, term_made, with_tree}
-use Rattle.sm_check.specs.TermsMade.{is_new, name_in, new_term, pair_of}
-use Rattle.sm_check.specs.Walks.{AreNumbered, terms_in}
+use Rattle.sm_check.specs.Walks.{AreNumbered}
 
 abbrev the_name : ℕ → Name
 the_name x = record { 0 = x }

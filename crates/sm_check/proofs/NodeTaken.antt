@@ -1,46 +1,17 @@
 -- What a node opens waits, over a proof on its way.
-use Rattle.std.proofs.Common.{◌≡◌, ℕ, suc, ◌+◌, ◌≤◌, ◌⊎◌, ⊎_elim, Bool, true, false, Option, Some, None, Result, Ok, Err, length, take, map, reverse, List, [], ◌∷◌, ◌++◌, refl, sym, ap, ◌∙◌, subst, arith, inl, inr, add-one}
-use Rattle.std.proofs.lemmas.List.{take_all}
-use Rattle.sm_syntax.specs.declared.copies.PerCopy.{PerCopy}
-use Rattle.sm_syntax.specs.text.Sorts.{Sorts}
-use Rattle.sm_term.specs.declared.symbolic.SymStore.{SymStore}
-use Rattle.sm_term.specs.Assertions.{negate}
-use Rattle.sm_term.specs.Formulas.{numbered, assertion_in, IsFormulaWithin}
-use Rattle.sm_term.specs.declared.formula.Formula.{Formula}
-use Rattle.sm_term.specs.Tables.{trees_in, sorts_in, AreBefore}
-use Rattle.sm_term.specs.TableLaws.{ExtendsTable, AreApart}
-use Rattle.sm_term.specs.Terms.{Tree}
-use Rattle.sm_term.proofs.FormsLemmas.{contrary_within}
+use Rattle.sm_check.proofs.Imports.{◌≡◌, ℕ, suc, ◌+◌, ◌≤◌, ◌⊎◌, ⊎_elim, Bool, true, false, Option, Some, None, Result, Ok, Err, length, take, map, reverse, List, [], ◌∷◌, ◌++◌, refl, sym, ap, ◌∙◌, subst, arith, inl, inr, add-one, take_all, PerCopy, Sorts, SymStore, negate, numbered, assertion_in, IsFormulaWithin, Formula, trees_in, sorts_in, AreBefore, ExtendsTable, AreApart, Tree, contrary_within, BranchFact, Formal, as_facts, FactStands, Fact, one_place, is_shallow, above_opened, opened_by, AreFormsReady, AreSuccessorsReady, IsSuccessorReady, Successor, forms_in, stores_in, state_in, successor_in, opened_in, SymState, NodeLine, found_or, tested_or, and_then, named_node, node_head, Word, BadNumber, Deep, First, Pending, Progress, goal_branch, opened_before, after_node, taken, taken_at, OnlyWaiting, WaitingStands, shared_by, AllWait, AllPending, AreWaitingReady, PendingStands, Waiting, AreRowsReady, RowsStand, opened_or, IsOpenedReady, WalksAt, waits_at, SaysContrary, IsDenied, AreDenied, Tells, WalkValue, Walks, terms_in}
 use Rattle.sm_term.proofs.FormulasLemmas.{contrary_negates}
 use Rattle.sm_theory.specs.declared.fact.Fact.TheVariants as fact
-use Rattle.sm_theory.specs.Facts.{BranchFact, Formal, as_facts}
-use Rattle.sm_theory.specs.Views.{FactStands}
-use Rattle.sm_theory.specs.declared.fact.Fact.{Fact}
-use Rattle.sm_theory.proofs.FormsOfTermsLemmas.{one_place}
-use Rattle.sm_plan.specs.Limits.{is_shallow}
-use Rattle.sm_plan.specs.NodeLists.{above_opened}
 use Rattle.sm_plan.specs.Nodes as plan
-use Rattle.sm_plan.specs.Nodes.{opened_by}
-use Rattle.sm_plan.specs.ReadyStates.{AreFormsReady, AreSuccessorsReady, IsSuccessorReady}
-use Rattle.sm_plan.specs.declared.opening.Successor.{Successor}
 use Rattle.sm_plan.specs.States.{State}
-use Rattle.sm_plan.specs.Views.{forms_in, stores_in, state_in, successor_in, opened_in}
-use Rattle.sm_plan.specs.declared.state.SymState.{SymState}
 use Rattle.sm_plan.specs.declared.opening.Opened.{Opened}
-use Rattle.sm_proof.specs.declared.line.NodeLine.{NodeLine}
-use Rattle.sm_proof.specs.Named.{found_or, tested_or, and_then, named_node, node_head}
-use Rattle.sm_proof.specs.declared.word.Word.{Word}
-use Rattle.sm_proof.specs.declared.word.Word.TheVariants.{BadNumber, Deep, First}
 use Rattle.sm_proof.specs.Passing as plain
-use Rattle.sm_proof.specs.Passing.{Pending, Progress, goal_branch, opened_before, after_node, taken, taken_at}
 use Rattle.sm_check.specs.declared.pending.Waiting.TheVariants as waits
-use Rattle.sm_check.specs.Pending.{OnlyWaiting, WaitingStands, shared_by, AllWait, AllPending, AreWaitingReady, PendingStands, Waiting, Due}
+use Rattle.sm_check.specs.Pending.{Due}
 use Rattle.sm_check.specs.declared.pending.Due.TheVariants as due
-use Rattle.sm_check.specs.FormRows.{AreRowsReady, RowsStand, FormRow}
-use Rattle.sm_check.specs.NodesTaken.{opened_or, OpensAs, IsOpenedReady, WalksAt}
-use Rattle.sm_check.specs.Opened.{waits_at, SaysContrary, IsDenied, AreDenied}
-use Rattle.sm_check.specs.Tells.{Tells, LineFault, Wrong, Memory}
-use Rattle.sm_check.specs.Walks.{WalkValue, Walks, terms_in}
+use Rattle.sm_check.specs.FormRows.{FormRow}
+use Rattle.sm_check.specs.NodesTaken.{OpensAs}
+use Rattle.sm_check.specs.Tells.{LineFault, Wrong, Memory}
 use Rattle.sm_check.proofs.PendingLemmas.{facts_append, stand_long}
 use Rattle.sm_check.proofs.WalkWidens.{terms_stay, rows_stand, path_stays, facts_stay, all_wait, ready_reversed}
 use Rattle.sm_term.proofs.SortedForms.{negate_sorted}

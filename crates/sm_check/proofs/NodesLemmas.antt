@@ -1,29 +1,14 @@
 -- A node's line taken, step by step.
-use Rattle.std.proofs.Common.{◌≡◌, ℕ, suc, ◌+◌, ◌<◌, ◌≤◌, nat_le, Bool, true, false, if◌then◌else◌, length, slice_get, Option, Some, None, Result, Ok, Err, List, [], refl, sym, ap, ◌∙◌, subst, arith, ◌⊎◌, ⊎_elim, min}
-use Rattle.std.proofs.lemmas.Bool.Decides.{nat_tests}
-use Rattle.std.proofs.lemmas.Option.{same_Some, slice_get_past}
-use Rattle.sm_syntax.specs.text.Parts.{by_copy}
+use Rattle.sm_check.proofs.Imports.{◌≡◌, ℕ, suc, ◌+◌, ◌<◌, ◌≤◌, nat_le, Bool, true, false, if◌then◌else◌, length, Option, Some, None, Result, Ok, Err, List, [], refl, sym, ap, ◌∙◌, subst, arith, ◌⊎◌, ⊎_elim, min, nat_tests, same_Some, slice_get_past, by_copy, Assertion, followed, set_of, above_opened, opened_by, NodeLine, found_or, tested_or, named_node, node_head, Word, BadNumber, Deep, First, keep_of, IsThere, IsKeptForm, node_with, opened_or, Tells, is_few, get_below}
+use Rattle.std.proofs.Common.{slice_get}
 use Rattle.sm_term.specs.Assertions as plain
-use Rattle.sm_term.specs.Assertions.{Assertion}
-use Rattle.sm_theory.specs.Lines.{followed}
 use Rattle.sm_plan.specs.Limits.{is_shallow}
-use Rattle.sm_plan.specs.Masks.{set_of}
-use Rattle.sm_plan.specs.NodeLists.{above_opened}
 use Rattle.sm_plan.specs.Nodes as plan
-use Rattle.sm_plan.specs.Nodes.{opened_by}
 use Rattle.sm_plan.specs.States.{State}
-use Rattle.sm_proof.specs.declared.line.NodeLine.{NodeLine}
 use Rattle.sm_proof.specs.declared.line.NodeLine.TheVariants as node
-use Rattle.sm_proof.specs.Named.{found_or, tested_or, named_node, node_head}
-use Rattle.sm_proof.specs.declared.word.Word.{Word}
-use Rattle.sm_proof.specs.declared.word.Word.TheVariants.{BadNumber, Deep, First}
 use Rattle.sm_check.specs.declared.forms.FormRow.{FormRow}
-use Rattle.sm_check.specs.Kept.{keep_of, IsThere, IsKeptForm, node_with}
-use Rattle.sm_check.specs.NodesTaken.{opened_or}
-use Rattle.sm_check.specs.Tells.{Tells, LineFault, Wrong}
+use Rattle.sm_check.specs.Tells.{LineFault, Wrong}
 use Rattle.sm_check.proofs.FormRowsLemmas.{there_too}
-use Rattle.sm_plan.proofs.NodeListsExact.{is_few}
-use Rattle.sm_lemmas.proofs.Lists.{get_below}
 
 -- whether a line branches, by its kind alone
 pub loop_branches : (f : Assertion) (set keep : ℕ) → plan.is_branching (node_with f (node.Loop set keep)) ≡ true

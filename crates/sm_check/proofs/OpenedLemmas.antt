@@ -1,15 +1,5 @@
 -- What a node opens is put behind what waits, the last first.
-use Rattle.std.proofs.Common.{◌≡◌, ℕ, map, reverse, List, [], ◌∷◌, ◌++◌, sym, ap, ◌∙◌, subst, append_assoc}
-use Rattle.std.proofs.lemmas.List.{reverse-append}
-use Rattle.sm_syntax.specs.declared.copies.PerCopy.{PerCopy}
-use Rattle.sm_syntax.specs.text.Sorts.{Sorts}
-use Rattle.sm_term.specs.declared.formula.Formula.{Formula}
-use Rattle.sm_term.specs.declared.symbolic.SymStore.{SymStore}
-use Rattle.sm_term.specs.Terms.{Tree}
-use Rattle.sm_plan.specs.ReadyStates.{IsSuccessorReady, AreSuccessorsReady}
-use Rattle.sm_plan.specs.declared.opening.Successor.{Successor}
-use Rattle.sm_check.specs.Opened.{waits_at, IsDenied, AreDenied}
-use Rattle.sm_check.specs.Pending.{IsWaitingReady, AreWaitingReady, Waiting}
+use Rattle.sm_check.proofs.Imports.{◌≡◌, ℕ, map, reverse, List, [], ◌∷◌, ◌++◌, sym, ap, ◌∙◌, subst, append_assoc, reverse-append, PerCopy, Sorts, Formula, SymStore, Tree, IsSuccessorReady, AreSuccessorsReady, Successor, waits_at, IsDenied, AreDenied, IsWaitingReady, AreWaitingReady, Waiting}
 use Rattle.sm_check.proofs.WalkWidens.{ready_joined}
 
 -- one more that waits

@@ -1,32 +1,11 @@
 -- What is pending, where the path is cut and grows.
-use Rattle.std.proofs.Common.{◌≡◌, ℕ, zero, suc, ◌+◌, ◌<◌, ◌≤◌, Option, Some, None, List, [], ◌∷◌, ◌++◌, length, take, get_or, reverse, refl, sym, ap, ◌∙◌, subst, arith, append_assoc}
-use Rattle.std.proofs.lemmas.List.{reverse-append, take-append-le, length-append}
-use Rattle.sm_syntax.specs.text.Sorts.{Sorts}
-use Rattle.sm_term.specs.Terms.{Tree}
-use Rattle.sm_term.specs.declared.symbolic.SymStore.{SymStore}
-use Rattle.sm_syntax.specs.declared.copies.PerCopy.{PerCopy}
-use Rattle.sm_plan.specs.declared.state.Formulas.{Formulas}
-use Rattle.std.specs.declared.rc.Rc.{Rc}
+use Rattle.sm_check.proofs.Imports.{◌≡◌, ℕ, zero, suc, ◌+◌, ◌<◌, ◌≤◌, Option, Some, None, List, [], ◌∷◌, ◌++◌, length, take, get_or, reverse, refl, sym, ap, ◌∙◌, subst, arith, append_assoc, reverse-append, take-append-le, length-append, Sorts, Tree, SymStore, PerCopy, Formulas, Rc, Assertion, NumberedFormula, numbered, assertion_in, IsFormulaWithin, Formula, BranchFact, Formal, as_facts, IsFactSorted, AreFactsSorted, FactStands, AllStand, Fact, stand_append, sorted_append, forms_in, SymState, IsFormReady, AreFormsReady, Pending, HasFacts, DueStands, WaitingStands, AllPending, AllWait, PendingStands, IsMadeReady, shared_by, AreWaitingReady, Waiting}
 use Rattle.std.specs.declared.alloc.Global.{Global}
-use Rattle.sm_term.specs.Assertions.{Assertion}
-use Rattle.sm_term.specs.Formulas.{NumberedFormula, numbered, assertion_in, IsFormulaWithin}
-use Rattle.sm_term.specs.declared.formula.Formula.{Formula}
 use Rattle.sm_theory.specs.declared.fact.Fact.TheVariants as fact
-use Rattle.sm_theory.specs.Facts.{BranchFact, Formal, as_facts}
-use Rattle.sm_theory.specs.SortedFacts.{IsFactSorted, AreFactsSorted}
-use Rattle.sm_theory.specs.Views.{FactStands, AllStand}
-use Rattle.sm_theory.specs.declared.fact.Fact.{Fact}
-use Rattle.sm_cert.proofs.WaysLemmas.{stand_append}
-use Rattle.sm_cert.proofs.CertificateSound.{sorted_append}
-use Rattle.sm_plan.specs.Views.{forms_in}
-use Rattle.sm_plan.specs.declared.state.SymState.{SymState}
-use Rattle.sm_plan.specs.ReadyStates.{IsFormReady, AreFormsReady}
 use Rattle.sm_proof.specs.Passing as plain
-use Rattle.sm_proof.specs.Passing.{Pending}
 use Rattle.sm_check.specs.declared.pending.Due.TheVariants as due
 use Rattle.sm_check.specs.declared.pending.Waiting.TheVariants as waits
-use Rattle.sm_check.specs.Checkers.{HasFacts}
-use Rattle.sm_check.specs.Pending.{DueStands, WaitingStands, AllPending, AllWait, PendingStands, IsMadeReady, shared_by, AreWaitingReady, Waiting, Due}
+use Rattle.sm_check.specs.Pending.{Due}
 
 -- lists cut
 pub take_twice : {X : Type 0} (m n : ℕ) (xs : List X) → m ≤ n → take m (take n xs) ≡ take m xs

@@ -1,28 +1,12 @@
 -- Lines of a proof file that were taken, one after the other.
-use Rattle.std.proofs.Common.{◌≡◌, ◌<◌, ◌+◌, ◌-◌, ℕ, suc, Bool, true, false, ◌==◌, length, take, drop, List, [], ◌∷◌, ◌++◌, refl, sym, ap, ◌∙◌, subst, Result, Ok, Err, Option, Some, None, append_assoc, arith, get_or, inl, inr, length-take}
+use Rattle.sm_check.proofs.Imports.{◌≡◌, ◌<◌, ◌+◌, ◌-◌, ℕ, suc, Bool, true, false, ◌==◌, length, take, drop, List, [], ◌∷◌, ◌++◌, refl, sym, ap, ◌∙◌, subst, Result, Ok, Err, Option, Some, None, append_assoc, arith, get_or, inl, inr, length-take, nat_tests, IfErr, IsErrAnd, take_more, get_or-take, take_rest, take-append-drop, take-add, ProofLine, tested_or, and_then, Word, BadLine, Progress, taken, Subject, Standing, Unopened, Underway, Before, next_standing, opens_if, passes_version, has_exact, may_stand, Checker, TakenLines, Unfinished, Stops, HasNoEnd, Keeps, is_unopened, Takes, RefusesAt, IsKept, AreTaken, StopsIn, false_from_ne_true}
 use Rattle.std.specs.Prelude.{IfSome}
-use Rattle.std.proofs.lemmas.Bool.Decides.{nat_tests}
-use Rattle.std.specs.Result.{IfErr, IsErrAnd}
-use Rattle.std.proofs.lemmas.List.{take_more, get_or-take, take_rest, take-append-drop}
-use Rattle.std.proofs.Math.Seq.{take-add}
 use Rattle.memchr.specs.Find.{IsFirstByte, is_byte}
-use Rattle.sm_proof.specs.Lines.{ProofLine}
-use Rattle.sm_proof.specs.Named.{tested_or, and_then}
-use Rattle.sm_proof.specs.declared.word.Word.{Word}
-use Rattle.sm_proof.specs.declared.word.Word.TheVariants.{BadLine}
-use Rattle.sm_proof.specs.Passing.{Progress, taken}
-use Rattle.sm_proof.specs.Verdicts.{Subject, Standing, Unopened, Underway, Before, next_standing, opens_if, passes_version}
-use Rattle.sm_proof.specs.Versions.{has_exact, may_stand}
-use Rattle.sm_check.specs.declared.checker.Checker.{Checker}
 use Rattle.sm_check.specs.declared.fault.LineFault.{LineFault}
 use Rattle.sm_check.specs.declared.fault.LineFault.TheVariants as fault
-use Rattle.sm_check.specs.declared.taken_lines.TakenLines.{TakenLines}
-use Rattle.sm_check.specs.declared.unfinished.Unfinished.{Unfinished}
-use Rattle.sm_check.specs.Checkers.{GoesOn, Stops}
-use Rattle.sm_check.specs.LineEnds.{HasNoEnd, Keeps}
-use Rattle.sm_check.specs.Pieces.{is_unopened, StandsAt, Takes, RefusesAt, IsKept, AreTaken, StopsIn, Stopped, Wrong, Memory}
+use Rattle.sm_check.specs.Checkers.{GoesOn}
+use Rattle.sm_check.specs.Pieces.{StandsAt, Stopped, Wrong, Memory}
 use Rattle.sm_check.proofs.LineLemmas.{reach_refused, reach-nil}
-use Rattle.std.proofs.lemmas.Bool.{false_from_ne_true}
 
 -- whether a line leaves the proof before its version line
 abbrev pub opens_of : Result Standing Word → Bool

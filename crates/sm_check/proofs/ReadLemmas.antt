@@ -1,13 +1,6 @@
 -- The lines of a piece: read behind what was read before, with lines that are set aside.
-use Rattle.std.proofs.Common.{◌≡◌, true, ℕ, List, [], ◌∷◌, ◌++◌, Result, Ok, Err, ap, subst, sym, refl, ◌∙◌}
-use Rattle.std.specs.Result.{OnOk, IfErr}
-use Rattle.sm_proof.specs.declared.word.Word.TheVariants.{BadLine}
-use Rattle.sm_proof.specs.Verdicts.{Subject, Unopened, FileLines, lines_in, reached}
-use Rattle.sm_check.specs.declared.taken_lines.TakenLines.{TakenLines}
-use Rattle.sm_check.specs.declared.unfinished.Unfinished.{Unfinished}
-use Rattle.sm_check.specs.Aside.{AreRead, ComesTo, StopsAt, IsNoLine, with_line}
-use Rattle.sm_check.specs.LineEnds.{HasNoEnd, ended_in}
-use Rattle.sm_check.specs.Pieces.{AreTaken, IsKept, StopsIn, reach, Stopped}
+use Rattle.sm_check.proofs.Imports.{◌≡◌, true, ℕ, List, [], ◌∷◌, ◌++◌, Result, Ok, Err, ap, subst, sym, refl, ◌∙◌, OnOk, IfErr, BadLine, Subject, Unopened, FileLines, lines_in, reached, TakenLines, Unfinished, AreRead, ComesTo, StopsAt, IsNoLine, with_line, HasNoEnd, ended_in, AreTaken, IsKept, StopsIn}
+use Rattle.sm_check.specs.Pieces.{reach, Stopped}
 use Rattle.sm_check.proofs.AsideLemmas.{line_not_read, line_read, reached-lines, taken_read, with_lines}
 use Rattle.sm_check.proofs.EndedLines.{lines_in-behind}
 use Rattle.sm_check.proofs.LineLemmas.{lines_in-rest, long_line_is_none, reach-rest}

@@ -1,12 +1,6 @@
 -- A branch that is due is skipped.
-use Rattle.std.proofs.Common.{◌≡◌, Option, Some, None, List, ◌∷◌, length, reverse, subst}
-use Rattle.sm_syntax.specs.text.Sorts.{Sorts}
-use Rattle.sm_term.specs.Tables.{trees_in, sorts_in}
-use Rattle.sm_term.specs.Terms.{Tree}
-use Rattle.sm_theory.specs.Facts.{BranchFact}
-use Rattle.sm_proof.specs.Passing.{Pending, Progress}
-use Rattle.sm_check.specs.Pending.{AllWait, AllPending, PendingStands, OnlyWaiting, Waiting, Due}
-use Rattle.sm_check.specs.Walks.{WalkValue, Walks}
+use Rattle.sm_check.proofs.Imports.{◌≡◌, Option, Some, None, List, ◌∷◌, length, reverse, subst, Sorts, trees_in, sorts_in, Tree, BranchFact, Pending, Progress, AllWait, AllPending, PendingStands, OnlyWaiting, Waiting, WalkValue, Walks}
+use Rattle.sm_check.specs.Pending.{Due}
 use Rattle.sm_check.proofs.CertTaken.{walks_on}
 
 -- what waits is pending behind what is due

@@ -1,17 +1,11 @@
 -- A task that a text spells stands as it is declared, and its declared names are numbered from 0 on.
-use Rattle.std.proofs.Common.{◌≡◌, ℕ, Option, Some, None, List, [], ◌∷◌, ◌++◌, length, ap, ◌∙◌}
-use Rattle.std.specs.List.{AllByRecursion}
+use Rattle.sm_check.proofs.Imports.{◌≡◌, ℕ, Option, Some, None, List, [], ◌∷◌, ◌++◌, length, ap, ◌∙◌, AllByRecursion, Copy, O, A, B, M, program_of, Condition, Code, End, While, Parts, sort_of, sorted_outputs, task_of, Sorts, IsAsDeclared, IsWellSorted, IsWellSortedCondition, Sort}
 use Rattle.std.specs.Option.{option_or}
 use Rattle.sm_syntax.proofs.EachUse.{well_sorted_is_all}
 use Rattle.sm_syntax.proofs.Uses.{first_sort_fault-append, first_sort_fault-none}
-use Rattle.sm_syntax.specs.claim.ConflictFree.{Copy, O, A, B, M, program_of}
 use Rattle.sm_syntax.specs.claim.Fill.{fill}
-use Rattle.sm_syntax.specs.claim.Syntax.{Condition, Code, End, While}
 use Rattle.sm_syntax.specs.text.Conditions.{Refusal, TooMany, first_of_all, first_sort_fault, sort_refusal, double_name, first_output_fault, output_refusal, is_in, over, size_fault, program_fault, double_hole, hole_in_filling, unknown_hole}
 use Rattle.sm_syntax.specs.text.Conditions.{missing_filling, ill_formed, ill_assumed, first_refusal, code_nodes, code_depth, condition_nodes, condition_depth}
-use Rattle.sm_syntax.specs.text.Parts.{Parts, sort_of, sorted_outputs, task_of}
-use Rattle.sm_syntax.specs.text.Sorts.{Sorts, IsAsDeclared, IsWellSorted, IsWellSortedCondition}
-use Rattle.sm_syntax.specs.declared.tree.Sort.{Sort}
 use Rattle.sm_syntax.specs.text.Uses.{names_tested, names_used}
 use Rattle.sm_text.proofs.Numbering.DeclaredInOrder.{declared_in_order}
 use Rattle.sm_plan.specs.SortedStates.{AreOutputsDeclared, IsAssumptionSorted}

@@ -1,7 +1,6 @@
 -- Answers beside those of a definition, one made of another.
-use Rattle.std.proofs.Common.{◌≡◌, Result, Err, refl, sym, subst}
-use Rattle.sm_proof.specs.declared.word.Word.{Word}
-use Rattle.sm_check.specs.Tells.{Tells, LineFault, Wrong}
+use Rattle.sm_check.proofs.Imports.{◌≡◌, Result, Err, refl, sym, subst, Word, Tells}
+use Rattle.sm_check.specs.Tells.{LineFault, Wrong}
 
 -- what is told of an answer is told of an equal one
 pub tells_along : {S T : Type 0} (P : S → T → Type 0) (s : Result S LineFault) (r q : Result T Word) → q ≡ r → Tells P s r → Tells P s q

@@ -1,16 +1,6 @@
 -- Terms that lines make.
-use Rattle.std.proofs.Common.{◌≡◌, ℕ, Option, Some, None, Result, Ok, Err, slice_get, get_or, List, [], ◌∷◌, zero, suc, length, ◌<◌, ◌≤◌, arith, refl, sym, ap, ◌∙◌}
-use Rattle.sm_term.specs.Terms.{Tree, Start}
-use Rattle.sm_term.specs.Tables.{tree_at}
-use Rattle.sm_term.specs.declared.term.TermId.{TermId}
-use Rattle.sm_term.specs.SymStores.{store_in, tree_or_start, IsStoreWithin}
-use Rattle.sm_term.specs.declared.symbolic.SymStore.{SymStore}
-use Rattle.sm_term.proofs.TermsLemmas.{part_before}
-use Rattle.sm_proof.specs.declared.word.Word.{Word}
-use Rattle.sm_proof.specs.declared.word.Word.TheVariants.{BadNumber}
-use Rattle.sm_proof.specs.Passing.{with_tree}
-use Rattle.sm_check.specs.Walks.{terms_in}
-use Rattle.sm_check.specs.TermsMade.{IsTerm}
+use Rattle.sm_check.proofs.Imports.{◌≡◌, ℕ, Option, Some, None, Result, Ok, Err, get_or, List, [], ◌∷◌, zero, suc, length, ◌<◌, ◌≤◌, arith, refl, sym, ap, ◌∙◌, Tree, Start, tree_at, TermId, store_in, tree_or_start, IsStoreWithin, SymStore, part_before, Word, BadNumber, with_tree, terms_in, IsTerm}
+use Rattle.std.proofs.Common.{slice_get}
 use Rattle.sm_check.proofs.FormRowsLemmas.{named_there, named_missing, found_there, found_missing}
 use Rattle.sm_euf.proofs.ArgumentsLemmas.{there}
 

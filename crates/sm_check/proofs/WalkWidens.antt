@@ -1,35 +1,20 @@
 -- A proof on its way stands for the same where the table has more behind.
-use Rattle.std.proofs.Common.{◌≡◌, ℕ, ◌<◌, Option, Some, None, List, [], ◌∷◌, ◌++◌, length, slice_get, take, reverse, refl, sym, ap, ◌∙◌, subst, arith}
-use Rattle.std.proofs.lemmas.List.{reverse-append}
-use Rattle.sm_syntax.specs.text.Sorts.{Sorts}
-use Rattle.sm_term.specs.Terms.{Tree}
+use Rattle.sm_check.proofs.Imports.{◌≡◌, ℕ, ◌<◌, Option, Some, None, List, [], ◌∷◌, ◌++◌, length, take, reverse, refl, sym, ap, ◌∙◌, subst, arith, reverse-append, Sorts, Tree, Assertion, numbered, tree_sort, TableValue, trees_in, sorts_in, tree_at, AreBefore, TermId, ExtendsTable, BranchFact, Formal, Sum, as_facts, IsFactSorted, AreFactsSorted, FactStands, AllStand, Fact, FormLine, Pending, row_form, RowsStand, IsRowReady, AreRowsReady, HaveOneSort, AreNumeric, IsDueReady, IsReadyIfDue, IsWaitingReady, AreWaitingReady, DueStands, WaitingStands, shared_by, AllWait, AllPending, PendingStands, Waiting, terms_in, IsWalkReady, form-later}
+use Rattle.std.proofs.Common.{slice_get}
 use Rattle.sm_term.specs.Assertions as plain
-use Rattle.sm_term.specs.Assertions.{Assertion}
 use Rattle.sm_term.specs.Formulas as row
-use Rattle.sm_term.specs.Formulas.{numbered}
-use Rattle.sm_term.specs.Sorted.{tree_sort}
-use Rattle.sm_term.specs.Tables.{TableValue, trees_in, sorts_in, tree_at, AreBefore}
-use Rattle.sm_term.specs.declared.term.TermId.{TermId}
-use Rattle.sm_term.specs.TableLaws.{ExtendsTable}
 use Rattle.sm_term.proofs.TreesLemmas.{before-later}
 use Rattle.sm_theory.specs.declared.fact.Fact.TheVariants as fact
-use Rattle.sm_theory.specs.Facts.{BranchFact, Formal, Sum, as_facts}
-use Rattle.sm_theory.specs.SortedFacts.{IsFactSorted, AreFactsSorted}
 use Rattle.sm_theory.specs.Standing.{HaveOnePlace}
-use Rattle.sm_theory.specs.Views.{FactStands, AllStand}
-use Rattle.sm_theory.specs.declared.fact.Fact.{Fact}
 use Rattle.sm_theory.proofs.LinearLater as forms
 use Rattle.sm_plan.proofs.TablesWiden as widened
-use Rattle.sm_proof.specs.declared.line.FormLine.{FormLine}
 use Rattle.sm_proof.specs.declared.line.FormLine.TheVariants as line
 use Rattle.sm_proof.specs.Passing as pending
-use Rattle.sm_proof.specs.Passing.{Pending}
 use Rattle.sm_check.specs.declared.pending.Due.TheVariants as due
 use Rattle.sm_check.specs.declared.pending.Waiting.TheVariants as waits
-use Rattle.sm_check.specs.FormRows.{row_form, RowsStand, IsRowReady, AreRowsReady, HaveOneSort, AreNumeric, FormRow}
-use Rattle.sm_check.specs.Pending.{IsDueReady, IsReadyIfDue, IsWaitingReady, AreWaitingReady, DueStands, WaitingStands, shared_by, AllWait, AllPending, PendingStands, Waiting, Due}
-use Rattle.sm_check.specs.Walks.{terms_in, AreNumbered, IsWalkReady}
-use Rattle.sm_term.proofs.FormsLemmas.{form-later}
+use Rattle.sm_check.specs.FormRows.{FormRow}
+use Rattle.sm_check.specs.Pending.{Due}
+use Rattle.sm_check.specs.Walks.{AreNumbered}
 
 -- what waits, in the other order
 module _ (sorts : Sorts) (trees : List Tree) where

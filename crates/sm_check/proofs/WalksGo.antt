@@ -1,34 +1,14 @@
 -- How a proof on its way goes on with a line.
-use Rattle.std.proofs.Common.{◌≡◌, ℕ, zero, suc, ◌+◌, ◌<◌, inl, inr, Option, Some, None, Result, Ok, Err, slice_get, List, [], ◌∷◌, ◌++◌, length, reverse, refl, sym, ap, ◌∙◌, subst, arith}
+use Rattle.sm_check.proofs.Imports.{◌≡◌, ℕ, zero, suc, ◌+◌, ◌<◌, inl, inr, Option, Some, None, Result, Ok, Err, List, [], ◌∷◌, ◌++◌, length, reverse, refl, sym, ap, ◌∙◌, subst, arith, followed, length-append, get_or_from_slice_get, Sorts, Tree, Lit, Assertion, TableValue, trees_in, sorts_in, tree_at, AreBefore, TermId, ExtendsTable, AreApart, BranchFact, AllStand, Fact, Form, TermLine, FormLine, and_then, Word, Pending, Progress, form_made, term_made, taken, taken_at, row_form, RowStands, RowsStand, IsRowReady, AreRowsReady, DueStands, AllWait, AllPending, PendingStands, Waiting, IsTerm, Tells, WalkValue, Walks, terms_in, IsWalkReady, one_place, get_pushed}
+use Rattle.std.proofs.Common.{slice_get}
 use Rattle.std.specs.Prelude.{pos}
-use Rattle.sm_theory.specs.Lines.{followed}
-use Rattle.std.proofs.lemmas.List.{length-append}
-use Rattle.std.proofs.lemmas.Option.{get_or_from_slice_get}
-use Rattle.sm_syntax.specs.text.Sorts.{Sorts}
-use Rattle.sm_term.specs.Terms.{Tree, Lit}
-use Rattle.sm_term.specs.Assertions.{Assertion}
-use Rattle.sm_term.specs.Tables.{TableValue, trees_in, sorts_in, tree_at, AreBefore}
-use Rattle.sm_term.specs.declared.term.TermId.{TermId}
-use Rattle.sm_term.specs.TableLaws.{ExtendsTable, AreApart}
-use Rattle.sm_theory.specs.Facts.{BranchFact}
-use Rattle.sm_theory.specs.Views.{AllStand}
-use Rattle.sm_theory.specs.declared.fact.Fact.{Fact}
 use Rattle.sm_proof.specs.declared.line.FormLine.TheVariants as form
-use Rattle.sm_proof.specs.Lines.{Term, Form}
-use Rattle.sm_proof.specs.declared.line.TermLine.{TermLine}
-use Rattle.sm_proof.specs.declared.line.FormLine.{FormLine}
-use Rattle.sm_proof.specs.Named.{and_then}
-use Rattle.sm_proof.specs.declared.word.Word.{Word}
-use Rattle.sm_proof.specs.Passing.{Pending, Progress, form_made, term_made, taken, taken_at}
-use Rattle.sm_check.specs.FormRows.{joined, row_form, RowStands, RowsStand, IsRowReady, AreRowsReady, FormRow}
-use Rattle.sm_check.specs.Pending.{DueStands, AllWait, AllPending, PendingStands, Waiting, Due}
-use Rattle.sm_check.specs.TermsMade.{IsTerm}
-use Rattle.sm_check.specs.Tells.{Tells, LineFault, Wrong, Memory}
-use Rattle.sm_check.specs.Walks.{WalkValue, Walks, terms_in, IsWalkReady}
+use Rattle.sm_proof.specs.Lines.{Term}
+use Rattle.sm_check.specs.FormRows.{joined, FormRow}
+use Rattle.sm_check.specs.Pending.{Due}
+use Rattle.sm_check.specs.Tells.{LineFault, Wrong, Memory}
 use Rattle.sm_check.proofs.FormRowsLemmas.{joined_there}
-use Rattle.sm_theory.proofs.FormsOfTermsLemmas.{one_place}
 use Rattle.sm_check.proofs.WalkWidens.{terms_stay, rows_stand, pending_stays}
-use Rattle.sm_lemmas.proofs.Lists.{get_pushed}
 
 pub got_more : {X : Type 0} (xs more : List X) (x : X) (k : ℕ) → slice_get xs k ≡ Some x → slice_get (xs ++ more) k ≡ Some x
 got_more [] more x k e = absurd cc

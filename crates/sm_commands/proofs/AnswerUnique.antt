@@ -1,28 +1,11 @@
 -- Two answers to the same words and told files, each without a fault, are equal.
-use Rattle.std.proofs.Common.{◌≡◌, ◌≢◌, ◌++◌, inl, inr, ℕ, true, false, List, Option, Some, None, refl, sym, ap, subst, ◌∙◌}
-use Rattle.sm_io.specs.Causes.{Rose}
-use Rattle.sm_io.specs.Files.{Known, untold}
+use Rattle.sm_commands.proofs.Imports.{◌≡◌, ◌≢◌, ◌++◌, inl, inr, ℕ, true, false, List, Option, Some, None, refl, sym, ap, subst, ◌∙◌, Rose, Known, untold, Parts, generated, A, B, AnswersCheck, AnswersDeeper, AnswersGenInTime, AnswersTask, SaysWhy, CopyName, summary_line, Files, AnswersCommand, AnswersRequest, Checks, Generates, IsAnswerTo, canonical_text, Prints, Words, Asked, check, verify, replay, print, suggest, gen, explain, batch, trim, about, asked, Effort, Status, Accepted, Conflict, Unknown, Refused, Usage, ReadFault, Memory, WriteFault, SinkFault}
 use Rattle.sm_replay.specs.declared.verdict.Verdict.TheVariants as verdict
-use Rattle.sm_syntax.specs.text.Parts.{Parts}
 use Rattle.sm_gen.specs.Drawing.{edits, edit_count}
-use Rattle.sm_gen.specs.Generating.{generated}
 use Rattle.sm_houdini.specs.Outcomes as outcome
-use Rattle.sm_syntax.specs.claim.ConflictFree.{A, B}
-use Rattle.sm_replies.specs.Check.{AnswersCheck}
-use Rattle.sm_commands.specs.Deeper.{AnswersDeeper}
-use Rattle.sm_replies.specs.Gen.{AnswersGenInTime}
-use Rattle.sm_commands.specs.Why.{AnswersTask, SaysWhy}
-use Rattle.sm_syntax.specs.declared.copies.CopyName.{CopyName}
 use Rattle.sm_commands.specs.Laws.{AreTold, AskAlike, IsPlain, OneAnswer, with_cache, with_workers}
-use Rattle.sm_answers.specs.Lines.{summary_line}
-use Rattle.sm_commands.specs.Top.{Files, AnswersCommand, AnswersRequest, Checks, Generates, IsAnswerTo}
-use Rattle.sm_display.specs.Print.{canonical_text, Prints}
 use Rattle.sm_display.proofs.ExplainUnique.{explains_same}
 use Rattle.sm_replies.proofs.BatchUnique.{batches_same, fewer_batches}
-use Rattle.sm_words.specs.Words.{Words, Asked, check, verify, replay, print, suggest, gen, explain, batch, trim, about, asked}
-use Rattle.sm_words.specs.declared.effort.Effort.{Effort}
-use Rattle.sm_answers.specs.declared.status.Status.{Status}
-use Rattle.sm_answers.specs.declared.status.Status.TheVariants.{Accepted, Conflict, Unknown, Refused, Usage, ReadFault, Memory, WriteFault, SinkFault}
 use Rattle.sm_answers.proofs.AnswerUnique.{Same, says_same, refused_same, task_or_none, task_same, replays_same, verifies_same}
 use Rattle.sm_replies.proofs.AnswerUnique.{fewer_over, no_limit, fewer_suggests, fewer_check, suggests_same, check_same}
 

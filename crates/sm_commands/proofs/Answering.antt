@@ -1,32 +1,11 @@
 -- What answers say: where Usage is one, and what Accepted promises.
-use Rattle.std.proofs.Common.{◌≡◌, ◌≢◌, inl, inr, ℕ, List, Option, Some, None, refl, sym, subst, ◌∙◌}
-use Rattle.sm_io.specs.Files.{Known, WhereHeld}
+use Rattle.sm_commands.proofs.Imports.{◌≡◌, ◌≢◌, inl, inr, ℕ, List, Option, Some, None, refl, sym, subst, ◌∙◌, Known, WhereHeld, ConflictFree, Parts, task_of, Spells, merge_file, IsSafeMerge, Files, IsAnswerTo, AnswersCommand, AnswersRequest, AsksToVerify, Checks, Verifies, rejected_line, AnswersProof, AnswersDeeper, AnswersTask, meaning, Says, Words, Asked, check, verify, replay, print, suggest, gen, explain, batch, trim, about, asked, IsUsage, Effort, Status, Accepted, Refused, Usage, ReadFault, Memory, SinkFault, IsOfCommand, IsToCommand, without_task, replay_to_command, verify_to_command, explain_to_command, shown_status, suggest_to_command, trim_accepts, trim_to_command, accepted_passes, fault_not_accepted}
 use Rattle.sm_proof.specs.declared.word.Word.{Word}
 use Rattle.sm_houdini.specs.Outcomes as outcome
 use Rattle.sm_replay.specs.declared.verdict.Verdict.TheVariants as verdict
-use Rattle.sm_syntax.specs.claim.ConflictFree.{ConflictFree}
-use Rattle.sm_syntax.specs.text.Parts.{Parts, task_of}
-use Rattle.sm_syntax.specs.text.Spells.{Spells}
-use Rattle.sm_commands.specs.Headline.{merge_file}
-use Rattle.sm_answers.specs.Merges.{IsSafeMerge}
-use Rattle.sm_commands.specs.Top.{Files, IsAnswerTo, AnswersCommand, AnswersRequest, AsksToVerify, Checks}
-use Rattle.sm_answers.specs.Verify.{Verifies, rejected_line, AnswersProof}
-use Rattle.sm_commands.specs.Deeper.{AnswersDeeper}
-use Rattle.sm_commands.specs.Why.{AnswersTask}
-use Rattle.sm_eval.specs.StoredValues.{meaning}
-use Rattle.sm_answers.specs.Status.{Says}
-use Rattle.sm_words.specs.Words.{Words, Asked, check, verify, replay, print, suggest, gen, explain, batch, trim, about, asked, IsUsage}
-use Rattle.sm_words.specs.declared.effort.Effort.{Effort}
-use Rattle.sm_answers.specs.declared.status.Status.{Status}
-use Rattle.sm_answers.specs.declared.status.Status.TheVariants.{Accepted, Refused, Usage, ReadFault, Memory, SinkFault}
 use Rattle.sm_words.proofs.Usage.{usage_asks_nothing}
-use Rattle.sm_answers.proofs.Statuses.{IsOfCommand, IsToCommand, without_task, replay_to_command, verify_to_command}
-use Rattle.sm_display.proofs.Begins.{explain_to_command}
 use Rattle.sm_replies.proofs.BatchStatuses.{batch_to_command}
 use Rattle.sm_commands.proofs.Statuses.{about_to_command, check_to_command, gen_to_command, print_to_command}
-use Rattle.sm_replies.proofs.Statuses.{shown_status, suggest_to_command}
-use Rattle.sm_files.proofs.Trimmed.{trim_accepts, trim_to_command}
-use Rattle.sm_answers.proofs.Answering.{accepted_passes, fault_not_accepted}
 use Rattle.sm_replies.proofs.Answering.{outcome_accepted}
 
 -- what is accepted beyond the search is free of conflicts, too

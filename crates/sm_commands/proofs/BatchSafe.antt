@@ -1,10 +1,5 @@
 -- What a line `I Accepted` of a batch says: of told files, and of the bytes that were read.
-use Rattle.std.proofs.Common.{◌≡◌, ℕ, List, Some}
-use Rattle.sm_replies.specs.HeadlineBatch.{AcceptsSafe}
-use Rattle.sm_commands.specs.Top.{Files, IsAnswerTo}
-use Rattle.sm_words.specs.Words.{Words, asked, batch}
-use Rattle.sm_words.specs.declared.effort.Effort.{Effort}
-use Rattle.sm_answers.specs.declared.status.Status.{Status}
+use Rattle.sm_commands.proofs.Imports.{◌≡◌, ℕ, List, Some, AcceptsSafe, Files, IsAnswerTo, Words, asked, batch, Effort, Status}
 use Rattle.sm_replies.proofs.BatchSafe.{batch_safe}
 
 -- ---- told files

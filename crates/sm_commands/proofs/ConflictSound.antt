@@ -1,45 +1,17 @@
 -- What Conflict says: the task isn't free of conflicts, and the input that is printed or was given shows it.
-use Rattle.std.proofs.Common.{◌≡◌, ◌≢◌, inl, inr, ℕ, true, false, ◌++◌, List, [], Option, Some, None, refl, ap, sym, subst, ◌∙◌}
+use Rattle.sm_commands.proofs.Imports.{◌≡◌, ◌≢◌, inl, inr, ℕ, true, false, ◌++◌, List, [], Option, Some, None, refl, ap, sym, subst, ◌∙◌, Known, WhereHeld, Verdict, Parts, sort_of, task_of, meaning, ConflictFree, Store, Spells, EndsWithInput, ShowsInput, IsShownByInput, IsUnsafeMerge, IsViolatedFrom, Outcome, IsOutcome, Files, IsAnswerTo, AnswersCommand, Checks, Prints, begins_refused, begins_replayed, Verifies, AnswersProof, reach_of, IsInputText, SaysOutcome, ShowsFrom, input_line, trial_line, AnswersDeeper, AnswersTask, AnswersSuggest, SaysSuggestion, Suggests, CopyName, GivesTask, Status, Conflict, Words, Asked, check, verify, replay, print, suggest, gen, explain, batch, trim, about, asked, task_file, Effort, violation_conflicts, trim_to_command, answered_no_conflict, without_task}
 use Rattle.std.proofs.lemmas.List.{append-nil, append_assoc}
-use Rattle.sm_io.specs.Files.{Known, WhereHeld}
 use Rattle.sm_replay.specs.Trials.{trial}
-use Rattle.sm_replay.specs.declared.verdict.Verdict.{Verdict}
 use Rattle.sm_replay.specs.declared.verdict.Verdict.TheVariants as verdict
 use Rattle.sm_solve.specs.declared.reach.Reach.{Reach}
-use Rattle.sm_syntax.specs.text.Parts.{Parts, sort_of, task_of}
-use Rattle.sm_eval.specs.StoredValues.{meaning}
 use Rattle.sm_eval.specs.declared.store.Store as code
 use Rattle.sm_replay.specs.Input.{IsInput}
-use Rattle.sm_syntax.specs.claim.ConflictFree.{ConflictFree}
-use Rattle.sm_syntax.specs.claim.Stores.{Store}
-use Rattle.sm_syntax.specs.text.Spells.{Spells}
 use Rattle.sm_replay.specs.Violations.{Violates}
-use Rattle.sm_commands.specs.Headline.{EndsWithInput, ShowsInput, IsShownByInput}
-use Rattle.sm_answers.specs.Merges.{IsUnsafeMerge, IsViolatedFrom}
 use Rattle.sm_houdini.specs.Outcomes as outcome
-use Rattle.sm_houdini.specs.Outcomes.{Outcome, IsOutcome}
 use Rattle.sm_houdini.proofs.OutcomeLemmas.{conflict_least}
-use Rattle.sm_commands.specs.Top.{Files, IsAnswerTo, AnswersCommand, Checks}
 use Rattle.sm_display.specs.Explain.{Explains, ExplainsFile}
-use Rattle.sm_display.specs.Print.{Prints}
-use Rattle.sm_display.proofs.Begins.{begins_refused, begins_replayed}
-use Rattle.sm_answers.specs.Verify.{Verifies, AnswersProof}
-use Rattle.sm_replies.specs.Check.{reach_of, IsInputText, SaysOutcome, ShowsFrom}
-use Rattle.sm_answers.specs.Lines.{input_line, trial_line}
-use Rattle.sm_commands.specs.Deeper.{AnswersDeeper}
-use Rattle.sm_commands.specs.Why.{AnswersTask}
-use Rattle.sm_replies.specs.Suggest.{AnswersSuggest, SaysSuggestion, Suggests}
-use Rattle.sm_syntax.specs.declared.copies.CopyName.{CopyName}
-use Rattle.sm_answers.specs.File.{GivesTask}
-use Rattle.sm_answers.specs.declared.status.Status.{Status}
-use Rattle.sm_answers.specs.declared.status.Status.TheVariants.{Conflict}
 use Rattle.sm_answers.specs.Replay.{GivesInput, Replays, ReplaysInput}
-use Rattle.sm_words.specs.Words.{Words, Asked, check, verify, replay, print, suggest, gen, explain, batch, trim, about, asked, task_file}
-use Rattle.sm_words.specs.declared.effort.Effort.{Effort}
-use Rattle.sm_replay.proofs.ViolationsSound.{violation_conflicts}
-use Rattle.sm_files.proofs.Trimmed.{trim_to_command}
 use Rattle.sm_answers.proofs.Replayed.{judged_violates, no_input_no_conflict}
-use Rattle.sm_answers.proofs.Statuses.{answered_no_conflict, without_task}
 use Rattle.sm_commands.proofs.Answering.{same_file, no_file}
 
 -- no proof file shows a conflict

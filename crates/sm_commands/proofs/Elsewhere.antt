@@ -1,17 +1,12 @@
 -- No command writes over what it reads.
-use Rattle.std.proofs.Common.{◌≡◌, ℕ, true, false, if◌then◌else◌, Bool, true≢false, sym, subst, ◌∙◌, List, [], ◌∷◌, Option, Some, None, codes, refl, option_map}
-use Rattle.std.specs.Prelude.{option_and_then}
+use Rattle.sm_commands.proofs.Imports.{◌≡◌, ℕ, true, false, if◌then◌else◌, Bool, true≢false, sym, subst, ◌∙◌, List, [], ◌∷◌, Option, Some, None, refl, option_map, option_and_then, WritesElsewhere, CopyName, Words, Asked, check, verify, replay, print, suggest, gen, explain, batch, trim, about, word_faults, asked, asked_by, asked_where, check_by, trim_by, argument_text, effort_in, verb_of, unless, Effort, same_ask}
+use Rattle.std.proofs.Common.{codes}
 use Rattle.std.specs.Str.{bytes_eq}
 use Rattle.std.proofs.lemmas.Slice.Eq.{bytes_eq-Decides}
 use Rattle.clap.specs.Walk.{Text}
-use Rattle.sm_commands.specs.Top.{WritesElsewhere}
-use Rattle.sm_syntax.specs.declared.copies.CopyName.{CopyName}
 use Rattle.sm_words.specs.Numbers.{cache_by, copy_by, seed_by, size_by, turns_by, workers_by}
-use Rattle.sm_words.specs.Words.{Words, Asked, check, verify, replay, print, suggest, gen, explain, batch, trim, about, word_faults, asked, asked_by, asked_where, check_by, trim_by, argument_text, effort_in, verb_of, unless}
-use Rattle.sm_words.specs.declared.effort.Effort.{Effort}
 use Rattle.sm_words.specs.declared.command.Verb.{Verb}
 use Rattle.sm_words.specs.declared.command.Verb.TheVariants.{About, Check, Verify, Replay, Print, Suggest, Gen, Explain, Batch, Trim}
-use Rattle.sm_files.proofs.FilesLemmas.{same_ask}
 
 no_ask : (ask : Asked) → (let o : Option Asked = None in o) ≡ Some ask → ⊥
 no_ask ask e = cc

@@ -1,29 +1,8 @@
 -- What answers leave in the files.
-use Rattle.std.proofs.Common.{◌≡◌, ◌≢◌, ◌≤◌, ◌⊎◌, inl, inr, ℕ, List, length, Option, Some, None, Result, codes, refl, sym, ap, subst, ◌∙◌}
+use Rattle.sm_commands.proofs.Imports.{◌≡◌, ◌≢◌, ◌≤◌, ◌⊎◌, inl, inr, ℕ, List, length, Option, Some, None, refl, sym, ap, subst, ◌∙◌, Outcome, IsOutcome, HasCause, Rose, Known, holds, Verdict, Parts, Spells, outcome_one, reach_of, AnswersCheck, SaysOutcome, AnswersDeeper, FailsToWrite, AnswersInTime, AnswersTask, AnswersWhy, file_limit, Status, Accepted, Unknown, WriteFault, HoldsProof, LeavesFront, LeavesProof, Says, Files, Checks, LeavesBy, LeavesFiles, LeavesPart, LeavesPartBy, EndsWith, Asked, check, verify, replay, print, suggest, gen, explain, batch, trim, about, Effort, Exit, Reply, task_told, ends_by, leaves_whole, none_refused, one_spelled}
+use Rattle.std.proofs.Common.{Result, codes}
 use Rattle.sm_houdini.specs.Outcomes as outcome
-use Rattle.sm_houdini.specs.Outcomes.{Outcome, IsOutcome}
-use Rattle.sm_io.specs.Causes.{HasCause, Rose}
-use Rattle.sm_io.specs.Files.{Known, holds}
-use Rattle.sm_replay.specs.declared.verdict.Verdict.{Verdict}
-use Rattle.sm_syntax.specs.text.Parts.{Parts}
-use Rattle.sm_syntax.specs.text.Spells.{Spells}
 use Rattle.sm_text.proofs.Complete.Tasks as text
-use Rattle.sm_replies.proofs.SpelledLemmas.{outcome_one}
-use Rattle.sm_replies.specs.Check.{reach_of, AnswersCheck, SaysOutcome}
-use Rattle.sm_commands.specs.Deeper.{AnswersDeeper, FailsToWrite}
-use Rattle.sm_commands.specs.Why.{AnswersInTime, AnswersTask, AnswersWhy}
-use Rattle.sm_answers.specs.File.{file_limit}
-use Rattle.sm_answers.specs.declared.status.Status.{Status}
-use Rattle.sm_answers.specs.declared.status.Status.TheVariants.{Accepted, Unknown, WriteFault}
-use Rattle.sm_files.specs.ProofFile.{HoldsProof, LeavesFront, LeavesProof}
-use Rattle.sm_answers.specs.Status.{Says}
-use Rattle.sm_commands.specs.Top.{Files, Checks, LeavesBy, LeavesFiles, LeavesPart, LeavesPartBy}
-use Rattle.sm_files.specs.Views.{EndsWith}
-use Rattle.sm_words.specs.Words.{Asked, check, verify, replay, print, suggest, gen, explain, batch, trim, about}
-use Rattle.sm_words.specs.declared.effort.Effort.{Effort}
-use Rattle.sm_answers.specs.declared.exit.Exit.{Exit}
-use Rattle.sm_answers.specs.declared.status.Reply.{Reply}
-use Rattle.sm_files.proofs.FilesLemmas.{task_told, ends_by, leaves_whole, none_refused, one_spelled}
 
 -- ---- the files of words
 

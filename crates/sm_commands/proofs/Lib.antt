@@ -1,3 +1,4 @@
+mod Imports
 pub mod Elsewhere
 pub mod Statuses
 pub mod Answering

@@ -1,34 +1,13 @@
 -- What Accepted and Conflict say of the bytes that were read.
-use Rattle.std.proofs.Common.{◌≡◌, inl, inr, ℕ, List, Some, None, sym, subst}
-use Rattle.std.specs.Prelude.{◌↔◌}
-use Rattle.sm_eval.specs.StoredValues.{meaning}
-use Rattle.sm_io.specs.Files.{Known}
+use Rattle.sm_commands.proofs.Imports.{◌≡◌, inl, inr, ℕ, List, Some, None, sym, subst, ◌↔◌, meaning, Known, violation_conflicts, Store, Parts, task_of, ExitsWith, Exit, GivesNoTask, Status, Accepted, Conflict, IsUnsafeMerge, IsViolatedFrom, AcceptsSafeRead, accepted_suggestion, AnswersByReads, ChecksRead, ProposesRead, AnswersCommand, Files, IsAnswerTo, Words, Asked, verify, replay, print, suggest, gen, explain, batch, trim, about, asked, Effort, stops_by, trim_to_command, trims_read, without_task}
 use Rattle.sm_io.specs.Reads.{Read}
 use Rattle.sm_replay.specs.Violations.{Violates}
-use Rattle.sm_replay.proofs.ViolationsSound.{violation_conflicts}
-use Rattle.sm_syntax.specs.claim.Stores.{Store}
-use Rattle.sm_syntax.specs.text.Parts.{Parts, task_of}
-use Rattle.sm_answers.specs.Exit.{ExitsWith}
-use Rattle.sm_answers.specs.declared.exit.Exit.{Exit}
-use Rattle.sm_answers.specs.File.{GivesNoTask}
-use Rattle.sm_answers.specs.declared.status.Status.{Status}
-use Rattle.sm_answers.specs.declared.status.Status.TheVariants.{Accepted, Conflict}
-use Rattle.sm_answers.specs.Merges.{IsUnsafeMerge, IsViolatedFrom}
-use Rattle.sm_replies.specs.HeadlineBatch.{AcceptsSafeRead}
 use Rattle.sm_commands.specs.HeadlineRead.{AcceptsRead, ConflictsRead, ReadsProved, ShowsReadInput, SuggestsRead}
 use Rattle.sm_answers.specs.ReadFiles.{ReadsTwo}
-use Rattle.sm_replies.proofs.SuggestedSafe.{accepted_suggestion}
-use Rattle.sm_commands.specs.Readings.{AnswersByReads, ChecksRead}
-use Rattle.sm_replies.specs.Suggest.{ProposesRead}
 use Rattle.sm_answers.specs.Readings.{ReadsTask, ReplaysRead, VerifiesRead}
-use Rattle.sm_commands.specs.Top.{AnswersCommand, Files, IsAnswerTo}
-use Rattle.sm_words.specs.Words.{Words, Asked, check as to_check, verify, replay, print, suggest, gen, explain, batch, trim, about, asked}
-use Rattle.sm_words.specs.declared.effort.Effort.{Effort}
+use Rattle.sm_words.specs.Words.{check as to_check}
 use Rattle.sm_commands.proofs.Answering.{accepted_is_free}
-use Rattle.sm_answers.proofs.Answering.{stops_by}
 use Rattle.sm_commands.proofs.ConflictSound.{checked_conflict, explain_no_conflict, print_no_conflict, shown_conflict, suggest_no_conflict, verify_no_conflict}
-use Rattle.sm_files.proofs.Trimmed.{trim_to_command, trims_read}
-use Rattle.sm_answers.proofs.Statuses.{without_task}
 
 -- a task that was read, after what was read is written otherwise
 pub read_still : (name : List ℕ) (before now next : List Read) (t : Parts) → ReadsTask name before now t → next ≡ now →

@@ -1,25 +1,8 @@
 -- Which statuses the answers to what a command asks for have.
-use Rattle.std.proofs.Common.{◌≡◌, ◌≢◌, inl, inr, ℕ, List, Option, sym, subst}
-use Rattle.sm_io.specs.Files.{Known}
-use Rattle.sm_replay.specs.declared.verdict.Verdict.{Verdict}
+use Rattle.sm_commands.proofs.Imports.{◌≡◌, ◌≢◌, inl, inr, ℕ, List, Option, sym, subst, Known, Verdict, Parts, generated, Outcome, Checks, Generates, Tells, AnswersCheck, SaysOutcome, AnswersDeeper, AnswersGenInTime, AnswersTask, CopyName, Effort, Status, Accepted, Conflict, Unknown, ReadFault, WriteFault, IsOfCommand, WritesNothing, of_accepted, of_conflict, of_unknown, same_as, IsToCommand, without_task, Prints, shown_status, over_status}
 use Rattle.sm_replay.specs.declared.verdict.Verdict.TheVariants as verdict
-use Rattle.sm_syntax.specs.text.Parts.{Parts}
-use Rattle.sm_gen.specs.Generating.{generated}
 use Rattle.sm_houdini.specs.Outcomes as outcome
-use Rattle.sm_houdini.specs.Outcomes.{Outcome}
-use Rattle.sm_commands.specs.Top.{Checks, Generates, Tells}
-use Rattle.sm_replies.specs.Check.{AnswersCheck, SaysOutcome}
-use Rattle.sm_commands.specs.Deeper.{AnswersDeeper}
-use Rattle.sm_replies.specs.Gen.{AnswersGenInTime}
-use Rattle.sm_commands.specs.Why.{AnswersTask}
-use Rattle.sm_syntax.specs.declared.copies.CopyName.{CopyName}
 use Rattle.sm_words.specs.declared.about.About.{About}
-use Rattle.sm_words.specs.declared.effort.Effort.{Effort}
-use Rattle.sm_answers.specs.declared.status.Status.{Status}
-use Rattle.sm_answers.specs.declared.status.Status.TheVariants.{Accepted, Conflict, Unknown, ReadFault, WriteFault}
-use Rattle.sm_answers.proofs.Statuses.{IsOfCommand, WritesNothing, of_accepted, of_conflict, of_unknown, same_as, IsToCommand, without_task}
-use Rattle.sm_display.specs.Print.{Prints}
-use Rattle.sm_replies.proofs.Statuses.{shown_status, over_status}
 
 of_write : IsOfCommand WriteFault
 of_write = record { not_usage = λ e. cc; not_memory = λ e. cc; not_sink = λ e. cc }

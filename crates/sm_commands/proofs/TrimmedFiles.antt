@@ -1,16 +1,7 @@
 -- What `trim` leaves in the files.
-use Rattle.std.proofs.Common.{◌≡◌, ◌≢◌, ℕ, List, Option, Some, Result, subst}
-use Rattle.sm_answers.specs.declared.exit.Exit.{Exit}
-use Rattle.sm_answers.specs.declared.status.Reply.{Reply}
-use Rattle.sm_answers.specs.declared.status.Status.{Status}
-use Rattle.sm_answers.specs.declared.status.Status.TheVariants.{Accepted, WriteFault}
-use Rattle.sm_files.proofs.FilesLemmas.{ends_by, leaves_cut, leaves_front, leaves_same}
-use Rattle.sm_files.specs.ProofFile.{LeavesCut, LeavesFront}
-use Rattle.sm_commands.specs.Top.{Files, LeavesBy, LeavesFiles, LeavesPart, TellsBy}
+use Rattle.sm_commands.proofs.Imports.{◌≡◌, ◌≢◌, ℕ, List, Option, Some, subst, Exit, Reply, Status, Accepted, WriteFault, ends_by, leaves_cut, leaves_front, leaves_same, LeavesCut, LeavesFront, Files, LeavesBy, LeavesFiles, LeavesPart, TellsBy, EndsWith, Asked, trim, leaves_proof}
+use Rattle.std.proofs.Common.{Result}
 use Rattle.sm_files.specs.Trim.{LeavesTrimmed, TellsOfTask}
-use Rattle.sm_files.specs.Views.{EndsWith}
-use Rattle.sm_words.specs.Words.{Asked, trim}
-use Rattle.sm_files.proofs.TrimmedFiles.{leaves_proof}
 
 -- ---- the files of words
 

@@ -1,19 +1,7 @@
 -- `verify` accepts exactly the proof files that pass for the task that the task's file gives.
-use Rattle.std.proofs.Common.{◌≡◌, ◌≢◌, ◌<◌, ◌≤◌, inl, inr, ℕ, List, length, Some, sym, subst, arith}
-use Rattle.std.specs.Prelude.{◌↔◌}
-use Rattle.sm_io.specs.Files.{Known, holds, WhereHeld}
+use Rattle.sm_commands.proofs.Imports.{◌≡◌, ◌≢◌, ◌<◌, ◌≤◌, inl, inr, ℕ, List, length, Some, sym, subst, arith, ◌↔◌, Known, holds, WhereHeld, Parts, Spells, file_limit, GivesNoTask, GivesTask, Status, Accepted, ReadFault, IsProved, Files, IsAnswerTo, Verifies, Words, asked, verify, without_task}
 use Rattle.sm_proof.specs.Verdicts.{Passes}
-use Rattle.sm_syntax.specs.text.Parts.{Parts}
-use Rattle.sm_syntax.specs.text.Spells.{Spells}
 use Rattle.sm_text.proofs.Complete.Tasks as text
-use Rattle.sm_answers.specs.File.{file_limit, GivesNoTask, GivesTask}
-use Rattle.sm_answers.specs.declared.status.Status.{Status}
-use Rattle.sm_answers.specs.declared.status.Status.TheVariants.{Accepted, ReadFault}
-use Rattle.sm_answers.specs.Merges.{IsProved}
-use Rattle.sm_commands.specs.Top.{Files, IsAnswerTo}
-use Rattle.sm_answers.specs.Verify.{Verifies}
-use Rattle.sm_words.specs.Words.{Words, asked, verify}
-use Rattle.sm_answers.proofs.Statuses.{without_task}
 use Rattle.sm_answers.proofs.Verified.{passing_accepted, accepted_passing}
 
 -- a file that gives no task has no proof

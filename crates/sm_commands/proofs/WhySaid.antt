@@ -1,20 +1,9 @@
 -- What stands behind an answer, by what it rests on.
-use Rattle.std.proofs.Common.{◌≡◌, ◌++◌, ℕ, List, inl, inr, false, true, sym, subst}
-use Rattle.sm_eval.specs.StoredValues.{meaning}
+use Rattle.sm_commands.proofs.Imports.{◌≡◌, ◌++◌, ℕ, List, inl, inr, false, true, sym, subst, meaning, Parts, Spells, Effort, IsReason, Status, Accepted, ShowsFrom, AnswersDeeper, IsShownBy, RestsOn, AnswersWhy, SaysWhy}
 use Rattle.sm_eval.specs.declared.store.Store as code
 use Rattle.sm_display.specs.Shown.{ShowsEnds}
-use Rattle.sm_syntax.specs.text.Parts.{Parts}
-use Rattle.sm_syntax.specs.text.Spells.{Spells}
-use Rattle.sm_words.specs.declared.effort.Effort.{Effort}
-use Rattle.sm_why.specs.Reasons.{IsReason}
 use Rattle.sm_why.specs.Trials.{IsTrialsLine}
 use Rattle.sm_why.specs.declared.stop.Stop.{Stop}
-use Rattle.sm_answers.specs.declared.status.Status.{Status}
-use Rattle.sm_answers.specs.declared.status.Status.TheVariants.{Accepted}
-use Rattle.sm_replies.specs.Check.{ShowsFrom}
-use Rattle.sm_commands.specs.Deeper.{AnswersDeeper}
-use Rattle.sm_replies.specs.Grounds.{IsShownBy, RestsOn}
-use Rattle.sm_commands.specs.Why.{AnswersWhy, SaysWhy}
 use Rattle.sm_replies.specs.declared.ground.Ground.TheVariants.{Input, Stopped}
 
 -- behind an Accepted

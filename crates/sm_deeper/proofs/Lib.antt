@@ -1,3 +1,4 @@
+mod Imports
 pub mod Crossing
 pub mod RowsLemmas
 pub mod Widening

@@ -1,18 +1,13 @@
 -- What jobs over copies of a table come to.
-use Rattle.std.proofs.Common.{◌≡◌, ℕ, ◌+◌, ◌<◌, ◌≤◌, List, Ok, Err, length, take, get_or, sym, ap, ◌∙◌, subst, arith}
+use Rattle.sm_deeper.proofs.Imports.{◌≡◌, ℕ, ◌+◌, ◌<◌, ◌≤◌, List, Ok, Err, length, take, get_or, sym, ap, ◌∙◌, subst, arith, Vec, IfOk, TableValue, trees_in, sorts_in, ExtendsTable, AreRowsSound, front_stays, JobEnd}
 use Rattle.std.proofs.lemmas.List.{take_all, take_at}
-use Rattle.std.specs.Prelude.{Vec, Result, IfOk}
+use Rattle.std.specs.Prelude.{Result}
 use Rattle.std.specs.declared.alloc.Global.{Global}
 use Rattle.std.specs.declared.alloc.AllocError.{AllocError}
 use Rattle.sm_syntax.specs.text.Sorts.{Sorts}
 use Rattle.sm_par.specs.Results.{StandInOrder}
 use Rattle.sm_term.specs.declared.tails.TermRows.{TermRows}
-use Rattle.sm_term.specs.Tables.{TableValue, trees_in, sorts_in}
-use Rattle.sm_term.specs.TableLaws.{ExtendsTable}
-use Rattle.sm_term.specs.Tails.{AreRowsSound}
 use Rattle.sm_term.specs.Terms.{Tree}
-use Rattle.sm_goals.proofs.TablesLemmas.{front_stays}
-use Rattle.sm_deeper.specs.declared.end_jobs.JobEnd.{JobEnd}
 
 -- the new rows of a copy are sound behind the terms of the table
 pub copy_sound : (v t w : TableValue) → sorts_in t ≡ sorts_in v → trees_in t ≡ trees_in v → ExtendsTable t w → (from : ℕ) →

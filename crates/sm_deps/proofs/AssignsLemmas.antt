@@ -1,20 +1,9 @@
 -- What statements and lists of statements assign.
-use Rattle.std.proofs.Common.{◌≡◌, ◌+◌, ◌<◌, ◌≤◌, ℕ, Bool, ◌==◌, ◌||◌, List, length, map, drop, get_or, refl, sym, ap, ◌∙◌}
-use Rattle.std.proofs.Math.Path.{fun_ext}
-use Rattle.sm_syntax.specs.declared.tree.Expr.{Expr}
-use Rattle.sm_syntax.specs.declared.tree.Name.{Name}
+use Rattle.sm_deps.proofs.Imports.{◌≡◌, ◌+◌, ◌<◌, ◌≤◌, ℕ, Bool, ◌==◌, ◌||◌, List, length, map, drop, get_or, refl, sym, ap, ◌∙◌, fun_ext, Expr, Name, assigns, Code, End, Skip, Write, If, While, Hole, append, sequence, statement_of, code_of, Stmt, Block, Cond, statement_is, sequence-drop, sequence-drop-end, statement_of-Skip, statement_of-Assign, statement_of-Store, statement_of-If, statement_of-While, statement_of-Hole, or_false, or_assoc}
 use Rattle.sm_syntax.specs.declared.tree.Stmt.TheVariants as tree
-use Rattle.sm_syntax.specs.Assigns.{assigns}
-use Rattle.sm_syntax.specs.claim.Syntax.{Code, End, Skip, Assign, Write, If, While, Hole, append}
-use Rattle.sm_syntax.specs.trees.Views.{sequence, statement_of, code_of}
-use Rattle.sm_syntax.specs.declared.tree.Stmt.{Stmt}
-use Rattle.sm_syntax.specs.declared.tree.Block.{Block}
-use Rattle.sm_syntax.specs.declared.tree.Cond.{Cond}
-use Rattle.sm_syntax.proofs.Blocks.{statement_is, sequence-drop, sequence-drop-end}
-use Rattle.sm_syntax.proofs.Statements.{statement_of-Skip, statement_of-Assign, statement_of-Store, statement_of-If, statement_of-While, statement_of-Hole}
+use Rattle.sm_syntax.specs.claim.Syntax.{Assign}
 use Rattle.sm_deps.specs.Members.{only, either}
 use Rattle.sm_deps.proofs.MembersLemmas.{none, either-none, either-either}
-use Rattle.sm_lemmas.proofs.Tests.{or_false, or_assoc}
 
 -- one code after another assigns what either does
 assigns-append : (c r : Code) (x : ℕ) → assigns (append c r) x ≡ (assigns c x || assigns r x)

@@ -1,10 +1,5 @@
 -- A set that grows by names of a list alone is closed after as many rounds as the list is long.
-use Rattle.std.proofs.Common.{◌≡◌, ◌⊎◌, ◌≤◌, ◌<◌, ℕ, zero, suc, Bool, true, false, ◌==◌, ◌||◌, if◌then◌else◌, List, [], ◌∷◌, length, inl, inr, ⊎_elim, refl, sym, ap, subst, ◌∙◌, arith}
-use Rattle.std.proofs.lemmas.Bool.{eqb-true, eq-eqb, or_left, or_right, or_cases}
-use Rattle.std.proofs.Math.Path.{fun_ext}
-use Rattle.sm_syntax.specs.text.Conditions.{is_in}
-use Rattle.sm_deps.specs.Inputs.{grown}
-use Rattle.sm_deps.specs.Members.{Below}
+use Rattle.sm_deps.proofs.Imports.{◌≡◌, ◌⊎◌, ◌≤◌, ◌<◌, ℕ, zero, suc, Bool, true, false, ◌==◌, ◌||◌, if◌then◌else◌, List, [], ◌∷◌, length, inl, inr, ⊎_elim, refl, sym, ap, subst, ◌∙◌, arith, eqb-true, eq-eqb, or_left, or_right, or_cases, fun_ext, is_in, grown, Below}
 
 -- a set, and what makes sets greater
 abbrev Test : Type 0

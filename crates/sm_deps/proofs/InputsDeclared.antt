@@ -1,16 +1,7 @@
 -- The names that well-sorted code needs and assigns are declared.
-use Rattle.std.proofs.Common.{◌≡◌, ℕ, Bool, true, not, ◌==◌, ◌||◌, ◌&&◌, Some, is_some, length, ap, ◌∙◌, ⊎_elim}
-use Rattle.std.proofs.lemmas.Bool.{eqb-true, or_cases, and_parts}
-use Rattle.sm_syntax.specs.Assigns.{assigns}
-use Rattle.sm_syntax.specs.text.Conditions.{is_in}
-use Rattle.sm_syntax.specs.text.Sorts.{Sorts, IsWellSortedExpression, IsWellSortedCondition, IsWellSorted}
-use Rattle.sm_syntax.specs.declared.tree.Sort.{Sort}
-use Rattle.sm_syntax.specs.declared.tree.Sort.TheVariants.{Num, Arr}
-use Rattle.sm_syntax.specs.claim.Syntax.{Expression, Lit, Var, Read, Neg, Plus, Minus, Times, Condition, Yes, No, Compare, Not, And, Or, Code, End, Skip, Assign, Write, If, While, Hole}
-use Rattle.sm_deps.specs.Names.{mentions, tests, code_names}
-use Rattle.sm_deps.specs.Inputs.{needed, inputs}
+use Rattle.sm_deps.proofs.Imports.{◌≡◌, ℕ, Bool, true, not, ◌==◌, ◌||◌, ◌&&◌, Some, is_some, length, ap, ◌∙◌, ⊎_elim, eqb-true, or_cases, and_parts, assigns, is_in, Sorts, IsWellSortedExpression, IsWellSortedCondition, IsWellSorted, Sort, Num, Arr, Expression, Lit, Var, Read, Neg, Plus, Minus, Times, Condition, Yes, No, Compare, Not, Code, End, Skip, Write, If, While, Hole, mentions, tests, code_names, needed, inputs, Below}
+use Rattle.sm_syntax.specs.claim.Syntax.{And, Or, Assign}
 use Rattle.sm_deps.proofs.InputsExact.{inputs_listed}
-use Rattle.sm_deps.specs.Members.{Below}
 use Rattle.sm_deps.proofs.GrownLemmas.{grown_within}
 
 -- whether a name is declared

@@ -1,21 +1,11 @@
 -- The computed set is exactly what is needed.
-use Rattle.std.proofs.Common.{◌≡◌, ◌≢◌, ◌⊎◌, ◌↔◌, ◌≤◌, ◌<◌, ◌+◌, ℕ, zero, suc, Bool, true, false, cond, not, IsTrue, ◌==◌, ◌||◌, ◌&&◌, List, [], ◌∷◌, ◌++◌, map, length, inl, inr, ⊎_elim, refl, ap, ◌∙◌, arith}
-use Rattle.std.proofs.lemmas.Bool.{eqb-true, eqb-false, eq-eqb, ne_eqb, or_left, or_right, or_cases, and_parts, and_from, not-true, not_from_false, cases_eq}
+use Rattle.sm_deps.proofs.Imports.{◌≡◌, ◌≢◌, ◌⊎◌, ◌↔◌, ◌≤◌, ◌<◌, ◌+◌, ℕ, zero, suc, Bool, true, false, cond, not, IsTrue, ◌==◌, ◌||◌, ◌&&◌, List, [], ◌∷◌, ◌++◌, map, length, inl, inr, ⊎_elim, refl, ap, ◌∙◌, arith, eqb-true, eqb-false, eq-eqb, ne_eqb, or_left, or_right, or_cases, and_parts, and_from, not-true, not_from_false, cases_eq, list_any-append, filter, range_with_len, IsStrictlyIncreasing, Sort, Num, Arr, is_in, Expression, Lit, Var, Read, Neg, Plus, Minus, Times, Condition, Yes, No, Compare, Not, Code, End, Skip, Write, If, While, Hole, mentions, tests, code_names, NamePredicate, Within, Picked, Needs, needed, greatest, Below}
 use Rattle.std.proofs.lemmas.List.{map-append}
-use Rattle.std.proofs.lemmas.List.Folds.{list_any-append}
 use Rattle.std.proofs.lemmas.List.FromFn.{length-range_with_len, get_or-range_with_len}
 use Rattle.std.proofs.lemmas.List.Kept.{IsStrictlyIncreasing-filter}
-use Rattle.std.specs.List.{filter, range_with_len}
-use Rattle.std.specs.List.Sorted.{IsStrictlyIncreasing}
-use Rattle.sm_syntax.specs.declared.tree.Sort.{Sort}
-use Rattle.sm_syntax.specs.declared.tree.Sort.TheVariants.{Num, Arr}
-use Rattle.sm_syntax.specs.text.Conditions.{is_in}
 use Rattle.sm_syntax.specs.text.Uses.{names_in, names_tested, names_used}
-use Rattle.sm_syntax.specs.claim.Syntax.{Expression, Lit, Var, Read, Neg, Plus, Minus, Times, Condition, Yes, No, Compare, Not, And, Or, Code, End, Skip, Assign, Write, If, While, Hole}
-use Rattle.sm_deps.specs.Names.{mentions, tests, code_names}
-use Rattle.sm_deps.specs.Needs.{NamePredicate, Within, Picked, Needs}
-use Rattle.sm_deps.specs.Inputs.{needed, greatest, inputs}
-use Rattle.sm_deps.specs.Members.{Below}
+use Rattle.sm_syntax.specs.claim.Syntax.{And, Or, Assign}
+use Rattle.sm_deps.specs.Inputs.{inputs}
 use Rattle.sm_deps.proofs.GrownLemmas.{Closed, From, grown_starts, grown_within, grown_closed}
 
 -- whether a name stands in a list of names with sorts

@@ -1,20 +1,11 @@
 -- Stores that agree on what code needs run alike.
-use Rattle.std.proofs.Common.{◌≡◌, ◌≢◌, ◌⊎◌, ℕ, zero, suc, ℤ, Bool, true, false, IsTrue, ◌==◌, ◌||◌, if◌then◌else◌, Option, Some, None, inl, inr, ⊎_elim, refl, sym, subst}
-use Rattle.std.proofs.lemmas.Bool.{cases_eq, eqb-true, eqb-false, or_left, or_right}
-use Rattle.sm_syntax.specs.text.Conditions.{is_in}
-use Rattle.sm_syntax.specs.claim.Syntax.{Expression, Lit, Var, Read, Neg, Plus, Minus, Times, Condition, Yes, No, Compare, Not, And, Or, Code, End, Skip, Assign, Write, If, While, Hole}
+use Rattle.sm_deps.proofs.Imports.{◌≡◌, ◌≢◌, ◌⊎◌, ℕ, zero, suc, ℤ, Bool, true, false, IsTrue, ◌==◌, ◌||◌, if◌then◌else◌, Option, Some, None, inl, inr, ⊎_elim, refl, sym, subst, cases_eq, eqb-true, eqb-false, or_left, or_right, is_in, Expression, Lit, Var, Read, Neg, Plus, Minus, Times, Condition, Yes, No, Compare, Not, Code, End, Skip, Write, If, While, Hole, Sorts, IsWellSortedExpression, IsWellSortedCondition, IsWellSorted, Sort, Num, Arr, mentions, tests, NamePredicate, Picked, Least, Needs, inputs, itself}
+use Rattle.sm_syntax.specs.claim.Syntax.{And, Or, Assign}
 use Rattle.sm_syntax.specs.claim.Stores.{Value, Array, number, array, Store, put, with_element}
 use Rattle.sm_syntax.specs.claim.Meaning.{value_of, truth_of, and_then, turns, written, run}
-use Rattle.sm_syntax.specs.text.Sorts.{Sorts, IsWellSortedExpression, IsWellSortedCondition, IsWellSorted}
-use Rattle.sm_syntax.specs.declared.tree.Sort.{Sort}
-use Rattle.sm_syntax.specs.declared.tree.Sort.TheVariants.{Num, Arr}
-use Rattle.sm_deps.specs.Names.{mentions, tests}
-use Rattle.sm_deps.specs.Needs.{NamePredicate, Picked, Least, Needs}
-use Rattle.sm_deps.specs.Inputs.{inputs}
 use Rattle.sm_deps.specs.Laws.{EndAlike, SameIfSorted}
 use Rattle.sm_deps.proofs.NeedsLemmas.{least_starts, least_stays}
 use Rattle.sm_deps.proofs.InputsExact.{inputs_exact}
-use Rattle.sm_lemmas.proofs.Tests.{itself}
 
 -- when two values of a name are alike
 abbrev Likeness : Type 1

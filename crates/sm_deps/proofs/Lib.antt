@@ -1,3 +1,4 @@
+mod Imports
 pub mod NeedsLemmas
 pub mod InputsSound
 pub mod GrownLemmas

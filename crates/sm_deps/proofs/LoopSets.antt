@@ -1,9 +1,6 @@
 -- The sets that the loops of code need, by the numbers of the loops.
-use Rattle.std.proofs.Common.{◌≡◌, ◌+◌, ◌<◌, ◌≤◌, ℕ, Bool, true, false, if◌then◌else◌, nat_lt, sym, ap, ◌∙◌, arith}
-use Rattle.std.proofs.lemmas.Bool.Decides.{nat_tests}
-use Rattle.sm_syntax.specs.claim.Syntax.{Code, End, Skip, Assign, Write, If, While, Hole}
-use Rattle.sm_deps.specs.Inputs.{needed}
-use Rattle.sm_deps.specs.Loops.{loops_in, HasNeeds}
+use Rattle.sm_deps.proofs.Imports.{◌≡◌, ◌+◌, ◌<◌, ◌≤◌, ℕ, Bool, true, false, if◌then◌else◌, nat_lt, sym, ap, ◌∙◌, arith, nat_tests, Code, End, Skip, Write, If, While, Hole, needed, loops_in, HasNeeds}
+use Rattle.sm_syntax.specs.claim.Syntax.{Assign}
 
 -- a set of names
 abbrev pub Test : Type 0

@@ -1,21 +1,12 @@
 -- Going over code with kept sets finds exactly what the code needs.
-use Rattle.std.proofs.Common.{◌≡◌, ◌⊎◌, ◌+◌, ◌<◌, ◌≤◌, ℕ, zero, suc, true, ◌||◌, Some, None, List, [], ◌∷◌, ◌++◌, length, get_or, slice_get, inl, inr, refl, sym, ap, subst, ⊎_elim, ◌∙◌, length-append, arith}
+use Rattle.sm_deps.proofs.Imports.{◌≡◌, ◌⊎◌, ◌+◌, ◌<◌, ◌≤◌, ℕ, zero, suc, true, ◌||◌, Some, None, List, [], ◌∷◌, ◌++◌, length, get_or, slice_get, inl, inr, refl, sym, ap, subst, ⊎_elim, ◌∙◌, length-append, arith, or_left, or_right, or_cases, fun_ext, BTreeSet, IsOrdered, nat_cmp, Condition, Code, End, Skip, Write, If, While, Hole, append, Loops, tests, code_names, needed, members, Below, loops_in, HasNeeds, IsWithin, IsReady, LoopsCounted, GoesOver, Settles, Resumes, KeepsSet, same_tests}
 use Rattle.std.proofs.lemmas.Option.{same_Some, slice_get_read, slice_get_past}
-use Rattle.std.proofs.lemmas.Bool.{or_left, or_right, or_cases}
-use Rattle.std.proofs.Math.Path.{fun_ext}
-use Rattle.std.specs.BTreeSet.{BTreeSet, IsOrdered}
-use Rattle.std.specs.Ordering.{nat_cmp}
-use Rattle.sm_syntax.specs.claim.Syntax.{Condition, Code, End, Skip, Assign, Write, If, While, Hole, append}
-use Rattle.sm_deps.specs.declared.loops.Loops.{Loops}
-use Rattle.sm_deps.specs.Names.{tests, code_names}
-use Rattle.sm_deps.specs.Inputs.{needed}
-use Rattle.sm_deps.specs.Members.{members, either, Below}
-use Rattle.sm_deps.specs.Loops.{loops_in, HasNeeds, IsWithin, IsReady, LoopsCounted, GoesOver, Settles, Resumes, KeepsSet}
+use Rattle.sm_syntax.specs.claim.Syntax.{Assign}
+use Rattle.sm_deps.specs.Members.{either}
 use Rattle.sm_deps.proofs.InputsExact.{loop_closed}
 use Rattle.sm_deps.proofs.GrownLemmas.{grown_starts, grown_within}
 use Rattle.sm_deps.proofs.NeededLemmas.{needed-append, needed_grows, no_more}
 use Rattle.sm_deps.proofs.LoopSets.{Test, sets_of, sets_need}
-use Rattle.sm_lemmas.proofs.Tests.{same_tests}
 
 -- what is so of a set is so of an equal one
 abbrev at : (s t : Test) (x : ℕ) → s ≡ t → s x ≡ true → t x ≡ true

@@ -1,22 +1,9 @@
 -- Sets of names as tests: what one name more, one name less or another set makes of them.
-use Rattle.std.proofs.Common.{◌≡◌, ℕ, Bool, true, false, cond, ◌||◌, ◌==◌, Result, OnOk, IfOk, List, [], refl, sym, ap, ◌∙◌, arith}
-use Rattle.std.proofs.lemmas.Bool.Decides.{nat_tests}
-use Rattle.std.proofs.lemmas.Result.{on_ok_weaker, IfOk-weaker}
-use Rattle.std.proofs.lemmas.Cmp.{nat_cmp_total}
-use Rattle.std.proofs.lemmas.Map.Keys.{sorted_from_strictly_increasing}
+use Rattle.sm_deps.proofs.Imports.{◌≡◌, ℕ, Bool, true, false, cond, ◌||◌, ◌==◌, Result, OnOk, IfOk, List, [], refl, sym, ap, ◌∙◌, arith, nat_tests, on_ok_weaker, IfOk-weaker, nat_cmp_total, sorted_from_strictly_increasing, fun_ext, is_at, BTreeSet, contains, InsertsAll, IsOrdered, Updates, list_any, IsStrictlyIncreasing, nat_cmp, is_in, Expression, Var, Read, Plus, Minus, Times, Condition, Compare, mentions, tests, or_false, or_assoc}
 use Rattle.std.proofs.lemmas.Map.Lookups.{btree_set_from_contains, exact_unsigned}
-use Rattle.std.proofs.Math.Path.{fun_ext}
-use Rattle.std.specs.BTreeMap.{is_at}
-use Rattle.std.specs.BTreeSet.{BTreeSet, contains, InsertsAll, IsOrdered, Updates}
-use Rattle.std.specs.List.{list_any}
-use Rattle.std.specs.List.Sorted.{IsStrictlyIncreasing}
-use Rattle.std.specs.Ordering.{nat_cmp}
-use Rattle.sm_syntax.specs.text.Conditions.{is_in}
-use Rattle.sm_syntax.specs.claim.Syntax.{Expression, Var, Read, Plus, Minus, Times, Condition, Compare, And, Or}
+use Rattle.sm_syntax.specs.claim.Syntax.{And, Or}
 use Rattle.sm_syntax.specs.declared.tree.Cmp.{Cmp}
-use Rattle.sm_deps.specs.Names.{mentions, tests}
 use Rattle.sm_deps.specs.Members.{members, only, either}
-use Rattle.sm_lemmas.proofs.Tests.{or_false, or_assoc}
 
 -- whether a number is at its place
 pub at_number : (x q : ℕ) → is_at (nat_cmp x) q ≡ (q == x)

@@ -1,34 +1,11 @@
 -- What is needed before statements and lists of statements, one step at a time.
-use Rattle.std.proofs.Common.{◌≡◌, ◌+◌, ◌-◌, ◌<◌, ◌≤◌, ℕ, Bool, true, false, cond, not, ◌==◌, ◌||◌, ◌&&◌, List, [], ◌∷◌, ◌++◌, length, map, drop, get_or, nat_eq, refl, sym, ap, subst, ⊎_elim, ◌∙◌, length-append, arith}
-use Rattle.std.proofs.lemmas.Bool.{cases_Bool, eqb-true, or_left, or_cases}
-use Rattle.std.proofs.lemmas.Bool.Decides.{nat_tests}
-use Rattle.std.proofs.Math.Path.{fun_ext}
-use Rattle.std.proofs.lemmas.List.Folds.{list_any-append}
-use Rattle.std.proofs.lemmas.Map.Keys.{IsDistinct-from_sorted, IsDistinct-push}
+use Rattle.sm_deps.proofs.Imports.{◌≡◌, ◌+◌, ◌-◌, ◌<◌, ◌≤◌, ℕ, Bool, true, false, cond, not, ◌==◌, ◌||◌, ◌&&◌, List, [], ◌∷◌, ◌++◌, length, map, drop, get_or, nat_eq, refl, sym, ap, subst, ⊎_elim, ◌∙◌, length-append, arith, cases_Bool, eqb-true, or_left, or_cases, nat_tests, fun_ext, list_any-append, IsDistinct-from_sorted, IsDistinct-push, is_at, BTreeSet, contains, contains_by, IsOrdered, UpdatesBy, nat_eq_equiv, IsDistinct, list_any, nat_cmp, eq_by_cmp, Expr, Name, is_in, Code, End, Skip, Write, If, While, Hole, append, expression_of, condition_of, sequence, statement_of, code_of, Stmt, Block, Cond, statement_is, sequence-drop, statement_of-Skip, statement_of-Assign, statement_of-Store, statement_of-If, statement_of-While, statement_of-Hole, grown, needed, inputs, Below, mentions, tests, code_names, Picked, same_tests, or_assoc, or_false}
 use Rattle.std.proofs.lemmas.Map.Made.{length-le_from_is_member}
-use Rattle.std.specs.BTreeMap.{is_at}
-use Rattle.std.specs.BTreeSet.{BTreeSet, contains, contains_by, IsOrdered, UpdatesBy}
-use Rattle.std.proofs.lemmas.Cmp.{nat_eq_equiv}
-use Rattle.std.specs.List.{IsDistinct, list_any}
-use Rattle.std.specs.Ordering.{nat_cmp, eq_by_cmp}
-use Rattle.sm_syntax.specs.declared.tree.Expr.{Expr}
-use Rattle.sm_syntax.specs.declared.tree.Name.{Name}
 use Rattle.sm_syntax.specs.declared.tree.Stmt.TheVariants as tree
-use Rattle.sm_syntax.specs.text.Conditions.{is_in}
-use Rattle.sm_syntax.specs.claim.Syntax.{Code, End, Skip, Assign, Write, If, While, Hole, append}
-use Rattle.sm_syntax.specs.trees.Views.{expression_of, condition_of, sequence, statement_of, code_of}
-use Rattle.sm_syntax.specs.declared.tree.Stmt.{Stmt}
-use Rattle.sm_syntax.specs.declared.tree.Block.{Block}
-use Rattle.sm_syntax.specs.declared.tree.Cond.{Cond}
-use Rattle.sm_syntax.proofs.Blocks.{statement_is, sequence-drop}
-use Rattle.sm_syntax.proofs.Statements.{statement_of-Skip, statement_of-Assign, statement_of-Store, statement_of-If, statement_of-While, statement_of-Hole}
-use Rattle.sm_deps.specs.Inputs.{grown, needed, inputs}
-use Rattle.sm_deps.specs.Members.{members, only, either, Below}
-use Rattle.sm_deps.specs.Names.{mentions, tests, code_names}
-use Rattle.sm_deps.specs.Needs.{Picked}
+use Rattle.sm_syntax.specs.claim.Syntax.{Assign}
+use Rattle.sm_deps.specs.Members.{members, only, either}
 use Rattle.sm_deps.proofs.InputsExact.{needed_sound, needed_complete, inputs_listed, inputs_exact}
 use Rattle.sm_deps.proofs.MembersLemmas.{at_number, listed-members, list_is}
-use Rattle.sm_lemmas.proofs.Tests.{same_tests, or_assoc, or_false}
 
 -- before one code after another, what the first needs for what the second needs
 pub needed-append : (c r : Code) (wanted : ℕ → Bool) → needed (append c r) wanted ≡ needed c (needed r wanted)

@@ -1,8 +1,6 @@
 -- What is needed grows with what is wanted, and the set of a loop is closed.
-use Rattle.std.proofs.Common.{◌≢◌, ◌⊎◌, ℕ, Bool, IsTrue, inl, inr, ⊎_elim}
-use Rattle.sm_syntax.specs.claim.Syntax.{Code, End, Skip, Assign, Write, If, While, Hole}
-use Rattle.sm_deps.specs.Names.{mentions, tests}
-use Rattle.sm_deps.specs.Needs.{NamePredicate, Within, Picked, Least, Needs}
+use Rattle.sm_deps.proofs.Imports.{◌≢◌, ◌⊎◌, ℕ, Bool, IsTrue, inl, inr, ⊎_elim, Code, End, Skip, Write, If, While, Hole, mentions, tests, NamePredicate, Within, Picked, Least, Needs}
+use Rattle.sm_syntax.specs.claim.Syntax.{Assign}
 
 -- one of two, where the first grows
 first_grows : (P Q R : Type 0) → (P → Q) → P ⊎ R → Q ⊎ R

@@ -1,14 +1,6 @@
 -- An answer of `explain` has the status of `print` or of `replay`, and begins with its line.
-use Rattle.std.proofs.Common.{◌≡◌, ◌++◌, inl, inr, ℕ, List, [], Option, Some, None, sym, append-nil}
-use Rattle.sm_io.specs.Files.{Known}
-use Rattle.sm_syntax.specs.text.Parts.{Parts}
-use Rattle.sm_answers.specs.Replay.{ReplaysInput}
-use Rattle.sm_answers.specs.declared.status.Status.{Status}
-use Rattle.sm_answers.specs.declared.status.Status.TheVariants.{Accepted}
-use Rattle.sm_answers.proofs.Statuses.{of_accepted, replay_to_command, same_as, without_task, IsToCommand}
-use Rattle.sm_display.specs.Explain.{Explains, ExplainsInput}
+use Rattle.sm_display.proofs.Imports.{◌≡◌, ◌++◌, inl, inr, ℕ, List, [], Option, Some, None, sym, append-nil, Known, Parts, ReplaysInput, Status, Accepted, of_accepted, replay_to_command, same_as, without_task, IsToCommand, Explains, ExplainsInput, start_heading}
 use Rattle.sm_display.specs.Laws.{BeginsAsRefused, BeginsAsReplayed}
-use Rattle.sm_display.specs.Shown.{start_heading}
 
 pub begins_refused : BeginsAsRefused
 begins_refused file before now status text (inl none) = (text, [], inl none, sym (append-nil text))

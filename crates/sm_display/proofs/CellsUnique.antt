@@ -1,18 +1,13 @@
 -- A store has one text, and four ends have one table.
-use Rattle.std.proofs.Common.{◌≡◌, ◌<◌, ◌++◌, ℕ, zero, suc, ℤ, pos, Bool, true, false, if◌then◌else◌, List, [], ◌∷◌, length, inl, inr, ⊎_elim, refl, sym, ap, subst, ◌∙◌, arith}
+use Rattle.sm_display.proofs.Imports.{◌≡◌, ◌<◌, ◌++◌, ℕ, zero, suc, ℤ, pos, Bool, true, false, if◌then◌else◌, List, [], ◌∷◌, length, inl, inr, ⊎_elim, refl, sym, ap, subst, ◌∙◌, arith, Copy, Value, Number, Array, Store, Sort, Parts, task_of, element_lines, AreStartLines, AreValueLines}
 use Rattle.std.specs.Prelude.{◌<ℤ◌, ◌≤ℤ◌}
 use Rattle.std.specs.Ordering.{int_eq}
 use Rattle.std.proofs.lemmas.Bool.Decides.{Decides-int_eq}
 use Rattle.std.proofs.lemmas.Int.{ints}
-use Rattle.sm_syntax.specs.claim.ConflictFree.{Copy}
-use Rattle.sm_syntax.specs.claim.Stores.{Value, Number, Array, Store}
-use Rattle.sm_syntax.specs.declared.tree.Sort.{Sort}
 use Rattle.sm_syntax.specs.declared.tree.Sort.TheVariants.{Num, Arr}
-use Rattle.sm_syntax.specs.text.Parts.{Parts, task_of}
 use Rattle.sm_eval.specs.Cells.{index_at, listed, AreCells}
 use Rattle.sm_replay.proofs.VerdictSound.{same_ends}
 use Rattle.sm_explain.specs.Indices.{IsOf, Rise}
-use Rattle.sm_explain.specs.Starts.{element_lines, AreStartLines, AreValueLines}
 use Rattle.sm_explain.specs.Tables.{element_rows, AreElementRows, AreOutputRows, AreRows, IsTable}
 use Rattle.sm_explain.proofs.MergedLists.{first_least}
 use Rattle.sm_lemmas.proofs.Tests.{neither_less}

@@ -1,25 +1,13 @@
 -- Two answers of `explain` to the same told files, each without a fault, are equal.
-use Rattle.std.proofs.Common.{◌≡◌, ◌≢◌, ◌++◌, inl, inr, ℕ, List, Option, Some, None, Result, Ok, Err, codes, take, refl, sym, ap, subst, ◌∙◌}
-use Rattle.sm_eval.specs.StoredValues.{meaning}
+use Rattle.sm_display.proofs.Imports.{◌≡◌, ◌≢◌, ◌++◌, inl, inr, ℕ, List, Option, Some, None, Result, Ok, Err, codes, take, refl, sym, ap, subst, ◌∙◌, meaning, Known, untold, ReplayError, Verdict, Parts, sort_of, task_of, Store, TaskError, one_refusal, GivesTask, Status, Explains, ExplainsInput, ExplainsNoTask, ExplainsReplay, ExplainsRun, ShowsNoTask, ends_text, misfit_of, offset_of, programs_text, start_heading, ShowsEnds, ShowsOffset, ShowsRun, ShowsTokens}
 use Rattle.sm_io.specs.Causes.{Rose}
-use Rattle.sm_io.specs.Files.{Known, untold}
 use Rattle.sm_replay.specs.Input.{IsInput}
-use Rattle.sm_replay.specs.declared.error.ReplayError.{ReplayError}
-use Rattle.sm_replay.specs.declared.verdict.Verdict.{Verdict}
 use Rattle.sm_replay.specs.declared.verdict.Verdict.TheVariants as verdict
 use Rattle.sm_replay.proofs.VerdictUnique.{verdict_one}
-use Rattle.sm_syntax.specs.text.Parts.{Parts, sort_of, task_of}
-use Rattle.sm_syntax.specs.claim.Stores.{Store}
-use Rattle.sm_task.specs.declared.error.TaskError.{TaskError}
-use Rattle.sm_task.proofs.RefusalUnique.{one_refusal}
 use Rattle.sm_explain.specs.Places.{place_text}
 use Rattle.sm_explain.proofs.PlacesSound.{place_one}
 use Rattle.sm_follow.proofs.Lines.{follow_line_one}
-use Rattle.sm_answers.specs.File.{GivesTask}
-use Rattle.sm_answers.specs.declared.status.Status.{Status}
 use Rattle.sm_answers.proofs.AnswerUnique.{Same, says_same, bytes_or_none, input_or_none, no_bytes_same, no_task_same, read_same, refused_input_same, store_same, task_or_none, task_same, verdict_same}
-use Rattle.sm_display.specs.Explain.{Explains, ExplainsInput, ExplainsNoTask, ExplainsReplay, ExplainsRun, ShowsNoTask}
-use Rattle.sm_display.specs.Shown.{ends_text, misfit_of, offset_of, programs_text, start_heading, ShowsEnds, ShowsOffset, ShowsRun, ShowsTokens}
 use Rattle.sm_display.proofs.Begins.{begins_refused}
 use Rattle.sm_display.proofs.CellsUnique.{start_one, table_one}
 

@@ -1,24 +1,12 @@
 -- What answers of `explain` are made of.
-use Rattle.std.proofs.Common.{◌≡◌, ◌++◌, inr, ℕ, List, Result, Ok, Err, IfOk, IfErr, subst}
-use Rattle.sm_io.specs.Files.{Known}
+use Rattle.sm_display.proofs.Imports.{◌≡◌, ◌++◌, inr, ℕ, List, Result, Ok, Err, IfOk, IfErr, subst, Known, ReplayError, Verdict, Store, Parts, AreStartLines, GivesTask, Status, verdict_status, AnswersReplay, without_task, ExplainsInput, ExplainsNoTask, ExplainsReplay, ExplainsRun, start_heading, ShowsRun}
 use Rattle.sm_io.specs.Reads.{Read}
-use Rattle.sm_replay.specs.declared.error.ReplayError.{ReplayError}
-use Rattle.sm_replay.specs.declared.verdict.Verdict.{Verdict}
 use Rattle.sm_replay.specs.declared.verdict.Verdict.TheVariants as verdict
-use Rattle.sm_syntax.specs.claim.Stores.{Store}
-use Rattle.sm_syntax.specs.text.Parts.{Parts}
-use Rattle.sm_explain.specs.Starts.{AreStartLines}
 use Rattle.sm_answers.specs.Exit.{ExitsWith}
 use Rattle.sm_answers.specs.declared.exit.Exit.{Exit}
-use Rattle.sm_answers.specs.File.{GivesTask}
-use Rattle.sm_answers.specs.declared.status.Status.{Status}
 use Rattle.sm_answers.specs.Readings.{ReplaysRead}
-use Rattle.sm_answers.specs.Replay.{verdict_status, AnswersReplay}
 use Rattle.sm_answers.specs.declared.status.Reply.{Reply}
 use Rattle.sm_answers.proofs.Answering.{result_by, stops_by}
-use Rattle.sm_answers.proofs.Statuses.{without_task}
-use Rattle.sm_display.specs.Explain.{ExplainsInput, ExplainsNoTask, ExplainsReplay, ExplainsRun}
-use Rattle.sm_display.specs.Shown.{start_heading, ShowsRun}
 use Rattle.sm_display.specs.Views.{ShowsBy}
 use Rattle.sm_display.proofs.Begins.{begins_refused}
 

@@ -1,3 +1,4 @@
+mod Imports
 pub mod PrintedLemmas
 pub mod Begins
 pub mod Refused

@@ -1,16 +1,11 @@
 -- Each name of a copy's program has a text, where some text spells the task.
-use Rattle.std.proofs.Common.{◌≡◌, ℕ, ◌==◌, true, false, if◌then◌else◌, List, [], ◌∷◌, length, refl}
-use Rattle.sm_syntax.specs.claim.ConflictFree.{Copy, copy_of, program_of}
+use Rattle.sm_display.proofs.Imports.{◌≡◌, ℕ, ◌==◌, true, false, if◌then◌else◌, List, [], ◌∷◌, length, refl, Copy, copy_of, program_of, Sort, copy_named, number_of, Parts, task_of, ProgramParts}
 use Rattle.sm_syntax.specs.claim.Fill.{Fillings, filling, fill}
 use Rattle.sm_syntax.specs.claim.Syntax.{Code, End, Skip, Assign, Write, If, While, Hole, append}
 use Rattle.sm_syntax.specs.declared.copies.CopyName.{CopyName}
 use Rattle.sm_syntax.specs.declared.copies.CopyName.TheVariants as copy
-use Rattle.sm_syntax.specs.declared.tree.Sort.{Sort}
-use Rattle.sm_syntax.specs.trees.Copies.{copy_named, number_of}
-use Rattle.sm_syntax.specs.text.Parts.{Parts, task_of}
 use Rattle.sm_syntax.specs.text.Uses.{EachUsed}
 use Rattle.sm_text.proofs.RoundTrip.Tasks.{spelled_named}
-use Rattle.sm_text.specs.Tasks.{ProgramParts}
 use Rattle.sm_text.specs.parsing.Fragments.{IsNamedProgram}
 use Rattle.sm_text.specs.printing.Canonical.{program_pieces}
 use Rattle.sm_text.specs.printing.Named.{AreFilledIn, HasNumberBelow, HasText, IsUsedIn}

@@ -1,5 +1,5 @@
 -- Bytes that are no task: the offset at which they are refused lies in the text, and the answer to them.
-use Rattle.std.proofs.Common.{◌≡◌, ◌≢◌, ◌≤◌, ◌+◌, ◌-◌, ◌++◌, inl, inr, ℕ, zero, suc, List, [], ◌∷◌, Option, Some, None, length, take, refl, sym, ap, subst, ◌∙◌, append_assoc, arith}
+use Rattle.sm_display.proofs.Imports.{◌≡◌, ◌≢◌, ◌≤◌, ◌+◌, ◌-◌, ◌++◌, inl, inr, ℕ, zero, suc, List, [], ◌∷◌, Option, Some, None, length, take, refl, sym, ap, subst, ◌∙◌, append_assoc, arith, TaskError, task_or_refusal, Refused, ShowsNoTask, misfit_of, offset_of, ShowsOffset, ShowsTokens}
 use Rattle.sm_syntax.specs.declared.symbol.Symbol.{Symbol}
 use Rattle.sm_syntax.specs.text.Conditions as refusal
 use Rattle.sm_syntax.specs.text.Conditions.{Refusal}
@@ -12,14 +12,9 @@ use Rattle.sm_text.specs.parsing.Places.{AreTasks, IsFault, IsFirstFault, Stands
 use Rattle.sm_text.specs.declared.error.TextError.{TextError}
 use Rattle.sm_text.specs.parsing.Places.Sources.{whole_text}
 use Rattle.sm_task.specs.Errors.{error_of, from_text, IsRefusedWith}
-use Rattle.sm_task.specs.declared.error.TaskError.{TaskError}
 use Rattle.sm_task.specs.declared.error.TaskError.TheVariants as no_task
-use Rattle.sm_task.proofs.RefusalUnique.{task_or_refusal}
 use Rattle.sm_follow.specs.Following.{EndsAtFault}
 use Rattle.sm_answers.specs.Lines.{refusal_line}
-use Rattle.sm_answers.specs.declared.status.Status.TheVariants.{Refused}
-use Rattle.sm_display.specs.Explain.{ShowsNoTask}
-use Rattle.sm_display.specs.Shown.{misfit_of, offset_of, ShowsOffset, ShowsTokens}
 use Rattle.sm_lemmas.proofs.Options.{same_number, none_some}
 
 -- ---- places lie in the text

@@ -1,2 +1,3 @@
+mod Imports
 pub mod ReadyPlans
 pub mod SortedBlocks

@@ -1,15 +1,10 @@
 -- A plan that keeps nothing is ready over each table: by how it ends, and by its turns.
-use Rattle.std.proofs.Common.{◌≡◌, ℕ, List, [], ◌∷◌, ◌++◌, map, sym, ◌∙◌, subst}
+use Rattle.sm_drawing.proofs.Imports.{◌≡◌, ℕ, List, [], ◌∷◌, ◌++◌, map, sym, ◌∙◌, subst, Sorts, Tree, NumberedPlan, Over, More, plans_before, IsKeepReady, IsPlanReady, ArePlansReady, simple_node, straight_before, last_layer, plan_layer, plans_layer, numbered_plan, numbered_last, Plan}
 use Rattle.std.specs.Prelude.{Box, Vec}
 use Rattle.std.specs.declared.alloc.Global.{Global}
-use Rattle.sm_syntax.specs.text.Sorts.{Sorts}
-use Rattle.sm_term.specs.Terms.{Tree}
 use Rattle.sm_term.specs.declared.formula.Formula.TheVariants as formula
 use Rattle.sm_expand.specs.declared.plan.Last.TheVariants as last
 use Rattle.sm_expand.specs.declared.plan.Simple.TheVariants as simple
-use Rattle.sm_expand.specs.NumberedPlans.{NumberedPlan, Over, More, plans_before, IsKeepReady, IsPlanReady, ArePlansReady}
-use Rattle.sm_expand.specs.Views.{simple_node, straight_before, last_layer, plan_layer, plans_layer, numbered_plan, numbered_last}
-use Rattle.sm_expand.specs.declared.plan.Plan.{Plan}
 use Rattle.sm_expand.specs.declared.plan.Simple.{Simple}
 use Rattle.sm_expand.specs.declared.plan.Plans.{Plans, roll-Plans, fold-Plans, fold-roll-Plans}
 use Rattle.sm_expand.proofs.PlanViews.{plan_is, plans_are, last_fork, last_loop, last_dead, last_end}

@@ -1,10 +1,5 @@
 -- A block is well sorted where each of its statements is.
-use Rattle.std.proofs.Common.{◌≡◌, ◌≤◌, ◌<◌, ◌+◌, ℕ, List, length, map, drop, get_or, sym, ap, subst, ◌∙◌}
-use Rattle.sm_syntax.specs.claim.Syntax.{End}
-use Rattle.sm_syntax.specs.text.Sorts.{Sorts, IsWellSorted}
-use Rattle.sm_syntax.specs.trees.Views.{sequence, statement_of, code_of}
-use Rattle.sm_syntax.specs.declared.tree.Stmt.{Stmt}
-use Rattle.sm_syntax.specs.declared.tree.Block.{Block}
+use Rattle.sm_drawing.proofs.Imports.{◌≡◌, ◌≤◌, ◌<◌, ◌+◌, ℕ, List, length, map, drop, get_or, sym, ap, subst, ◌∙◌, End, Sorts, IsWellSorted, sequence, statement_of, code_of, Stmt, Block}
 use Rattle.sm_syntax.proofs.Blocks.{block_is, statement_is, sequence-drop, sequence-drop-end}
 use Rattle.sm_plan.proofs.SortedCode.{append_well}
 

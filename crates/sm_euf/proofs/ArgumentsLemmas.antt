@@ -1,29 +1,15 @@
 -- Terms of a table have one head exactly where their trees have, and the arguments of a term's tree
 -- are the trees of its arguments.
-use Rattle.std.proofs.Common.{◌≡◌, ℕ, ◌==◌, ◌+◌, ◌<◌, ◌≤◌, zero, suc, Bool, true, false, ◌&&◌, List, [], ◌∷◌, length, drop, nat_eq, refl, sym, ap, ◌∙◌, arith, Option, Some, None, slice_get}
-use Rattle.std.specs.Option.{is_none}
+use Rattle.sm_euf.proofs.Imports.{◌≡◌, ℕ, ◌==◌, ◌+◌, ◌<◌, ◌≤◌, zero, suc, Bool, true, false, ◌&&◌, List, [], ◌∷◌, length, drop, nat_eq, refl, sym, ap, ◌∙◌, arith, Option, Some, None, slice_get, is_none, Name, Sorts, Tree, tree_at, code_at, tree_in, arguments_in, IsTermWithin, AreBefore, TermId, same_code, same_head, same_names, terms_given, arguments_of, same_code_is, BranchFact, equation_at, OptionStands, says_equal, say_equal, argument_numbers, have_one_head, trees_of}
 use Rattle.std.specs.Cmp.Lexicographic.{pointwise}
 use Rattle.std.proofs.lemmas.Bool.{and_parts}
 use Rattle.std.proofs.lemmas.Bool.Decides.{same_from_decides, Decides-eqb}
-use Rattle.sm_syntax.specs.declared.tree.Name.{Name}
 use Rattle.sm_syntax.specs.claim.Syntax.{Code}
-use Rattle.sm_syntax.specs.text.Sorts.{Sorts}
 use Rattle.sm_term.specs.declared.term.Term.TheVariants as row
-use Rattle.sm_term.specs.Terms.{Tree}
-use Rattle.sm_term.specs.Tables.{tree_at, code_at, tree_in, arguments_in, IsTermWithin, AreBefore}
-use Rattle.sm_term.specs.declared.term.TermId.{TermId}
 use Rattle.sm_term.specs.declared.term.Term.{Term}
 use Rattle.sm_term.specs.TableLaws.{AreCodesApart}
 use Rattle.sm_term.specs.Fitting.{arguments_fit, term_fits}
 use Rattle.sm_term.specs.Rows.{names_in_list}
-use Rattle.sm_term.specs.SameTerms.{same_code}
-use Rattle.sm_term.specs.Heads.{same_head, same_names, terms_given, arguments_of}
-use Rattle.sm_term.proofs.SameTermsLemmas.{same_code_is}
-use Rattle.sm_theory.specs.Facts.{BranchFact}
-use Rattle.sm_theory.specs.Lines.{equation_at}
-use Rattle.sm_theory.specs.Sides.{OptionStands}
-use Rattle.sm_theory.specs.Equality.{says_equal, say_equal}
-use Rattle.sm_euf.specs.Arguments.{argument_numbers, have_one_head, trees_of}
 use Rattle.sm_term.proofs.TreesLemmas.{before-later}
 
 -- numbers of bodies are equal exactly where the bodies are

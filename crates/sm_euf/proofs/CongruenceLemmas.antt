@@ -1,16 +1,7 @@
 -- The fact of two terms of one head stands for what the definition adds.
-use Rattle.std.proofs.Common.{◌≡◌, ℕ, ◌==◌, ◌<◌, Bool, true, false, ◌&&◌, List, [], ◌∷◌, length, Some, None, refl, sym, ◌∙◌}
-use Rattle.sm_syntax.specs.text.Sorts.{Sorts}
+use Rattle.sm_euf.proofs.Imports.{◌≡◌, ℕ, ◌==◌, ◌<◌, Bool, true, false, ◌&&◌, List, [], ◌∷◌, length, Some, None, refl, sym, ◌∙◌, Sorts, Tree, tree_at, TermId, same_head, arguments_of, BranchFact, Cong, equality_adds, is_inhabited_list, say_equal, StandsIf}
 use Rattle.sm_term.specs.declared.formula.Formula.TheVariants as tree
-use Rattle.sm_term.specs.Terms.{Tree}
-use Rattle.sm_term.specs.Tables.{tree_at}
-use Rattle.sm_term.specs.declared.term.TermId.{TermId}
-use Rattle.sm_term.specs.Heads.{same_head, arguments_of}
 use Rattle.sm_theory.specs.declared.fact.Fact.TheVariants as fact
-use Rattle.sm_theory.specs.Facts.{BranchFact}
-use Rattle.sm_theory.specs.Lines.{Cong}
-use Rattle.sm_theory.specs.Equality.{equality_adds, is_inhabited_list, say_equal}
-use Rattle.sm_theory.specs.Views.{StandsIf}
 
 -- a list that isn't empty has an element
 inhabited : (ns : List ℕ) (b : Bool) → b ≡ (length ns == 0) → b ≡ false → is_inhabited_list ns ≡ true

@@ -1,24 +1,13 @@
 -- Facts of the program stand for equations, and for contraries of these, that are turned round or put
 -- into one another. The sort of an equation is that of both its sides, where the facts are sorted.
-use Rattle.std.proofs.Common.{◌≡◌, ◌<◌, ℕ, Bool, true, List, length, Option, Some, None, refl, sym, ap, subst, ◌∙◌}
-use Rattle.sm_syntax.specs.text.Sorts.{Sorts}
+use Rattle.sm_euf.proofs.Imports.{◌≡◌, ◌<◌, ℕ, Bool, true, List, length, Option, Some, None, refl, sym, ap, subst, ◌∙◌, Sorts, Tree, tree_at, TermId, same_tree, same_tree_is, BranchFact, Formal, followed, Sides, equation_at, contrary_at, Sym, Subst, equality_adds, or_other, turned_equation, turned_contrary, substituted, formula_if, FactStands, StandsIf, OptionStands, SidesStand}
 use Rattle.sm_syntax.specs.declared.tree.Sort.{Sort}
 use Rattle.sm_term.specs.declared.formula.Formula.TheVariants as tree
-use Rattle.sm_term.specs.Terms.{Tree}
-use Rattle.sm_term.specs.Tables.{tree_at}
-use Rattle.sm_term.specs.declared.term.TermId.{TermId}
 use Rattle.sm_term.specs.Assertions.{Eq, Ne}
-use Rattle.sm_term.specs.SameTerms.{same_tree}
 use Rattle.sm_term.specs.Sorted.{tree_sort}
-use Rattle.sm_term.proofs.SameTermsLemmas.{same_tree_is}
 use Rattle.sm_theory.specs.declared.fact.Fact.TheVariants as fact
-use Rattle.sm_theory.specs.Facts.{BranchFact, Formal}
-use Rattle.sm_theory.specs.Lines.{followed, Sides, equation_at, contrary_at, Sym, Subst}
-use Rattle.sm_theory.specs.Equality.{equality_adds, or_other, turned_equation, turned_contrary, substituted, formula_if}
 use Rattle.sm_theory.specs.SortedFacts.{AreFactsSorted}
-use Rattle.sm_theory.specs.Views.{FactStands, StandsIf}
 use Rattle.sm_theory.specs.declared.fact.Fact.{Fact}
-use Rattle.sm_theory.specs.Sides.{OptionStands, SidesStand}
 use Rattle.sm_theory.proofs.FactsLemmas.{fact_is_sorted, equation_stands, contrary_stands, equation, contrary}
 
 -- the right side of an equation has its sort

@@ -1,3 +1,4 @@
+mod Imports
 pub mod EquationsLemmas
 pub mod ArgumentsLemmas
 pub mod CongruenceLemmas

@@ -1,11 +1,8 @@
 -- The sorts of names, some of which have stored values, where the others are declared after them.
-use Rattle.std.proofs.Common.{◌≡◌, ℕ, Option, List}
+use Rattle.sm_eval.proofs.Imports.{◌≡◌, ℕ, Option, List, Sort, sort_of, stored_value_of, sorts, StoredValue}
 use Rattle.std.specs.Option.{option_or}
 use Rattle.sm_syntax.specs.declared.tree.Name.{Name}
-use Rattle.sm_syntax.specs.declared.tree.Sort.{Sort}
-use Rattle.sm_syntax.specs.text.Parts.{sort_of}
 use Rattle.sm_syntax.proofs.Repeats.{sorted_numbers}
-use Rattle.sm_eval.specs.StoredValues.{stored_value_of, sorts, StoredValue}
 
 -- stored values that agree at each name
 abbrev pub Agree : List StoredValue → List StoredValue → Type 0

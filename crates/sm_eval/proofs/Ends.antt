@@ -1,9 +1,6 @@
 -- Code without an event has an end.
-use Rattle.std.proofs.Common.{◌≡◌, ℕ, zero, suc, Bool, true, false, if◌then◌else◌, Option, Some, None, refl}
-use Rattle.sm_syntax.specs.claim.Meaning.{value_of, truth_of, and_then, turns, written, run}
-use Rattle.sm_syntax.specs.claim.Stores.{Store, put}
-use Rattle.sm_syntax.specs.claim.Syntax.{Condition, Code, End, Skip, Assign, Write, If, While, Hole}
-use Rattle.sm_eval.specs.Events.{expression_event, condition_event, before, after, turns_event, event, EvalError, OutOfTurns}
+use Rattle.sm_eval.proofs.Imports.{◌≡◌, ℕ, zero, suc, Bool, true, false, if◌then◌else◌, Option, Some, None, refl, value_of, truth_of, and_then, turns, written, run, put, Condition, Code, End, Skip, Assign, Write, If, While, Hole, expression_event, condition_event, before, after, turns_event, event, EvalError, OutOfTurns}
+use Rattle.sm_syntax.specs.claim.Stores.{Store}
 
 -- there is an end
 abbrev pub HasEnd : Option Store → Type 0

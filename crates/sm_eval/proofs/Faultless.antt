@@ -1,12 +1,7 @@
 -- Names without a fault stand as they are declared.
-use Rattle.std.proofs.Common.{◌≡◌, ℕ, Some, None, List, [], ◌∷◌, ◌++◌, length, sym, ◌∙◌}
+use Rattle.sm_eval.proofs.Imports.{◌≡◌, ℕ, Some, None, List, [], ◌∷◌, ◌++◌, length, sym, ◌∙◌, sort_of, Sorts, IsWellSortedExpression, IsWellSortedCondition, IsWellSorted, Sort, Num, Arr, Expression, Lit, Var, Read, Neg, Plus, Minus, Times, Condition, Yes, No, Compare, Not, And, Or, Code, End, Skip, Assign, Write, If, While, Hole}
 use Rattle.sm_syntax.specs.text.Conditions.{TooMany, first_of_all, first_sort_fault, double_name, first_output_fault, over, size_fault, program_fault, ill_assumed, code_nodes, code_depth, condition_nodes, condition_depth}
 use Rattle.sm_syntax.specs.text.Uses.{names_in, names_tested, names_used}
-use Rattle.sm_syntax.specs.text.Parts.{sort_of}
-use Rattle.sm_syntax.specs.text.Sorts.{Sorts, IsWellSortedExpression, IsWellSortedCondition, IsWellSorted}
-use Rattle.sm_syntax.specs.declared.tree.Sort.{Sort}
-use Rattle.sm_syntax.specs.declared.tree.Sort.TheVariants.{Num, Arr}
-use Rattle.sm_syntax.specs.claim.Syntax.{Expression, Lit, Var, Read, Neg, Plus, Minus, Times, Condition, Yes, No, Compare, Not, And, Or, Code, End, Skip, Assign, Write, If, While, Hole}
 use Rattle.sm_syntax.proofs.Uses.{first_sort_fault-one, first_sort_fault-append}
 use Rattle.sm_syntax.proofs.Refusals.{neither_refuses, declared_sort}
 

@@ -1,11 +1,6 @@
 -- What comparisons of whole numbers tell.
-use Rattle.std.proofs.Common.{◌≡◌, ◌≤◌, ℤ, pos, Bool, true, false, Ordering, Less, Equal, Greater, to_z, of_z, refl, sym, ap, ◌∙◌, arith}
-use Rattle.std.specs.Prelude.{◌<ℤ◌}
-use Rattle.std.specs.Ordering.{MatchOrdering, int_cmp, int_eq, ordering_index}
+use Rattle.sm_eval.proofs.Imports.{◌≡◌, ◌≤◌, ℤ, pos, Bool, true, false, Ordering, Less, Equal, Greater, to_z, of_z, refl, sym, ap, ◌∙◌, arith, ◌<ℤ◌, MatchOrdering, int_cmp, int_eq, ordering_index, Decides-int_eq, ints, to_z-of_z, w128}
 use Rattle.std.specs.Cmp.{int_ranks}
-use Rattle.std.proofs.lemmas.Bool.Decides.{Decides-int_eq}
-use Rattle.std.proofs.lemmas.Int.{ints, to_z-of_z}
-use Rattle.std.specs.Int.{w128}
 use mir.Val.{SFits}
 
 -- equal numbers

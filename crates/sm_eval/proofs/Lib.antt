@@ -1,3 +1,4 @@
+mod Imports
 pub mod Integers
 pub mod Listed
 pub mod Ordered

@@ -1,10 +1,5 @@
 -- The number at an index, in a list of cells and in one that was edited.
-use Rattle.std.proofs.Common.{◌≡◌, ◌<◌, ◌≢◌, ℕ, zero, suc, ℤ, pos, Bool, true, false, if◌then◌else◌, List, [], ◌∷◌, length, set, refl, sym, ap, ◌∙◌, arith}
-use Rattle.std.specs.List.{insert, remove}
-use Rattle.std.specs.Ordering.{int_eq}
-use Rattle.std.proofs.lemmas.Bool.Decides.{Decides-int_eq}
-use Rattle.sm_eval.specs.Cells.{listed, index_at, cell_number_at}
-use Rattle.sm_eval.specs.CellPlaces.{IsAt}
+use Rattle.sm_eval.proofs.Imports.{◌≡◌, ◌<◌, ◌≢◌, ℕ, zero, suc, ℤ, pos, Bool, true, false, if◌then◌else◌, List, [], ◌∷◌, length, set, refl, sym, ap, ◌∙◌, arith, insert, remove, int_eq, Decides-int_eq, listed, index_at, cell_number_at, IsAt}
 use Rattle.sm_eval.proofs.Integers.{int_same, int_differs}
 
 -- no cell before a place has the index

@@ -1,13 +1,8 @@
 -- Well-sorted expressions have numbers.
-use Rattle.std.proofs.Common.{◌≡◌, Some, refl}
-use Rattle.sm_syntax.specs.claim.Meaning.{value_of}
-use Rattle.sm_syntax.specs.text.Sorts.{IsWellSortedExpression}
-use Rattle.sm_syntax.specs.declared.tree.Sort.TheVariants.{Num}
+use Rattle.sm_eval.proofs.Imports.{◌≡◌, Some, refl, value_of, IsWellSortedExpression, Num, number, Expression, Lit, Var, Read, Neg, Plus, Minus, Times, held, sort, stored_value_of, StoredValue, Absent, Array}
 use Rattle.sm_syntax.specs.claim.Stores as plain
-use Rattle.sm_syntax.specs.claim.Stores.{number}
-use Rattle.sm_syntax.specs.claim.Syntax.{Expression, Lit, Var, Read, Neg, Plus, Minus, Times}
 use Rattle.sm_eval.specs.declared.store.Store.{Store}
-use Rattle.sm_eval.specs.StoredValues.{held, sort, stored_value_of, meaning, sorts_of, StoredValue, Absent, Number, Array}
+use Rattle.sm_eval.specs.StoredValues.{meaning, sorts_of, Number}
 
 -- what is stored for a number variable is a number
 held_number : (value : StoredValue) → sort value ≡ Some Num → held value ≡ plain.Number (number (held value))

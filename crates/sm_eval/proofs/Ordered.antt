@@ -1,19 +1,8 @@
 -- What a search finds among the cells of an array, and what an edit at that place makes of them.
-use Rattle.std.proofs.Common.{◌≡◌, ◌≢◌, ◌<◌, ◌≤◌, ◌+◌, ◌-◌, ℕ, ℤ, pos, true, ◌⊎◌, inl, inr, List, length, get_or, set, Result, Ok, Err, IfOk, IfErr, sym, ap, subst, ◌∙◌, arith}
-use Rattle.std.specs.Prelude.{◌<ℤ◌}
-use Rattle.std.specs.List.{insert, remove}
+use Rattle.sm_eval.proofs.Imports.{◌≡◌, ◌≢◌, ◌<◌, ◌≤◌, ◌+◌, ◌-◌, ℕ, ℤ, pos, true, ◌⊎◌, inl, inr, List, length, get_or, set, Result, Ok, Err, IfOk, IfErr, sym, ap, subst, ◌∙◌, arith, ◌<ℤ◌, insert, remove, int_cmp, int_eq, ordering_index, fun_ext, cases_eq, cases_lt, Decides-int_eq, length-set, get_or-set_same, get_or-set_other, IsNonDecreasingBy-from_default, with_element, listed, index_at, cell_number_at, IsAscending, AreCells, IsAt, IsGapFor}
 use Rattle.std.specs.List.Sorted.{IsSearchInRange, IsBinarySearchResult, IsNonDecreasingBy}
-use Rattle.std.specs.Ordering.{int_cmp, int_eq, ordering_index}
-use Rattle.std.proofs.Math.Path.{fun_ext}
-use Rattle.std.proofs.lemmas.Bool.{cases_eq, cases_lt}
-use Rattle.std.proofs.lemmas.Bool.Decides.{Decides-int_eq}
 use Rattle.std.proofs.lemmas.Cmp.{int_ranked}
-use Rattle.std.proofs.lemmas.List.{length-set, get_or-set_same, get_or-set_other}
-use Rattle.std.proofs.lemmas.List.Sorted.{IsNonDecreasingBy-from_default}
 use Rattle.std.proofs.lemmas.List.Edits.{length-insert, get_or-insert_below, get_or-insert_at, get_or-insert_above, length-remove, get_or-remove_below, get_or-remove_above}
-use Rattle.sm_syntax.specs.claim.Stores.{with_element}
-use Rattle.sm_eval.specs.Cells.{listed, index_at, cell_number_at, IsAscending, AreCells}
-use Rattle.sm_eval.specs.CellPlaces.{IsAt, IsGapFor}
 use Rattle.sm_eval.proofs.Integers.{not_below_itself, ranks_rise}
 use Rattle.sm_eval.proofs.Listed.{NoneBefore, NoneAfter, listed_absent, listed_present, listed-set, listed-insert, zero_there, listed-remove}
 use Rattle.sm_lemmas.proofs.Numbers.{order}

@@ -1,8 +1,6 @@
 -- A list that stands after some room, after an edit of what holds both.
-use Rattle.std.proofs.Common.{◌≡◌, ◌<◌, ◌≤◌, ◌+◌, ◌++◌, ◌∷◌, ℕ, suc, List, length, get_or, set, take, drop, sym, ap, ◌∙◌, arith}
-use Rattle.std.specs.List.{insert, remove}
+use Rattle.sm_eval.proofs.Imports.{◌≡◌, ◌<◌, ◌≤◌, ◌+◌, ◌++◌, ◌∷◌, ℕ, suc, List, length, get_or, set, take, drop, sym, ap, ◌∙◌, arith, insert, remove, length-take, length-drop, drop-drop, drop-set-add, drop_at, set_at, append_assoc}
 use Rattle.std.proofs.Math.Seq.{paste, take-add, drop-cons}
-use Rattle.std.proofs.lemmas.List.{length-take, length-drop, drop-drop, drop-set-add, drop_at, set_at, append_assoc}
 
 module _ {X : Type 0} (l : List X) (front at : ℕ) where
   -- the room goes, where more than the room stays before something else

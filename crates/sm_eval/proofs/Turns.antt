@@ -1,9 +1,6 @@
 -- Events and ends of code in its parts.
-use Rattle.std.proofs.Common.{◌≡◌, ◌-◌, ℕ, zero, suc, Bool, true, Option, Some, None, Ok, refl, ap, arith}
-use Rattle.sm_syntax.specs.claim.Meaning.{truth_of, turns}
+use Rattle.sm_eval.proofs.Imports.{◌≡◌, ◌-◌, ℕ, zero, suc, Bool, true, Option, Some, None, Ok, refl, ap, arith, truth_of, turns, Condition, condition_event, turns_event, answer, EvalError}
 use Rattle.sm_syntax.specs.claim.Stores.{Store}
-use Rattle.sm_syntax.specs.claim.Syntax.{Condition}
-use Rattle.sm_eval.specs.Events.{condition_event, turns_event, answer, EvalError}
 
 -- an answer that is Ok has no event
 pub answered : {T : Type 0} (o : Option EvalError) (v w : T) → Ok v ≡ answer o w → (o ≡ None) × (v ≡ w)

@@ -1,12 +1,6 @@
 -- The store that stored values stand for, where one of them has changed.
-use Rattle.std.proofs.Common.{◌≡◌, ◌<◌, ◌⊎◌, inl, inr, ℕ, zero, suc, Some, List, [], ◌∷◌, length, set, sym, ap, ◌∙◌, arith}
-use Rattle.std.proofs.Math.Path.{fun_ext}
-use Rattle.std.proofs.lemmas.Bool.{cases_eq}
-use Rattle.std.proofs.lemmas.List.{get_or-set_same, get_or-set_other}
-use Rattle.sm_syntax.specs.declared.tree.Sort.{Sort}
-use Rattle.sm_syntax.specs.claim.Stores.{put}
+use Rattle.sm_eval.proofs.Imports.{◌≡◌, ◌<◌, ◌⊎◌, inl, inr, ℕ, zero, suc, Some, List, [], ◌∷◌, length, set, sym, ap, ◌∙◌, arith, fun_ext, cases_eq, get_or-set_same, get_or-set_other, Sort, put, held, sort, values, sorts, StoredValue, Absent}
 use Rattle.sm_syntax.proofs.Puts.{put_is}
-use Rattle.sm_eval.specs.StoredValues.{held, sort, values, sorts, StoredValue, Absent}
 
 -- a name that has a sort has a stored value
 pub declared_within : (stored : List StoredValue) (x : ℕ) (k : Sort) → sorts stored x ≡ Some k → x < length stored

@@ -1,24 +1,11 @@
 -- What an answer that tells the decision says of whole numbers, and of a branch.
-use Rattle.std.proofs.Common.{◌≡◌, ◌<◌, ◌≤◌, ◌==◌, ◌⊎◌, ◌↔◌, inl, inr, ℕ, ℤ, pos, ◌+ℤ◌, ◌*ℤ◌, Bool, true, false, if◌then◌else◌, nat_lt, nat_le, ◌&&◌, Option, Some, None, List, [], ◌∷◌, map, refl, sym, ap, subst, ◌∙◌, arith, IsTrue}
-use Rattle.std.proofs.lemmas.Bool.{eqb-true, eq-eqb, eqb-false, ltb-true, ltb-false, le-leb}
-use Rattle.std.proofs.lemmas.Bool.Decides.{Decides-eqb}
-use Rattle.sm_num.specs.Forms.{Linear, HoldsAt, Satisfies, sum_of_parts}
-use Rattle.sm_omega.specs.Counting.{Done}
-use Rattle.sm_omega.specs.Solving.{Values}
-use Rattle.sm_omega.specs.Rules.{Answer}
+use Rattle.sm_exact.proofs.Imports.{◌≡◌, ◌<◌, ◌≤◌, ◌==◌, ◌⊎◌, ◌↔◌, inl, inr, ℕ, ℤ, pos, ◌+ℤ◌, ◌*ℤ◌, Bool, true, false, if◌then◌else◌, nat_lt, nat_le, ◌&&◌, Option, Some, None, List, [], ◌∷◌, map, refl, sym, ap, subst, ◌∙◌, arith, IsTrue, eq-eqb, eqb-false, ltb-false, le-leb, Decides-eqb, Linear, HoldsAt, Satisfies, sum_of_parts, Done, Values, Answer, AllHold, AllKept, IsRightFor, No, BranchFact, Formal, followed, formula_if, forms_of_branch, exact_adds, has_no_solution, ExactAnswer, with_atom, with_parts, with_forms, atoms_of, TellsExact}
+use Rattle.std.proofs.lemmas.Bool.{eqb-true, ltb-true}
 use Rattle.sm_omega.specs.Exact.{exact}
-use Rattle.sm_omega.specs.ExactLaws.{AllHold, AllKept, IsRightFor}
 use Rattle.sm_omega.proofs.ExactRight.{exact_right}
 use Rattle.sm_omega.proofs.LimitLemmas.{limit_does_not_matter}
-use Rattle.sm_term.specs.Assertions.{No}
-use Rattle.sm_theory.specs.Facts.{BranchFact, Formal}
-use Rattle.sm_theory.specs.Lines.{followed}
-use Rattle.sm_theory.specs.Equality.{formula_if}
-use Rattle.sm_theory.specs.ExactLine.{forms_of_branch, exact_adds, has_no_solution}
-use Rattle.sm_exact.specs.declared.answer.ExactAnswer.{ExactAnswer}
 use Rattle.sm_exact.specs.declared.answer.ExactAnswer.TheVariants as answer
 use Rattle.sm_exact.specs.Answers.{IsIn, AreAbove, AreAscending, IsVariableOf, value_by, IsRight, HasVariables, ClosesBranches}
-use Rattle.sm_exact.specs.Telling.{with_atom, with_parts, with_forms, atoms_of, TellsExact}
 
 -- the variables of parts
 abbrev variables : List (ℕ × ℤ) → List ℕ

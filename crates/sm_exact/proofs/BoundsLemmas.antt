@@ -1,38 +1,13 @@
 -- The least variable of a list, the greatest coefficient among upper bounds, bounds without splinters, and the steps of the rules
 -- of bounds.
-use Rattle.std.proofs.Common.{◌≡◌, ◌+◌, ◌<◌, ◌≤◌, ◌/◌, ◌^◌, ◌==◌, ℕ, zero, suc, ℤ, pos, negsuc, neg_ℤ, nat_abs, ◌-ℤ◌, ◌≤ℤ◌, ◌<ℤ◌, int_lt, Bool, true, false, not, ◌&&◌, if◌then◌else◌, IsTrue, Option, None, List, [], ◌∷◌, ◌++◌, map, length}
-use Rattle.std.proofs.Common.{get_or, take, drop, refl, sym, ap, subst, ◌∙◌, arith, lt-ltb, ltb-true, eqb-true, Vec, Global, drop-cons, drop_of_length-le, add-one}
-use Rattle.std.specs.List.{All}
-use Rattle.std.specs.Ordering.{int_eq}
-use Rattle.std.proofs.lemmas.Int.{ints, by_lt_z, to_z-of_z}
-use Rattle.std.proofs.lemmas.Bool.{eqb-false}
-use Rattle.std.proofs.lemmas.Bool.Decides.{Decides-int_eq}
-use Rattle.std.proofs.lemmas.List.Elements.{All-head, All-tail, All-more, All-filter, filter_passes}
-use Rattle.std.specs.Int.{w128}
+use Rattle.sm_exact.proofs.Imports.{◌≡◌, ◌+◌, ◌<◌, ◌≤◌, ◌/◌, ◌^◌, ◌==◌, ℕ, zero, suc, ℤ, pos, negsuc, neg_ℤ, nat_abs, ◌-ℤ◌, ◌≤ℤ◌, ◌<ℤ◌, int_lt, Bool, true, false, not, ◌&&◌, if◌then◌else◌, IsTrue, Option, None, List, [], ◌∷◌, ◌++◌, map, length, get_or, take, drop, refl, sym, ap, subst, ◌∙◌, arith, lt-ltb, Vec, Global, add-one, All, int_eq, ints, by_lt_z, to_z-of_z, eqb-false, Decides-int_eq, All-head, All-tail, All-more, All-filter, filter_passes, w128, fits_form, Linear, Fits, then_with, computed, Op, Sub, Mul, is_negative, floor_of, Done, go_on, with_result, entered, at, bounds_below, bounds_above, others, lower_bounds, upper_bounds, lesser_first, least_variable, greatest_of, Answer, or_refuted, solved, giving, or_else, greatest_bound, least_bound, greatest_at, numbers_to, splinters_at, by_splinters, by_all_splinters, by_bounds, by_variable, standing, shadows, solved_within, Entry, Below, Above, shown, before, HasNoSplinter, side_bound, told, answer_of, Bounds, Dark, computed_inside, neg_fits}
+use Rattle.std.proofs.Common.{ltb-true, eqb-true, drop-cons, drop_of_length-le}
 use mir.Val.{SFits, to_z, of_z}
-use Rattle.sm_num.specs.Range.{fits_form}
-use Rattle.sm_num.specs.Forms.{Linear}
-use Rattle.sm_num.specs.Combining.{Fits, then_with, computed}
-use Rattle.sm_num.specs.declared.op.Op.{Op}
-use Rattle.sm_num.specs.declared.op.Op.TheVariants.{Sub, Mul}
-use Rattle.sm_num.specs.Eliminating.{is_negative, floor_of}
 use Rattle.sm_num.proofs.RingLemmas.{sums, one_mul, mul_one}
-use Rattle.sm_omega.specs.Counting.{Done, go_on, with_result, entered}
-use Rattle.sm_omega.specs.Solving.{at, bounds_below, bounds_above, others, lower_bounds, upper_bounds, lesser_first, least_variable, greatest_of}
-use Rattle.sm_omega.specs.Rules.{Answer, or_refuted, solved, giving, or_else}
-use Rattle.sm_omega.specs.Inequalities.{greatest_bound, least_bound, greatest_at, numbers_to, splinters_at, by_splinters, by_all_splinters, by_bounds, by_variable, standing, shadows}
-use Rattle.sm_omega.specs.Exact.{solved_within}
-use Rattle.sm_exact.specs.declared.entry.Entry.{Entry}
-use Rattle.sm_exact.specs.declared.frame.Side.TheVariants.{Below, Above}
-use Rattle.sm_exact.specs.Entries.{shown, before}
-use Rattle.sm_exact.specs.Rows.{HasNoSplinter}
-use Rattle.sm_exact.specs.Stack.{side_bound, told, answer_of, Bounds, Dark}
 use Rattle.sm_exact.proofs.EntryLemmas.{standing_before}
 use Rattle.sm_exact.proofs.SplittingLemmas.{filter_twice}
 use Rattle.sm_omega.proofs.OmegaNumbers.{other_above}
-use Rattle.sm_num.proofs.AlikeLemmas.{computed_inside}
 use Rattle.sm_exact.proofs.StepLemmas.{no_more}
-use Rattle.sm_num.proofs.ResultsReduced.{neg_fits}
 use Rattle.sm_exact.proofs.ModularLemmas.{fits_bits}
 
 -- the least variable

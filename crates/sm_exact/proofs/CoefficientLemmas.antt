@@ -1,9 +1,6 @@
 -- The coefficient of an atom among ascending parts.
-use Rattle.std.proofs.Common.{◌<◌, ℕ, ℤ, pos, List, [], length, get_or, drop, subst, IsTrue}
+use Rattle.sm_exact.proofs.Imports.{◌<◌, ℕ, ℤ, pos, List, [], length, get_or, drop, subst, IsTrue, fits_form, coefficient, AreParts, dropped}
 use Rattle.std.proofs.Math.Seq.{drop-cons}
-use Rattle.sm_num.specs.Range.{fits_form}
-use Rattle.sm_num.specs.Forms.{coefficient, AreParts}
-use Rattle.sm_num.proofs.KeptForms.{dropped}
 
 -- the coefficient of the part at a place is in the range
 pub part_fits : (i : ℕ) (ps : List (ℕ × ℤ)) → AreParts 0 ps → i < length ps → IsTrue (fits_form (get_or ps i (0, pos 0)).1)

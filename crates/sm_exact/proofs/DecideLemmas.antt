@@ -1,18 +1,9 @@
 -- The decision as a whole: how it begins, and how it ends.
-use Rattle.std.proofs.Common.{◌≡◌, ◌++◌, ℕ, Option, Some, None, List, [], ◌∷◌, map, refl, sym, ap, subst, ◌∙◌, Result, Ok, Err}
+use Rattle.sm_exact.proofs.Imports.{◌≡◌, ◌++◌, ℕ, Option, Some, None, List, [], ◌∷◌, map, refl, sym, ap, subst, ◌∙◌, Ok, Err, Linear, Decision, Done, Passed, Outside, Shallow, Enter, Entered, entered, go_on, Answer, or_refuted, enough, above_all, solved_within, ExactAnswer, Turned, Entry, shown, answer_of, all_zero, Awaits, Stands, Frame, TellsExact, Turns}
+use Rattle.std.proofs.Common.{Result}
 use Rattle.std.specs.Result.{IfOk}
-use Rattle.sm_num.specs.Forms.{Linear}
-use Rattle.sm_omega.specs.Counting.{Decision, Done, Passed, Outside, Shallow, Enter, Entered, entered, go_on}
-use Rattle.sm_omega.specs.Rules.{Answer, or_refuted}
-use Rattle.sm_omega.specs.Exact.{exact, enough, above_all, solved_within}
-use Rattle.sm_exact.specs.declared.answer.ExactAnswer.{ExactAnswer}
-use Rattle.sm_exact.specs.declared.deciding.Turned.{Turned}
+use Rattle.sm_omega.specs.Exact.{exact}
 use Rattle.sm_exact.specs.declared.deciding.Turned.TheVariants as turned
-use Rattle.sm_exact.specs.declared.entry.Entry.{Entry}
-use Rattle.sm_exact.specs.Entries.{shown}
-use Rattle.sm_exact.specs.Stack.{answer_of, all_zero, Awaits, Stands, Frame}
-use Rattle.sm_exact.specs.Telling.{TellsExact}
-use Rattle.sm_exact.specs.Valued.{Turns}
 use Rattle.sm_exact.proofs.StackLemmas.{awaits_along}
 
 -- nothing waits for the given forms

@@ -1,24 +1,12 @@
 -- Lists on their way: a form that enters stands behind those before it.
-use Rattle.std.proofs.Common.{◌≡◌, ◌+◌, ◌<◌, ◌≤◌, ◌==◌, nat_lt, ℕ, suc, ℤ, Bool, true, false, if◌then◌else◌, Some, None, List, [], ◌∷◌, ◌++◌, map, length, get_or, drop, refl, sym, ap, subst, ◌∙◌, arith, Result, Ok, Err, Vec, Global}
-use Rattle.std.proofs.Common.{add-one}
-use Rattle.std.proofs.lemmas.Bool.Decides.{Decides-ltb}
+use Rattle.sm_exact.proofs.Imports.{◌≡◌, ◌+◌, ◌<◌, ◌≤◌, ◌==◌, nat_lt, ℕ, suc, ℤ, Bool, true, false, if◌then◌else◌, Some, None, List, [], ◌∷◌, ◌++◌, map, length, get_or, drop, refl, sym, ap, subst, ◌∙◌, arith, Ok, Err, Vec, Global, add-one, Decides-ltb, Explains, Returns, NumError, Linear, Outcome, Fits, Op, tightened, is_contradictory, has_no_part, Done, Passed, Outside, Item, Stay, Enter, Count, Entered, led, entering, entered, with_result, standing, Entry, shown, before, going, TellsError, false_from_ne_true}
+use Rattle.std.proofs.Common.{Result}
 use Rattle.std.specs.Result.{IfOk}
 use Rattle.std.proofs.Math.Dec.{eqb-suc-zero}
 use Rattle.std.proofs.Math.Seq.{drop-cons}
 use Rattle.std.proofs.Math.ListN.{drop_of_length-le}
 use Rattle.sm_num.specs.declared.error.NumError.TheVariants as error
-use Rattle.sm_num.specs.Errors.{Explains, Returns}
-use Rattle.sm_num.specs.declared.error.NumError.{NumError}
-use Rattle.sm_num.specs.Forms.{Linear}
-use Rattle.sm_num.specs.Combining.{Outcome, Fits}
-use Rattle.sm_num.specs.declared.op.Op.{Op}
-use Rattle.sm_num.specs.Tightening.{tightened, is_contradictory, has_no_part}
-use Rattle.sm_omega.specs.Counting.{Done, Passed, Outside, Item, Stay, Enter, Count, Entered, led, entering, entered, with_result}
-use Rattle.sm_omega.specs.Inequalities.{standing}
-use Rattle.sm_exact.specs.declared.entry.Entry.{Entry}
 use Rattle.sm_exact.specs.declared.entry.Entry.TheVariants as entry
-use Rattle.sm_exact.specs.Entries.{shown, before, going, TellsError}
-use Rattle.std.proofs.lemmas.Bool.{false_from_ne_true}
 
 -- a form more behind others
 pub before_more : (fs : List (Linear ℕ)) (f : Linear ℕ) (rest : Entered) → before (fs ++ f ∷ []) rest ≡ before fs (led f rest)

@@ -1,15 +1,8 @@
 -- Values that frames give: a variable more, and what all frames await.
-use Rattle.std.proofs.Common.{◌≡◌, ◌==◌, ℕ, ℤ, pos, Bool, true, false, if◌then◌else◌, nat_eq, unwrap_or, Option, Some, List, [], ◌∷◌, ◌++◌, refl, sym, ap, subst, ◌∙◌}
+use Rattle.sm_exact.proofs.Imports.{◌≡◌, ◌==◌, ℕ, ℤ, pos, Bool, true, false, if◌then◌else◌, nat_eq, unwrap_or, Option, Some, List, [], ◌∷◌, ◌++◌, refl, sym, ap, subst, ◌∙◌, eq-eqb, NumError, Outcome, Fits, Done, with_result, Values, put, Answer, giving, Awaits, Frame, values_in, Leads, Fails, FailsAll}
 use Rattle.std.proofs.Math.Path.{fun_ext}
-use Rattle.std.proofs.lemmas.Bool.{eq-eqb, eqb-true}
-use Rattle.sm_num.specs.declared.error.NumError.{NumError}
+use Rattle.std.proofs.lemmas.Bool.{eqb-true}
 use Rattle.sm_num.specs.declared.error.NumError.TheVariants as error
-use Rattle.sm_num.specs.Combining.{Outcome, Fits}
-use Rattle.sm_omega.specs.Counting.{Done, with_result}
-use Rattle.sm_omega.specs.Solving.{Values, put}
-use Rattle.sm_omega.specs.Rules.{Answer, giving}
-use Rattle.sm_exact.specs.Stack.{Awaits, Frame}
-use Rattle.sm_exact.specs.Valued.{values_in, Leads, Fails, FailsAll}
 use Rattle.sm_exact.proofs.StackLemmas.{awaits_less, awaits_outside}
 
 -- the order in which numbers are compared

@@ -1,3 +1,4 @@
+mod Imports
 mod CoefficientLemmas
 mod EntryLemmas
 mod RowLemmas

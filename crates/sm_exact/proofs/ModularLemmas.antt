@@ -1,22 +1,9 @@
 -- The equation of the modular step, part by part.
-use Rattle.std.proofs.Common.{◌≡◌, ◌+◌, ◌<◌, ◌≤◌, ◌==◌, ◌^◌, ℕ, zero, suc, ℤ, pos, negsuc, neg_ℤ, ◌+ℤ◌, ◌*ℤ◌, nat_lt, Bool, true, false, if◌then◌else◌, IsTrue, Result, Ok, Err, IfOk, List, [], ◌∷◌, ◌++◌, length, get_or, take, drop, refl}
-use Rattle.std.proofs.Common.{sym, ap, subst, ◌∙◌, arith, add-one, to_z, of_z}
+use Rattle.sm_exact.proofs.Imports.{◌≡◌, ◌+◌, ◌<◌, ◌≤◌, ◌==◌, ◌^◌, ℕ, zero, suc, ℤ, pos, negsuc, neg_ℤ, ◌+ℤ◌, ◌*ℤ◌, nat_lt, Bool, true, false, if◌then◌else◌, IsTrue, Ok, Err, List, [], ◌∷◌, ◌++◌, length, get_or, take, drop, refl, sym, ap, subst, ◌∙◌, arith, add-one, to_z, of_z, take_more, append_assoc, append-nil, ints, to_z-of_z, Decides-int_eq, w128, int_eq, fits_form, Linear, AreParts, IsKept, Eq, Outcome, Fits, Leaves, then_with, computed, combined_number, with_part, led_by, merged, merged_part, formed, combined, Add, Mul, Returns, NumError, modular_parts, quotient}
+use Rattle.std.proofs.Common.{Result, IfOk}
 use Rattle.std.proofs.Math.Seq.{drop-cons}
-use Rattle.std.proofs.lemmas.List.{take_more, append_assoc, append-nil}
-use Rattle.std.proofs.lemmas.Int.{ints, to_z-of_z}
 use Rattle.std.proofs.lemmas.Bool.{ltb-true, eqb-true}
-use Rattle.std.proofs.lemmas.Bool.Decides.{Decides-int_eq}
-use Rattle.std.specs.Int.{w128}
 use mir.Val.{SFits}
-use Rattle.std.specs.Ordering.{int_eq}
-use Rattle.sm_num.specs.Range.{fits_form}
-use Rattle.sm_num.specs.Forms.{Linear, AreParts, IsKept}
-use Rattle.sm_num.specs.declared.kind.Kind.TheVariants.{Eq}
-use Rattle.sm_num.specs.Combining.{Outcome, Fits, Leaves, then_with, computed, combined_number, with_part, led_by, merged, merged_part, formed, combined}
-use Rattle.sm_num.specs.declared.op.Op.TheVariants.{Add, Mul}
-use Rattle.sm_num.specs.Errors.{Returns}
-use Rattle.sm_num.specs.declared.error.NumError.{NumError}
-use Rattle.sm_omega.specs.Equalities.{modular_parts, quotient}
 use Rattle.sm_exact.specs.Rows.{AreBelow}
 
 -- the first variable of parts, or one behind them

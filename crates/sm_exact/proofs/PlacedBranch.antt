@@ -1,32 +1,16 @@
 -- The forms over places of a branch are those that the exact line decides.
-use Rattle.std.proofs.Common.{◌≡◌, ◌<◌, ◌++◌, ℕ, zero, suc, nat_le, pos, Bool, true, ◌&&◌, Option, Some, None, slice_get, List, [], ◌∷◌, length, refl, sym, ap, subst, ◌∙◌, ⊎_elim}
-use Rattle.std.specs.List.{filter_map}
-use Rattle.std.proofs.lemmas.List.{append-nil}
+use Rattle.sm_exact.proofs.Imports.{◌≡◌, ◌<◌, ◌++◌, ℕ, zero, suc, nat_le, pos, Bool, true, ◌&&◌, Option, Some, None, slice_get, List, [], ◌∷◌, length, refl, sym, ap, subst, ◌∙◌, ⊎_elim, filter_map, append-nil, Linear, coefficient, same_atom, Assertion, No, tree_at, BranchFact, Formal, Sum, followed, formula_in, form_in, formula_if, all_terms, form_by_places, forms_by_places, forms_of_branch, has_no_solution, exact_adds, StandsAt, HaveOnePlace, IsKeptFor, AllStand, Fact, all_terms_places, trees_at, formulas_of, IsAt, HavePlaces, IsPlaced, LacksPlace, ArePlacedForms, SomeLacksPlace}
 use Rattle.sm_syntax.specs.text.Sorts.{Sorts}
-use Rattle.sm_num.specs.Forms.{Linear, coefficient}
-use Rattle.sm_num.specs.FormLaws.{same_atom}
 use Rattle.sm_omega.specs.Exact.{exact}
 use Rattle.sm_term.specs.Terms.{Tree}
-use Rattle.sm_term.specs.Assertions.{Assertion, No}
 use Rattle.sm_term.specs.declared.formula.Formula.{Formula}
-use Rattle.sm_term.specs.Tables.{tree_at}
 use Rattle.sm_term.specs.TableLaws.{AreApart}
 use Rattle.sm_term.specs.SameTerms.{same_tree}
 use Rattle.sm_theory.specs.declared.fact.Fact.TheVariants as fact
-use Rattle.sm_theory.specs.Facts.{BranchFact, Formal, Sum}
-use Rattle.sm_theory.specs.Lines.{followed, formula_in, form_in}
-use Rattle.sm_theory.specs.Equality.{formula_if}
-use Rattle.sm_theory.specs.TermsOfFormulas.{all_terms}
-use Rattle.sm_theory.specs.ExactLine.{form_by_places, forms_by_places, forms_of_branch, has_no_solution, exact_adds}
-use Rattle.sm_theory.specs.Standing.{StandsAt, HaveOnePlace, IsKeptFor}
-use Rattle.sm_theory.specs.Views.{AllStand}
-use Rattle.sm_theory.specs.declared.fact.Fact.{Fact}
 use Rattle.sm_theory.proofs.PlacedForms.{AreKeptFor, all_placed_are, unplaced}
 use Rattle.sm_theory.proofs.LinearPlaces.{place_of, place_or_not}
 use Rattle.sm_theory.proofs.FormsOfTermsLemmas.{stands_at, one_place}
-use Rattle.sm_theory.proofs.TermsOfFormulasLemmas.{all_terms_places}
-use Rattle.sm_terms.specs.Listing.{trees_at, AreBelow}
-use Rattle.sm_exact.specs.Placing.{formulas_of, IsAt, HavePlaces, IsPlaced, LacksPlace, ArePlacedForms, SomeLacksPlace}
+use Rattle.sm_terms.specs.Listing.{AreBelow}
 
 -- a number at a place is one of the table, and its tree stands there
 tree_there : (trees : List Tree) (numbers : List ℕ) → AreBelow (length trees) numbers → (i k : ℕ) → IsAt numbers i k →

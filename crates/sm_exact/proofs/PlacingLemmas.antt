@@ -1,26 +1,11 @@
 -- Forms over places: how they are made part by part, and that they are the forms of the exact line.
-use Rattle.std.proofs.Common.{◌≡◌, ◌<◌, ◌≤◌, ℕ, zero, suc, nat_eq, ℤ, pos, ◌+ℤ◌, ◌*ℤ◌, Bool, true, false, if◌then◌else◌, Option, Some, None, slice_get, List, [], ◌∷◌, ◌++◌, ◌+◌, take, length, get_or, refl, sym, ap, subst, ◌∙◌, ⊎_elim}
-use Rattle.std.proofs.Common.{arith}
-use Rattle.std.specs.Prelude.{IfNone}
-use Rattle.std.specs.List.{list_any, position}
-use Rattle.std.proofs.lemmas.Bool.{cases_Bool, or_parts}
-use Rattle.std.proofs.lemmas.Int.{ints}
-use Rattle.std.proofs.lemmas.List.{take_more}
+use Rattle.sm_exact.proofs.Imports.{◌≡◌, ◌<◌, ◌≤◌, ℕ, zero, suc, nat_eq, ℤ, pos, ◌+ℤ◌, ◌*ℤ◌, Bool, true, false, if◌then◌else◌, Option, Some, None, slice_get, List, [], ◌∷◌, ◌++◌, ◌+◌, take, length, get_or, refl, sym, ap, subst, ◌∙◌, ⊎_elim, arith, IfNone, list_any, position, cases_Bool, or_parts, ints, take_more, Linear, coefficient, sum_of_parts, AreParts, IsKept, Kind, same_atom, Outcome, Fits, Leaves, formed, merged, combined_number, combined, gives_fits, IsSum, combined_number_gives, constant_form, Fact, IsAt, HasNoPlace, HavePlaces, ArePlaced, IsPlaced, SomeLacksPlace, FactLacksPlace, coefficient_first}
 use Rattle.std.proofs.lemmas.List.Quantifiers.{position-Some}
 use Rattle.std.proofs.lemmas.Option.{slice_get-get_or}
-use Rattle.sm_num.specs.Forms.{Linear, coefficient, sum_of_parts, AreParts, IsKept}
-use Rattle.sm_num.specs.declared.kind.Kind.{Kind}
-use Rattle.sm_num.specs.FormLaws.{same_atom}
-use Rattle.sm_num.specs.Combining.{Outcome, Fits, Leaves, formed, merged, combined_number, combined}
-use Rattle.sm_num.proofs.OutcomeLemmas.{gives_fits, IsSum, combined_number_gives}
 use Rattle.sm_num.proofs.FormValues.{merged_value}
 use Rattle.sm_num.proofs.SameAtomLemmas.{same_atom_sound, same_atom_reflexive, not_both}
 use Rattle.sm_num.proofs.SameAtomLemmas as same
-use Rattle.sm_theory.specs.LinearTerms.{constant_form}
-use Rattle.sm_theory.specs.declared.fact.Fact.{Fact}
 use Rattle.sm_theory.specs.declared.fact.Fact.TheVariants as fact
-use Rattle.sm_exact.specs.Placing.{IsAt, HasNoPlace, HavePlaces, ArePlaced, IsPlaced, SomeLacksPlace, FactLacksPlace}
-use Rattle.sm_num.proofs.KeptForms.{coefficient_first}
 
 -- 1 at one atom, 0 at all others
 abbrev pub only_at : ℕ → ℕ → ℤ

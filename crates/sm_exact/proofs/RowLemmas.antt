@@ -1,24 +1,7 @@
 -- What is found in lists of forms: the first equation, and the part by which it is used.
-use Rattle.std.proofs.Common.{◌≡◌, ◌≢◌, ◌<◌, ◌≤◌, ◌+◌, ◌==◌, nat_lt, ℕ, zero, suc, ℤ, pos, negsuc, ◌+ℤ◌, nat_abs, Bool, true, false, not, ◌&&◌, if◌then◌else◌, Option, Some, None, List, [], ◌∷◌, ◌++◌, IsTrue, length, get_or, take, drop, map}
-use Rattle.std.proofs.Common.{refl, sym, ap, subst, ◌∙◌, arith, add-one}
-use Rattle.std.specs.List.{remove}
-use Rattle.std.specs.Ordering.{int_eq}
-use Rattle.std.proofs.lemmas.List.{take_more}
-use Rattle.std.proofs.lemmas.Bool.Decides.{Decides-eqb, Decides-int_eq}
-use Rattle.std.proofs.lemmas.Int.{ints}
+use Rattle.sm_exact.proofs.Imports.{◌≡◌, ◌≢◌, ◌<◌, ◌≤◌, ◌+◌, ◌==◌, nat_lt, ℕ, zero, suc, ℤ, pos, negsuc, ◌+ℤ◌, nat_abs, Bool, true, false, not, ◌&&◌, if◌then◌else◌, Option, Some, None, List, [], ◌∷◌, ◌++◌, IsTrue, length, get_or, take, drop, map, refl, sym, ap, subst, ◌∙◌, arith, add-one, remove, int_eq, take_more, Decides-eqb, Decides-int_eq, ints, fits_form, Linear, AreParts, IsKept, coefficient, Kind, Le, Eq, same_atom, is_equation, has_no_part, at, has, first_equation, beside, least_part, least_part_of, Finds, IsPartAt, passed, coefficient_first}
 use Rattle.std.proofs.Math.Seq.{drop-cons}
 use Rattle.std.proofs.Math.ListN.{drop_of_length-le}
-use Rattle.sm_num.specs.Range.{fits_form}
-use Rattle.sm_num.specs.Forms.{Linear, AreParts, IsKept, coefficient}
-use Rattle.sm_num.specs.declared.kind.Kind.{Kind}
-use Rattle.sm_num.specs.declared.kind.Kind.TheVariants.{Le, Eq}
-use Rattle.sm_num.specs.FormLaws.{same_atom}
-use Rattle.sm_num.specs.Eliminating.{is_equation}
-use Rattle.sm_num.specs.Tightening.{has_no_part}
-use Rattle.sm_omega.specs.Solving.{at, has}
-use Rattle.sm_omega.specs.Equalities.{first_equation, beside, least_part, least_part_of}
-use Rattle.sm_exact.specs.Rows.{Finds, IsPartAt, passed}
-use Rattle.sm_num.proofs.KeptForms.{coefficient_first}
 
 -- forms before others
 passed_more : (fs : List (Linear ℕ)) (f : Linear ℕ) (found : Option (Linear ℕ × List (Linear ℕ))) →

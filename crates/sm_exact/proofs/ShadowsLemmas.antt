@@ -1,32 +1,13 @@
 -- The dark shadow and the splinter by sums of two forms, and shadows on their way into a list.
-use Rattle.std.proofs.Common.{◌≡◌, ◌+◌, ◌<◌, ◌≤◌, ℕ, suc, ℤ, pos, neg_ℤ, ◌-ℤ◌, Bool, if◌then◌else◌, IsTrue, Some, List, [], ◌∷◌, ◌++◌, map, length, get_or, drop, refl, sym, ap, subst, ◌∙◌, lt-ltb, le-ltb, drop-cons, drop_of_length-le}
-use Rattle.std.proofs.Common.{add-one}
+use Rattle.sm_exact.proofs.Imports.{◌≡◌, ◌+◌, ◌<◌, ◌≤◌, ℕ, suc, ℤ, pos, neg_ℤ, ◌-ℤ◌, Bool, if◌then◌else◌, IsTrue, Some, List, [], ◌∷◌, ◌++◌, map, length, get_or, drop, refl, sym, ap, subst, ◌∙◌, lt-ltb, le-ltb, add-one, Explains, Returns, NumError, AllocError, IfOk-weaker, fits_form, Linear, IsKept, AreParts, Kind, Le, Eq, tightened, Outcome, Fits, then_with, computed, combined_number, led_by, scaled, merged, formed, combined, Op, Add, Mul, gives_fits, computed_gives, Item, Count, Entered, Done, Passed, entered, with_result, entering, at, shadow, shadows, splinter, Entry, before, going, explains_then, merged_once}
+use Rattle.std.proofs.Common.{drop-cons, drop_of_length-le}
 use Rattle.sm_num.specs.declared.error.NumError.TheVariants as error
-use Rattle.sm_num.specs.Errors.{Explains, Returns}
-use Rattle.sm_num.specs.declared.error.NumError.{NumError}
 use Rattle.std.specs.Prelude.{Result, IfOk}
-use Rattle.std.specs.declared.alloc.AllocError.{AllocError}
-use Rattle.std.proofs.lemmas.Result.{IfOk-weaker}
-use Rattle.sm_num.specs.Range.{exact, fits_form}
-use Rattle.sm_num.specs.Forms.{Linear, IsKept, AreParts}
-use Rattle.sm_num.specs.declared.kind.Kind.{Kind}
-use Rattle.sm_num.specs.declared.kind.Kind.TheVariants.{Le, Eq}
-use Rattle.sm_num.specs.Tightening.{tightened}
-use Rattle.sm_num.specs.Combining.{Outcome, Fits, then_with, computed, combined_number, led_by, scaled, merged, formed, combined}
-use Rattle.sm_num.specs.declared.op.Op.{Op}
-use Rattle.sm_num.specs.declared.op.Op.TheVariants.{Add, Mul}
-use Rattle.sm_num.proofs.OutcomeLemmas.{gives_fits, computed_gives}
+use Rattle.sm_num.specs.Range.{exact}
 use Rattle.sm_num.proofs.KeptLemmas.{combined_is_kept}
-use Rattle.sm_omega.specs.Counting.{Item, Count, Entered, Done, Passed, entered, with_result, entering}
-use Rattle.sm_omega.specs.Solving.{at}
-use Rattle.sm_omega.specs.Inequalities.{shadow, shadows, splinter}
-use Rattle.sm_exact.specs.declared.entry.Entry.{Entry}
 use Rattle.sm_exact.specs.declared.entry.Entry.TheVariants as entry
-use Rattle.sm_exact.specs.Entries.{before, going}
 use Rattle.sm_exact.proofs.EntryLemmas.{before_done, before_passed}
 use Rattle.sm_exact.proofs.ModularLemmas.{times_one, part_stays}
-use Rattle.sm_num.proofs.Merges.{explains_then}
-use Rattle.sm_num.proofs.OneForm.{merged_once}
 
 -- a part in front of parts, each once
 led_once : (least : ℕ) (p : ℕ × ℤ) (ps : List (ℕ × ℤ)) (rest : Outcome (List (ℕ × ℤ))) → AreParts least (p ∷ ps) → rest ≡ Fits ps →

@@ -1,34 +1,16 @@
 -- The stack with a frame more, and the splinters of bounds one after the other.
-use Rattle.std.proofs.Common.{◌≡◌, ◌<◌, ◌≤◌, ◌+◌, ◌^◌, ℕ, suc, ℤ, pos, negsuc, neg_ℤ, nat_abs, int_lt, Bool, true, false, if◌then◌else◌, None, List, [], ◌∷◌, ◌++◌, length, get_or, drop, refl, sym, ap, subst, ◌∙◌, arith, ltb-true, drop-cons}
-use Rattle.std.proofs.Common.{drop_of_length-le, add-one, le_refl}
-use Rattle.std.specs.Int.{w128}
+use Rattle.sm_exact.proofs.Imports.{◌≡◌, ◌<◌, ◌≤◌, ◌+◌, ◌^◌, ℕ, suc, ℤ, pos, negsuc, neg_ℤ, nat_abs, int_lt, Bool, true, false, if◌then◌else◌, None, List, [], ◌∷◌, ◌++◌, length, get_or, drop, refl, sym, ap, subst, ◌∙◌, arith, add-one, le_refl, w128, Explains, Returns, NumError, AllocError, IfOk-weaker, get_or_default, Linear, floor_of, Outcome, Fits, then_with, computed, Mul, Sub, Done, Passed, Item, Count, go_on, with_result, entered, at, bounds_below, lower_bounds, upper_bounds, Answer, or_refuted, or_else, greatest_at, numbers_to, splinters_at, splinter, by_splinters, by_all_splinters, standing, solved_within, Entry, shown, before, going, TellsError, Awaits, Stands, answer_of, splinters_from, splinters_left, Frame, Splinters, explains_then}
+use Rattle.std.proofs.Common.{ltb-true, drop-cons}
+use Rattle.std.proofs.Common.{drop_of_length-le}
 use mir.Val.{SFits}
 use Rattle.sm_num.specs.declared.error.NumError.TheVariants as error
-use Rattle.sm_num.specs.Errors.{Explains, Returns}
-use Rattle.sm_num.specs.declared.error.NumError.{NumError}
 use Rattle.std.specs.Prelude.{Result, IfOk}
-use Rattle.std.specs.declared.alloc.AllocError.{AllocError}
-use Rattle.std.proofs.lemmas.Result.{IfOk-weaker}
-use Rattle.std.proofs.lemmas.List.{get_or_default}
-use Rattle.sm_num.specs.Forms.{Linear}
-use Rattle.sm_num.specs.Eliminating.{floor_of}
-use Rattle.sm_num.specs.Combining.{Outcome, Fits, then_with, computed}
-use Rattle.sm_num.specs.declared.op.Op.TheVariants.{Mul, Sub}
-use Rattle.sm_omega.specs.Counting.{Done, Passed, Item, Count, go_on, with_result, entered}
-use Rattle.sm_omega.specs.Solving.{at, bounds_below, lower_bounds, upper_bounds}
-use Rattle.sm_omega.specs.Rules.{Answer, or_refuted, or_else}
-use Rattle.sm_omega.specs.Inequalities.{greatest_at, numbers_to, splinters_at, splinter, by_splinters, by_all_splinters, standing}
-use Rattle.sm_omega.specs.Exact.{solved_within}
-use Rattle.sm_exact.specs.declared.entry.Entry.{Entry}
 use Rattle.sm_exact.specs.declared.entry.Entry.TheVariants as entry
 use Rattle.sm_exact.specs.declared.frame.Tried.{Tried}
-use Rattle.sm_exact.specs.Entries.{shown, before, going, TellsError}
-use Rattle.sm_exact.specs.Stack.{Awaits, Stands, answer_of, splinters_from, splinters_left, Frame, Splinters}
 use Rattle.sm_exact.proofs.EntryLemmas.{standing_before, going_ends}
 use Rattle.sm_exact.proofs.StackLemmas.{awaits_more}
 use Rattle.sm_exact.proofs.BoundsLemmas.{splinters_by}
 use Rattle.sm_exact.proofs.ShadowsLemmas.{count_passes, SumEnters, sum_enters, goes_first}
-use Rattle.sm_num.proofs.Merges.{explains_then}
 
 -- there is no lower bound from a place on
 pub none_left : (limit depth s t : ℕ) (fs : List (Linear ℕ)) (from place c : ℕ) →

@@ -1,11 +1,7 @@
 -- Lists that are split by a variable, form by form.
-use Rattle.std.proofs.Common.{◌≡◌, ℕ, Bool, true, false, if◌then◌else◌, not, List, [], ◌∷◌, ◌++◌, refl, sym, ap, ◌∙◌}
+use Rattle.sm_exact.proofs.Imports.{◌≡◌, ℕ, Bool, true, false, if◌then◌else◌, not, List, [], ◌∷◌, ◌++◌, refl, sym, ap, ◌∙◌, filter-append, Linear, has, bounds_below, bounds_above, others, lower_bounds, upper_bounds, Splits}
 use Rattle.std.specs.List.{filter}
-use Rattle.std.proofs.lemmas.List.Elements.{filter-append}
-use Rattle.sm_num.specs.Forms.{Linear}
-use Rattle.sm_omega.specs.Solving.{has, bounds_below, bounds_above, others, lower_bounds, upper_bounds}
 use Rattle.sm_exact.specs.declared.splitting.Sides.{Sides}
-use Rattle.sm_exact.specs.Rows.{Splits}
 
 -- what a test keeps, behind what it kept
 kept_more : (test : Linear ℕ → Bool) (fs : List (Linear ℕ)) (f : Linear ℕ) (old new : List (Linear ℕ)) → old ≡ filter test fs →

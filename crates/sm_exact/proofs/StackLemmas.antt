@@ -1,9 +1,5 @@
 -- Frames: one more, one less, and what no frame changes.
-use Rattle.std.proofs.Common.{◌≡◌, ℕ, ℤ, pos, Option, Some, None, List, [], ◌∷◌, ◌++◌, refl, sym, ap, subst, ◌∙◌}
-use Rattle.sm_num.specs.declared.op.Op.{Op}
-use Rattle.sm_omega.specs.Counting.{Decision, Done, Passed, Outside, Shallow}
-use Rattle.sm_omega.specs.Rules.{Answer}
-use Rattle.sm_exact.specs.Stack.{told, Awaits, Frame, Equation, Bounds, Dark, Splinters}
+use Rattle.sm_exact.proofs.Imports.{◌≡◌, ℕ, ℤ, pos, Option, Some, None, List, [], ◌∷◌, ◌++◌, refl, sym, ap, subst, ◌∙◌, Op, Decision, Done, Passed, Outside, Shallow, Answer, told, Awaits, Frame, Equation, Bounds, Dark, Splinters}
 
 -- a frame more
 pub awaits_more : (limit depth : ℕ) (fs : List Frame) (f : Frame) (a whole : Answer) → Awaits limit fs (told limit depth f a) whole →

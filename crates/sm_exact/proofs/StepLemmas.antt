@@ -1,20 +1,8 @@
 -- Each rule as an equation: what it makes of a list is what a frame makes of the answer of another.
-use Rattle.std.proofs.Common.{◌≡◌, ◌≢◌, ◌==◌, ℕ, suc, ℤ, pos, negsuc, neg_ℤ, nat_abs, Bool, true, false, if◌then◌else◌, Option, Some, None, List, [], ◌∷◌, map, refl, sym, ap, ◌∙◌, Vec, Global}
-use Rattle.std.specs.List.{remove, filter}
-use Rattle.std.proofs.lemmas.Bool.Decides.{Decides-eqb}
-use Rattle.sm_num.specs.Forms.{Linear}
-use Rattle.sm_omega.specs.Counting.{Decision, Done, Passed, Outside, Shallow, Item, Entered, entered, go_on}
-use Rattle.sm_omega.specs.Solving.{Values, least_variable}
-use Rattle.sm_omega.specs.Rules.{Answer, Solver, or_refuted, or_else, or_next, giving, with_value}
-use Rattle.sm_omega.specs.Equalities.{value_by, first_equation, least_part, by_equation, eliminated_item, modular, modular_item}
-use Rattle.sm_omega.specs.Exact.{solved_within, by_first, by_least, by_rule}
-use Rattle.sm_exact.specs.declared.entry.Entry.{Entry}
+use Rattle.sm_exact.proofs.Imports.{◌≡◌, ◌≢◌, ◌==◌, ℕ, suc, ℤ, pos, negsuc, neg_ℤ, nat_abs, Bool, true, false, if◌then◌else◌, Option, Some, None, List, [], ◌∷◌, map, refl, sym, ap, ◌∙◌, Vec, Global, remove, Decides-eqb, Linear, Decision, Done, Passed, Outside, Shallow, Item, Entered, entered, go_on, Values, least_variable, Answer, Solver, or_refuted, or_else, or_next, giving, with_value, first_equation, least_part, by_equation, eliminated_item, modular, modular_item, solved_within, by_first, by_least, by_rule, Entry, Below, Above, Step, shown, HasNoSplinter, told, answer_of, all_zero, Steps, side_bound, Equation, Bounds, Dark, Splinters}
+use Rattle.std.specs.List.{filter}
+use Rattle.sm_omega.specs.Equalities.{value_by}
 use Rattle.sm_exact.specs.declared.entry.Entry.TheVariants as entry
-use Rattle.sm_exact.specs.declared.frame.Side.TheVariants.{Below, Above}
-use Rattle.sm_exact.specs.declared.step.Step.{Step}
-use Rattle.sm_exact.specs.Entries.{shown}
-use Rattle.sm_exact.specs.Rows.{HasNoSplinter}
-use Rattle.sm_exact.specs.Stack.{told, answer_of, all_zero, Steps, side_bound, Equation, Bounds, Dark, Splinters}
 
 -- by a number that is a test's
 tested : (n : ℕ) → (n ≡ 1 → ⊥) → (n == 1) ≡ false

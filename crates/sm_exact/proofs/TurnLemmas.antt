@@ -1,20 +1,10 @@
 -- What comes of a turn: one rule, or one step back.
-use Rattle.std.proofs.Common.{◌≡◌, ◌++◌, ◌<◌, ◌≤◌, ◌-◌, ℕ, zero, suc, ℤ, Option, Some, None, List, [], ◌∷◌, refl, sym, ap, subst, ◌∙◌, Vec, Global, Result, Ok, Err, length, get_or, drop, arith}
+use Rattle.sm_exact.proofs.Imports.{◌≡◌, ◌++◌, ◌<◌, ◌≤◌, ◌-◌, ℕ, zero, suc, ℤ, Option, Some, None, List, [], ◌∷◌, refl, sym, ap, subst, ◌∙◌, Vec, Global, Ok, Err, length, get_or, drop, arith, Op, Linear, IsKept, Decision, Done, Passed, Outside, Shallow, Answer, solved_within, by_rule, AllKept, Turned, Entry, Step, told, answer_of, all_zero, Awaits, Stands, StepsByRule, Frame, Turns}
+use Rattle.std.proofs.Common.{Result}
 use Rattle.std.specs.Result.{IfOk}
 use Rattle.std.proofs.Math.Seq.{drop-cons}
 use Rattle.std.proofs.Math.ListN.{drop_of_length-le}
-use Rattle.sm_num.specs.declared.op.Op.{Op}
-use Rattle.sm_num.specs.Forms.{Linear, IsKept}
-use Rattle.sm_omega.specs.Counting.{Decision, Done, Passed, Outside, Shallow}
-use Rattle.sm_omega.specs.Rules.{Answer}
-use Rattle.sm_omega.specs.Exact.{solved_within, by_rule}
-use Rattle.sm_omega.specs.ExactLaws.{AllKept}
-use Rattle.sm_exact.specs.declared.deciding.Turned.{Turned}
-use Rattle.sm_exact.specs.declared.entry.Entry.{Entry}
 use Rattle.sm_exact.specs.declared.entry.Entry.TheVariants as entry
-use Rattle.sm_exact.specs.declared.step.Step.{Step}
-use Rattle.sm_exact.specs.Stack.{told, answer_of, all_zero, Awaits, Stands, StepsByRule, Frame}
-use Rattle.sm_exact.specs.Valued.{Turns}
 use Rattle.sm_exact.proofs.StackLemmas.{awaits_more, awaits_less, awaits_same, awaits_along, awaits_shallow, awaits_passed, awaits_outside}
 
 -- a rule that applies

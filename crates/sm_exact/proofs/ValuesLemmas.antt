@@ -1,18 +1,10 @@
 -- The best of bounds, from a place on.
-use Rattle.std.proofs.Common.{◌≡◌, ◌+◌, ◌<◌, ◌≤◌, ℕ, suc, ℤ, pos, unwrap_or, Bool, true, false, if◌then◌else◌, Option, Some, None, List, [], ◌∷◌, filter, length, get_or, drop, refl, sym, ap, subst, ◌∙◌, add-one}
+use Rattle.sm_exact.proofs.Imports.{◌≡◌, ◌+◌, ◌<◌, ◌≤◌, ℕ, suc, ℤ, pos, unwrap_or, Bool, true, false, if◌then◌else◌, Option, Some, None, List, [], ◌∷◌, length, get_or, drop, refl, sym, ap, subst, ◌∙◌, add-one, Explains, NumError, Linear, Outcome, Fits, Leaves, then_with, Values, at, rest_of, bound_from, bounds_of, greatest, greatest_of, least, least_of, Below, Above, side_bound, bound_at, is_from, better, same_number}
+use Rattle.std.proofs.Common.{filter}
 use Rattle.std.proofs.Math.Seq.{drop-cons}
 use Rattle.std.proofs.Math.ListN.{drop_of_length-le}
 use Rattle.sm_num.specs.declared.error.NumError.TheVariants as error
-use Rattle.sm_num.specs.Errors.{Explains}
-use Rattle.sm_num.specs.declared.error.NumError.{NumError}
-use Rattle.sm_num.specs.Forms.{Linear}
-use Rattle.sm_num.specs.Combining.{Outcome, Fits, Leaves, then_with}
-use Rattle.sm_omega.specs.Solving.{Values, at, rest_of, bound_from, bounds_of, greatest, greatest_of, least, least_of}
 use Rattle.sm_exact.specs.declared.frame.Side.{Side}
-use Rattle.sm_exact.specs.declared.frame.Side.TheVariants.{Below, Above}
-use Rattle.sm_exact.specs.Stack.{side_bound}
-use Rattle.sm_exact.specs.Valued.{bound_at, is_from, better}
-use Rattle.sm_num.proofs.AlikeLemmas.{same_number}
 
 -- the best of numbers and of one that may be missing
 abbrev pub best_of : Side → Option ℤ → List ℤ → ℤ

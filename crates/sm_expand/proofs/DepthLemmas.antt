@@ -1,23 +1,8 @@
 -- How deep plans branch, by how they end.
-use Rattle.std.proofs.Common.{◌≡◌, ℕ, zero, suc, ◌+◌, ◌-◌, ◌≤◌, ◌<◌, max, nat_le, nat_lt, if◌then◌else◌, Bool, true, false, List, [], ◌∷◌, ◌++◌, length, map, take, get_or, refl, sym, ap, ◌∙◌, arith}
-use Rattle.std.proofs.lemmas.Bool.{ltb-true, ltb-false, lt-ltb, le-ltb}
-use Rattle.std.proofs.lemmas.List.{map_more}
-use Rattle.std.specs.Prelude.{Box}
-use Rattle.std.specs.declared.alloc.Global.{Global}
-use Rattle.sm_syntax.specs.claim.ConflictFree.{copy_of}
-use Rattle.sm_syntax.specs.text.Parts.{by_copy}
-use Rattle.sm_syntax.specs.text.Sorts.{Sorts}
-use Rattle.sm_term.specs.Formulas.{NumberedFormula, numbered, assertion_in}
-use Rattle.sm_term.specs.declared.formula.Formula.{Formula}
-use Rattle.sm_term.specs.Terms.{Tree}
-use Rattle.sm_plan.specs.Masks.{set_of}
+use Rattle.sm_expand.proofs.Imports.{◌≡◌, ℕ, zero, suc, ◌+◌, ◌-◌, ◌≤◌, ◌<◌, max, nat_le, nat_lt, if◌then◌else◌, Bool, true, false, List, [], ◌∷◌, ◌++◌, length, map, take, get_or, refl, sym, ap, ◌∙◌, arith, ltb-true, ltb-false, lt-ltb, le-ltb, map_more, Box, Global, copy_of, by_copy, Sorts, NumberedFormula, numbered, assertion_in, Formula, Tree, set_of, is_branching, branches, most_branches, NumberedNode, Fork, Loop, Block, Dead, Ends, NumberedPlan, At, NumberedPlans, Over, More, node_over, plan_over, plans_over, plans_before, simple_node, straight_before, numbered_plan, numbered_last, plan_in, Plan, Simple, Plans, out-Plans}
 use Rattle.sm_plan.specs.Nodes as node
-use Rattle.sm_plan.specs.Nodes.{is_branching}
-use Rattle.sm_plan.specs.Plans.{branches, most_branches}
 use Rattle.sm_expand.specs.declared.plan.Last.TheVariants as last
 use Rattle.sm_expand.specs.declared.plan.Simple.TheVariants as simple
-use Rattle.sm_expand.specs.NumberedPlans.{NumberedNode, Fork, Loop, Block, Dead, Ends, NumberedPlan, At, NumberedPlans, Over, More, node_over, plan_over, plans_over, plans_before}
-use Rattle.sm_expand.specs.Views.{simple_node, straight_before, numbered_plan, numbered_last, plan_in, Plan, Simple, Plans, out-Plans}
 use Rattle.sm_expand.proofs.PlanViews.{plan_is, last_fork, last_loop, last_block, last_dead, last_end}
 
 -- a plan that is deeper by one than the deeper of two parts

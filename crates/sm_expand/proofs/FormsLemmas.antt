@@ -1,19 +1,7 @@
 -- Formulas put behind formulas, obligations behind obligations, and states behind what waits.
-use Rattle.std.proofs.Common.{◌≡◌, ℕ, zero, suc, ◌+◌, ◌<◌, List, [], ◌∷◌, ◌++◌, length, reverse, take, get_or, sym, ap, ◌∙◌, subst, arith, append_assoc}
-use Rattle.std.proofs.lemmas.List.{map_more, map-append, take-map, reverse-append}
-use Rattle.sm_syntax.specs.text.Sorts.{Sorts}
-use Rattle.sm_term.specs.Assertions.{Assertion}
-use Rattle.sm_term.specs.Formulas.{NumberedFormula, numbered, assertion_in, IsFormulaWithin}
-use Rattle.sm_term.specs.declared.formula.Formula.{Formula}
-use Rattle.sm_term.specs.Sorted.{IsFormSorted}
-use Rattle.sm_term.specs.Terms.{Tree}
-use Rattle.sm_plan.specs.ReadyStates.{IsFormReady, AreFormsReady}
-use Rattle.sm_plan.specs.declared.opening.Successor.{Successor}
-use Rattle.sm_plan.specs.Views.{forms_in}
+use Rattle.sm_expand.proofs.Imports.{◌≡◌, ℕ, zero, suc, ◌+◌, ◌<◌, List, [], ◌∷◌, ◌++◌, length, reverse, take, get_or, sym, ap, ◌∙◌, subst, arith, append_assoc, map_more, map-append, take-map, reverse-append, Sorts, Assertion, NumberedFormula, numbered, assertion_in, IsFormulaWithin, Formula, IsFormSorted, Tree, IsFormReady, AreFormsReady, Successor, forms_in, Waiting, AreDuesReady, waits_with}
 use Rattle.sm_expand.specs.declared.cursor.Cursor.{Cursor}
-use Rattle.sm_expand.specs.declared.walk.Waiting.{Waiting}
-use Rattle.sm_expand.specs.Views.{AreDuesReady, Due}
-use Rattle.sm_expand.specs.Walks.{waits_with}
+use Rattle.sm_expand.specs.Views.{Due}
 
 module _ (sorts : Sorts) (trees : List Tree) where
   abbrev one : Formula → Assertion

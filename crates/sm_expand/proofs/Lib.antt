@@ -1,3 +1,4 @@
+mod Imports
 pub mod PlanViews
 pub mod PlansWiden
 pub mod PairsLemmas

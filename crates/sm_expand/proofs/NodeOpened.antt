@@ -1,15 +1,8 @@
 -- A node that fails at its state.
-use Rattle.std.proofs.Common.{◌≡◌, ℕ, Some, None, Err, List, length, map, sym, ap, ◌∙◌}
-use Rattle.std.proofs.lemmas.List.{length-map}
-use Rattle.sm_syntax.specs.text.Sorts.{Sorts}
-use Rattle.sm_term.specs.Terms.{Tree}
+use Rattle.sm_expand.proofs.Imports.{◌≡◌, ℕ, Some, None, Err, List, length, map, sym, ap, ◌∙◌, length-map, Sorts, Tree, Node, opened_by, rule_of, Wrong, count, expand, State, NumberedPlan, At, node_over, plan_over, plans_over, head, below, list_of, IsKeepReady, IsPlanReady, numbered_at}
 use Rattle.sm_plan.specs.Nodes as node
-use Rattle.sm_plan.specs.Nodes.{Node, opened_by, rule_of}
 use Rattle.sm_plan.specs.Plans as plain
-use Rattle.sm_plan.specs.Plans.{Wrong, count, expand}
-use Rattle.sm_plan.specs.States.{State}
-use Rattle.sm_expand.specs.NumberedPlans.{NumberedPlan, At, node_over, plan_over, plans_over, head, below, list_of, IsKeepReady, IsPlanReady}
-use Rattle.sm_expand.specs.Cursors.{numbered_at, Cursor}
+use Rattle.sm_expand.specs.Cursors.{Cursor}
 use Rattle.sm_expand.proofs.PairsLemmas.{plan_is, counted, closed_fails, unfitting_fails}
 
 -- the first node's formula is ready

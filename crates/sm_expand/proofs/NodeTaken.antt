@@ -1,31 +1,12 @@
 -- A node taken for the state that waits first.
-use Rattle.std.proofs.Common.{◌≡◌, ℕ, suc, ◌+◌, ◌≤◌, ◌<◌, ◌&&◌, Bool, Result, Ok, Err, List, [], ◌∷◌, ◌++◌, length, map, take, sym, ap, ◌∙◌, subst, arith}
-use Rattle.std.proofs.lemmas.List.{length-append, length-map, length-take-le, map-append, take_all, take-append-le, take-take}
-use Rattle.std.specs.Prelude.{Vec, IfErr, IsErrAnd}
-use Rattle.std.specs.declared.alloc.Global.{Global}
-use Rattle.sm_syntax.specs.text.Sorts.{Sorts}
-use Rattle.sm_term.specs.declared.formula.Formula.{Formula}
-use Rattle.sm_term.specs.Assertions.{Assertion}
-use Rattle.sm_term.specs.Tables.{TableValue, trees_in, sorts_in}
-use Rattle.sm_term.specs.TableLaws.{ExtendsTable}
-use Rattle.sm_term.specs.Terms.{Tree}
-use Rattle.sm_plan.specs.Nodes.{rule_of, is_end}
+use Rattle.sm_expand.proofs.Imports.{◌≡◌, ℕ, suc, ◌+◌, ◌≤◌, ◌<◌, ◌&&◌, Bool, Result, Ok, Err, List, [], ◌∷◌, ◌++◌, length, map, take, sym, ap, ◌∙◌, subst, arith, length-append, length-map, length-take-le, map-append, take_all, take-append-le, take-take, Vec, IfErr, IsErrAnd, Global, Sorts, Formula, Assertion, TableValue, trees_in, sorts_in, ExtendsTable, Tree, rule_of, is_end, Fault, Wrong, joined, due, count, size, sizes, expand, expand_all, AreFormsReady, AreSuccessorsReady, Successor, State, forms_in, state_in, successor_in, opened_in, Opened, PlanFault, Waiting, NumberedPlan, At, NumberedPlans, Over, More, node_over, plan_over, plans_over, head, below, list_of, IsPlanReady, ArePlansReady, numbered_at, dues_in, AreDuesReady, FaultTells, asked, expand_pairs, facts_of, waits_as, waits_with, outcome, AreNested, AreWaitingReady, IsReadyWith}
 use Rattle.sm_plan.specs.Plans as plain
-use Rattle.sm_plan.specs.Plans.{Fault, Wrong, joined, due, count, size, sizes, expand, expand_all}
-use Rattle.sm_plan.specs.ReadyStates.{AreFormsReady, AreSuccessorsReady}
-use Rattle.sm_plan.specs.declared.opening.Successor.{Successor}
-use Rattle.sm_plan.specs.States.{State}
-use Rattle.sm_plan.specs.Views.{forms_in, state_in, successor_in, opened_in}
-use Rattle.sm_plan.specs.declared.opening.Opened.{Opened}
 use Rattle.sm_plan.proofs.TablesWiden as widened
-use Rattle.sm_expand.specs.declared.fault.PlanFault.{PlanFault}
 use Rattle.sm_expand.specs.declared.fault.PlanFault.TheVariants as fault
-use Rattle.sm_expand.specs.declared.walk.Waiting.{Waiting}
-use Rattle.sm_expand.specs.NumberedPlans.{NumberedPlan, At, NumberedPlans, Over, More, node_over, plan_over, plans_over, head, below, list_of, IsPlanReady, ArePlansReady}
-use Rattle.sm_expand.specs.Cursors.{numbered_at, Cursor}
-use Rattle.sm_expand.specs.Views.{dues_in, AreDuesReady, FaultTells, Due}
+use Rattle.sm_expand.specs.Cursors.{Cursor}
+use Rattle.sm_expand.specs.Views.{Due}
 use Rattle.sm_expand.specs.Opens.{OpensAs}
-use Rattle.sm_expand.specs.Walks.{asked, expand_pairs, facts_of, waits_as, waits_with, outcome, weight, AreNested, AreWaitingReady, IsReadyWith}
+use Rattle.sm_expand.specs.Walks.{weight}
 use Rattle.sm_expand.proofs.PlansWiden.{plans_stay, plans_ready, dues_stay, all_stay, all_ready}
 use Rattle.sm_expand.proofs.PairsLemmas.{joined_assoc, plan_is, counted, due_asked, fitting_expands, all_follow, heavier, below_weighs}
 

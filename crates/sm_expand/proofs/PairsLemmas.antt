@@ -1,21 +1,10 @@
 -- The obligations of a node at a state, and then of what waits.
-use Rattle.std.proofs.Common.{◌≡◌, ℕ, suc, ◌+◌, ◌==◌, ◌&&◌, Bool, if◌then◌else◌, Option, Some, None, Result, Ok, Err, List, [], ◌∷◌, ◌++◌, length, map, take, refl, sym, ap, ◌∙◌, arith, append_assoc}
-use Rattle.std.proofs.lemmas.Bool.{eq-eqb, ne_eqb}
-use Rattle.sm_syntax.specs.text.Sorts.{Sorts}
-use Rattle.sm_term.specs.declared.formula.Formula.{Formula}
-use Rattle.sm_term.specs.Assertions.{Assertion}
-use Rattle.sm_term.specs.Terms.{Tree}
-use Rattle.sm_plan.specs.declared.opening.Successor.{Successor}
+use Rattle.sm_expand.proofs.Imports.{◌≡◌, ℕ, suc, ◌+◌, ◌==◌, ◌&&◌, Bool, if◌then◌else◌, Option, Some, None, Result, Ok, Err, List, [], ◌∷◌, ◌++◌, length, map, take, refl, sym, ap, ◌∙◌, arith, append_assoc, eq-eqb, ne_eqb, Sorts, Formula, Assertion, Tree, Successor, Node, opened_by, rule_of, is_end, Fault, Wrong, joined, opened, due, count, size, sizes, expand, expand_all, State, forms_in, state_in, successor_in, Waiting, NumberedPlan, At, NumberedPlans, Over, More, node_over, plan_over, plans_over, head, below, list_of, plans_before, numbered_at, asked, expand_pairs, waits_as, waits_with, size_of, sizes_of}
 use Rattle.sm_plan.specs.Nodes as node
-use Rattle.sm_plan.specs.Nodes.{Node, opened_by, rule_of, is_end}
 use Rattle.sm_plan.specs.Plans as plain
-use Rattle.sm_plan.specs.Plans.{Due, Fault, Wrong, joined, opened, due, count, size, sizes, expand, expand_all}
-use Rattle.sm_plan.specs.States.{State}
-use Rattle.sm_plan.specs.Views.{forms_in, state_in, successor_in}
-use Rattle.sm_expand.specs.declared.walk.Waiting.{Waiting}
-use Rattle.sm_expand.specs.NumberedPlans.{NumberedPlan, At, NumberedPlans, Over, More, node_over, plan_over, plans_over, head, below, list_of, plans_before}
-use Rattle.sm_expand.specs.Cursors.{numbered_at, Cursor}
-use Rattle.sm_expand.specs.Walks.{asked, expand_pairs, waits_as, waits_with, size_of, sizes_of, weight}
+use Rattle.sm_plan.specs.Plans.{Due}
+use Rattle.sm_expand.specs.Cursors.{Cursor}
+use Rattle.sm_expand.specs.Walks.{weight}
 
 -- obligations of three
 pub joined_assoc : (a b c : Result (List Due) Fault) → joined (joined a b) c ≡ joined a (joined b c)

@@ -1,13 +1,7 @@
 -- States that follow a node stand at the plans below it.
-use Rattle.std.proofs.Common.{◌≡◌, ℕ, suc, ◌+◌, ◌<◌, List, [], ◌∷◌, ◌++◌, length, map, reverse, sym, ap, ◌∙◌, subst, arith, append_assoc}
-use Rattle.std.proofs.lemmas.List.{length-append, reverse-append}
-use Rattle.sm_term.specs.Tables.{TableValue, trees_in, sorts_in}
-use Rattle.sm_plan.specs.ReadyStates.{AreSuccessorsReady}
-use Rattle.sm_plan.specs.declared.opening.Successor.{Successor}
-use Rattle.sm_expand.specs.NumberedPlans.{NumberedPlan, At, NumberedPlans, Over, More, plan_over, plans_over, below, list_of, IsPlanReady, ArePlansReady}
-use Rattle.sm_expand.specs.Cursors.{numbered_at, Cursor}
-use Rattle.sm_expand.specs.PlacedStates.{ArePlacedReady, weight, placed_with, PlacedState}
-use Rattle.sm_expand.specs.Walks.{size_of, sizes_of}
+use Rattle.sm_expand.proofs.Imports.{◌≡◌, ℕ, suc, ◌+◌, ◌<◌, List, [], ◌∷◌, ◌++◌, length, map, reverse, sym, ap, ◌∙◌, subst, arith, append_assoc, length-append, reverse-append, TableValue, trees_in, sorts_in, AreSuccessorsReady, Successor, NumberedPlan, At, NumberedPlans, Over, More, plan_over, plans_over, below, list_of, IsPlanReady, ArePlansReady, numbered_at, ArePlacedReady, placed_with, PlacedState, size_of, sizes_of}
+use Rattle.sm_expand.specs.Cursors.{Cursor}
+use Rattle.sm_expand.specs.PlacedStates.{weight}
 
 module _ (v : TableValue) where
   -- what a node opens can be gone on from, before others that can

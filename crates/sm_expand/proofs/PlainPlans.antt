@@ -1,17 +1,9 @@
 -- A plan that keeps no formula is ready over each table.
-use Rattle.std.proofs.Common.{◌≡◌, ◌==◌, ℕ, Some, None, if◌then◌else◌, List, [], ◌∷◌, ◌++◌, map, sym, ap, ◌∙◌, subst}
-use Rattle.std.specs.declared.alloc.Global.{Global}
-use Rattle.std.specs.Prelude.{Box}
+use Rattle.sm_expand.proofs.Imports.{◌≡◌, ◌==◌, ℕ, Some, None, if◌then◌else◌, List, [], ◌∷◌, ◌++◌, map, sym, ap, ◌∙◌, subst, Global, Box, sort_of, Sorts, Sort, Tree, NumberedPlan, IsKeepReady, IsPlanReady, simple_node, straight_before, numbered_plan, numbered_last, Plan, Simple}
 use Rattle.sm_syntax.specs.declared.tree.Name.{Name}
 use Rattle.sm_syntax.specs.declared.tree.Sort.TheVariants as sort
-use Rattle.sm_syntax.specs.text.Parts.{sort_of}
-use Rattle.sm_syntax.specs.text.Sorts.{Sorts}
-use Rattle.sm_syntax.specs.declared.tree.Sort.{Sort}
-use Rattle.sm_term.specs.Terms.{Tree}
 use Rattle.sm_expand.specs.declared.plan.Last.TheVariants as last
 use Rattle.sm_expand.specs.declared.plan.Simple.TheVariants as simple
-use Rattle.sm_expand.specs.NumberedPlans.{NumberedPlan, IsKeepReady, IsPlanReady}
-use Rattle.sm_expand.specs.Views.{simple_node, straight_before, numbered_plan, numbered_last, Plan, Simple}
 use Rattle.sm_expand.proofs.PlanViews.{plan_is, last_end, last_fork}
 
 simple_ready : (sorts : Sorts) (trees : List Tree) (s : Simple) → IsKeepReady sorts trees (simple_node s)

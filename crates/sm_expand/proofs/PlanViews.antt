@@ -1,16 +1,8 @@
 -- The plans that trees of the program stand for, by how they end.
-use Rattle.std.proofs.Common.{◌≡◌, ℕ, List, map, sym, ap, ◌∙◌}
-use Rattle.std.specs.Prelude.{Box}
-use Rattle.std.specs.declared.alloc.Global.{Global}
-use Rattle.sm_syntax.specs.text.Parts.{by_copy}
-use Rattle.sm_term.specs.Formulas.{numbered}
-use Rattle.sm_term.specs.declared.formula.Formula.{Formula}
-use Rattle.sm_expand.specs.declared.plan.Last.{fold-roll-Last}
+use Rattle.sm_expand.proofs.Imports.{◌≡◌, ℕ, List, map, sym, ap, ◌∙◌, Box, Global, by_copy, numbered, Formula, fold-roll-Last, NumberedPlan, At, Over, More, Fork, Loop, Block, Dead, Ends, plans_before, straight_before, last_layer, plan_layer, plans_layer, numbered_plan, numbered_last, Plan, fold_out-Plan, Plans, out-Plans, fold-Plans, fold_out-Plans}
 use Rattle.sm_expand.specs.declared.plan.Last.TheOpen as layer
 use Rattle.sm_expand.specs.declared.plan.Last.TheVariants as last
 use Rattle.sm_expand.specs.declared.plan.Last.TheVariants.{rolls-Fork, rolls-Loop, rolls-Block, rolls-Dead, rolls-End}
-use Rattle.sm_expand.specs.NumberedPlans.{NumberedPlan, At, Over, More, Fork, Loop, Block, Dead, Ends, plans_before}
-use Rattle.sm_expand.specs.Views.{straight_before, last_layer, plan_layer, plans_layer, numbered_plan, numbered_last, Plan, fold_out-Plan, Plans, out-Plans, fold-Plans, fold_out-Plans}
 
 -- a plan is its simple nodes, and then its last one
 pub plan_is : (p : Plan) → numbered_plan p ≡ straight_before p.straight.list.items (numbered_last p.last)

@@ -1,22 +1,9 @@
 -- What waits, and what was asked, stay where the table has more behind.
-use Rattle.std.proofs.Common.{◌≡◌, ℕ, ◌≤◌, nat_le, if◌then◌else◌, List, [], ◌∷◌, ◌++◌, length, map, take, refl, sym, ap, ◌∙◌, subst, arith}
-use Rattle.sm_syntax.specs.text.Sorts.{Sorts}
-use Rattle.sm_term.specs.Assertions.{Assertion}
-use Rattle.sm_term.specs.Formulas.{NumberedFormula, assertion_in, IsFormulaWithin}
-use Rattle.sm_term.specs.declared.formula.Formula.{Formula}
-use Rattle.sm_term.specs.Sorted.{IsFormSorted}
-use Rattle.sm_term.specs.Tables.{TableValue, trees_in, sorts_in}
-use Rattle.sm_term.specs.TableLaws.{ExtendsTable}
-use Rattle.sm_plan.specs.Masks.{set_of}
+use Rattle.sm_expand.proofs.Imports.{◌≡◌, ℕ, ◌≤◌, nat_le, if◌then◌else◌, List, [], ◌∷◌, ◌++◌, length, map, take, refl, sym, ap, ◌∙◌, subst, arith, Sorts, Assertion, NumberedFormula, assertion_in, IsFormulaWithin, Formula, IsFormSorted, TableValue, trees_in, sorts_in, ExtendsTable, set_of, forms_in, state_in, Waiting, NumberedNode, Step, Abs, Fork, Loop, Block, Dead, Ends, NumberedPlan, At, NumberedPlans, Over, More, node_over, plan_over, plans_over, IsKeepReady, IsPlanReady, ArePlansReady, numbered_at, dues_in, AreDuesReady, facts_of, waits_as, AreNested, IsWaitingReady, AreWaitingReady}
 use Rattle.sm_plan.specs.Nodes as plain
 use Rattle.sm_plan.specs.Plans as tree
-use Rattle.sm_plan.specs.Views.{forms_in, state_in}
 use Rattle.sm_plan.proofs.TablesWiden as widened
-use Rattle.sm_expand.specs.declared.walk.Waiting.{Waiting}
-use Rattle.sm_expand.specs.NumberedPlans.{NumberedNode, Step, Abs, Fork, Loop, Block, Dead, Ends, NumberedPlan, At, NumberedPlans, Over, More, node_over, plan_over, plans_over, IsKeepReady, IsPlanReady, ArePlansReady}
-use Rattle.sm_expand.specs.Cursors.{numbered_at}
-use Rattle.sm_expand.specs.Views.{dues_in, AreDuesReady, Due}
-use Rattle.sm_expand.specs.Walks.{facts_of, waits_as, AreNested, IsWaitingReady, AreWaitingReady}
+use Rattle.sm_expand.specs.Views.{Due}
 
 module _ (v w : TableValue) (wider : ExtendsTable v w) where
   -- kept formulas

@@ -1,19 +1,9 @@
 -- The rows of nodes, and the places below them.
-use Rattle.std.proofs.Common.{◌≡◌, ℕ, nat_le, if◌then◌else◌, Bool, false, Option, Some, None, List, [], ◌∷◌, ◌++◌, slice_get, map, refl, sym, ap, ◌∙◌, subst}
-use Rattle.std.specs.Prelude.{Box}
-use Rattle.std.specs.declared.alloc.Global.{Global}
-use Rattle.sm_syntax.specs.claim.ConflictFree.{copy_of}
-use Rattle.sm_syntax.specs.text.Sorts.{Sorts}
-use Rattle.sm_term.specs.declared.formula.Formula.{Formula}
-use Rattle.sm_term.specs.Terms.{Tree}
+use Rattle.sm_expand.proofs.Imports.{◌≡◌, ℕ, nat_le, if◌then◌else◌, Bool, false, Option, Some, None, List, [], ◌∷◌, ◌++◌, slice_get, map, refl, sym, ap, ◌∙◌, subst, Box, Global, copy_of, Sorts, Formula, Tree, Last, NumberedNode, NumberedPlan, Over, More, node_over, head, below, list_of, plans_before, IsRowOf, simple_node, straight_before, numbered_plan, numbered_last, Plan, Simple, Plans, out-Plans}
 use Rattle.sm_plan.specs.declared.node.NodeRow.{NodeRow}
 use Rattle.sm_plan.specs.Nodes as plain
-use Rattle.sm_expand.specs.declared.plan.Last.{Last}
 use Rattle.sm_expand.specs.declared.plan.Last.TheVariants as last
 use Rattle.sm_expand.specs.declared.plan.Simple.TheVariants as simple
-use Rattle.sm_expand.specs.NumberedPlans.{NumberedNode, NumberedPlan, Over, More, node_over, head, below, list_of, plans_before}
-use Rattle.sm_expand.specs.Cursors.{IsRowOf}
-use Rattle.sm_expand.specs.Views.{simple_node, straight_before, numbered_plan, numbered_last, Plan, Simple, Plans, out-Plans}
 use Rattle.sm_expand.proofs.PlanViews.{last_fork, last_loop}
 
 -- the first simple node, or none

@@ -1,24 +1,11 @@
 -- Where an expansion begins and ends, and the obligations of a task.
-use Rattle.std.proofs.Common.{◌≡◌, ℕ, nat_lt, Bool, true, false, if◌then◌else◌, Option, Result, Ok, Err, List, [], ◌∷◌, ◌++◌, refl, sym, ap, ◌∙◌, append-nil, take, reverse, length}
-use Rattle.std.proofs.lemmas.List.{reverse-append}
+use Rattle.sm_expand.proofs.Imports.{◌≡◌, ℕ, nat_lt, Bool, true, false, if◌then◌else◌, Option, Result, Ok, Err, List, [], ◌∷◌, ◌++◌, refl, sym, ap, ◌∙◌, append-nil, take, reverse, length, reverse-append, ltb-true, ltb-false, le-leb, lt-leb, Copy, Task, program_of, Sort, Formula, TableValue, trees_in, sorts_in, Fault, Deep, joined, branches, expand, obligations, State, start_state, start_of, forms_in, state_in, Waiting, plan_over, numbered_at, numbered_plan, plan_in, dues_in, Plan, outcome, facts_of}
 use Rattle.std.proofs.Math.Path.{fun_ext}
-use Rattle.std.proofs.lemmas.Bool.{ltb-true, ltb-false, le-leb, lt-leb}
-use Rattle.sm_syntax.specs.claim.ConflictFree.{Copy, Task, program_of}
 use Rattle.sm_syntax.specs.claim.Syntax.{Condition, Code}
-use Rattle.sm_syntax.specs.declared.tree.Sort.{Sort}
-use Rattle.sm_term.specs.declared.formula.Formula.{Formula}
-use Rattle.sm_term.specs.Tables.{TableValue, trees_in, sorts_in}
 use Rattle.sm_plan.specs.Limits.{is_shallow}
 use Rattle.sm_plan.specs.Plans as plain
-use Rattle.sm_plan.specs.Plans.{Fault, Deep, joined, branches, expand, obligations}
-use Rattle.sm_plan.specs.States.{State, start_state, start_of}
-use Rattle.sm_plan.specs.Views.{forms_in, state_in}
-use Rattle.sm_expand.specs.declared.walk.Waiting.{Waiting}
-use Rattle.sm_expand.specs.NumberedPlans.{plan_over}
-use Rattle.sm_expand.specs.Cursors.{numbered_at}
 use Rattle.sm_expand.specs.Tasks.{HasParts}
-use Rattle.sm_expand.specs.Views.{numbered_plan, plan_in, dues_in, Due, Plan}
-use Rattle.sm_expand.specs.Walks.{outcome, facts_of}
+use Rattle.sm_expand.specs.Views.{Due}
 use Rattle.sm_expand.proofs.PairsLemmas.{joined_none}
 
 -- what is asked, and nothing more

@@ -1,9 +1,5 @@
 -- Words are said exactly where a clause fails.
-use Rattle.std.proofs.Common.{◌≡◌, ◌↔◌, ℤ, Bool, true, false, not, ◌&&◌, refl, sym, ◌∙◌, inl, inr, ⊎_elim}
-use Rattle.std.specs.Ordering.{int_eq}
-use Rattle.std.proofs.lemmas.Bool.Decides.{Decides-int_eq, Decides-not, Decides-and, Decides-like, not_from_Decides}
-use Rattle.sm_syntax.specs.claim.Keeps.{Keeps, KeepsChange, AddsNothing}
-use Rattle.sm_explain.specs.Rows.{agree, loses_change, adds_change}
+use Rattle.sm_explain.proofs.Imports.{◌≡◌, ◌↔◌, ℤ, Bool, true, false, not, ◌&&◌, refl, sym, ◌∙◌, inl, inr, ⊎_elim, int_eq, Decides-int_eq, Decides-not, Decides-and, Decides-like, not_from_Decides, Keeps, KeepsChange, AddsNothing, agree, loses_change, adds_change}
 use Rattle.sm_explain.specs.Laws.{ClausesFail}
 
 -- a change is lost where neither part of the clause holds

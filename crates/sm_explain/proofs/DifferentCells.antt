@@ -1,13 +1,5 @@
 -- The cells of an array at which four ends differ, among indices.
-use Rattle.std.proofs.Common.{◌≡◌, ◌⊎◌, ℕ, ℤ, pos, Bool, true, false, not, if◌then◌else◌, List, [], ◌∷◌, ◌++◌, refl, sym, ap, ◌∙◌, inl, inr, ⊎_elim}
-use Rattle.std.specs.List.{filter}
-use Rattle.std.proofs.lemmas.Bool.Decides.{Decides-int_eq}
-use Rattle.sm_syntax.specs.claim.ConflictFree.{Copy, O, A, B, M}
-use Rattle.sm_syntax.specs.claim.Keeps.{Cell, Element, content}
-use Rattle.sm_syntax.specs.claim.Stores.{Store}
-use Rattle.sm_explain.specs.Indices.{IsOf, Rise}
-use Rattle.sm_explain.specs.Rows.{agree, cell_rows}
-use Rattle.sm_explain.specs.Tables.{DifferAt, element_rows, AreElementRows}
+use Rattle.sm_explain.proofs.Imports.{◌≡◌, ◌⊎◌, ℕ, ℤ, pos, Bool, true, false, not, if◌then◌else◌, List, [], ◌∷◌, ◌++◌, refl, sym, ap, ◌∙◌, inl, inr, ⊎_elim, filter, Decides-int_eq, Copy, O, A, B, M, Cell, Element, content, Store, IsOf, Rise, agree, cell_rows, DifferAt, element_rows, AreElementRows}
 use Rattle.sm_syntax.proofs.EachCopy.{each_copy}
 use Rattle.sm_lemmas.proofs.Tests.{not_true}
 use Rattle.sm_lemmas.proofs.Options.{one_of_four}

@@ -1,3 +1,4 @@
+mod Imports
 pub mod PlacesSound
 pub mod MergedLists
 pub mod MergedCells

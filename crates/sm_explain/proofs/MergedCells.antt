@@ -1,12 +1,5 @@
 -- The indices of an array's cells.
-use Rattle.std.proofs.Common.{◌≡◌, ◌⊎◌, ◌<◌, ℕ, suc, ℤ, pos, Bool, true, false, if◌then◌else◌, List, [], ◌∷◌, length, refl, sym, subst, inl, inr, ⊎_elim, arith}
-use Rattle.std.specs.Prelude.{◌<ℤ◌}
-use Rattle.std.specs.Ordering.{int_eq}
-use Rattle.std.proofs.lemmas.Bool.Decides.{Decides-int_eq}
-use Rattle.sm_eval.specs.Cells.{listed, index_at, IsAscending}
-use Rattle.sm_syntax.specs.claim.ConflictFree.{Copy, O, A, B, M}
-use Rattle.sm_explain.specs.Indices.{IsOf, Rise}
-use Rattle.sm_explain.specs.Merging.{firsts}
+use Rattle.sm_explain.proofs.Imports.{◌≡◌, ◌⊎◌, ◌<◌, ℕ, suc, ℤ, pos, Bool, true, false, if◌then◌else◌, List, [], ◌∷◌, length, refl, sym, subst, inl, inr, ⊎_elim, arith, ◌<ℤ◌, int_eq, Decides-int_eq, listed, index_at, IsAscending, Copy, O, A, B, M, IsOf, Rise, firsts}
 
 -- an index of a cell is that of the cell at some place
 place_of : (cells : List (ℤ × ℤ)) (i : ℤ) → IsOf (firsts cells) i → (p : ℕ) × (p < length cells) × (i ≡ index_at cells p)

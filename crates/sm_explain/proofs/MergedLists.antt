@@ -1,11 +1,5 @@
 -- Two rising lists of indices merged, index by index.
-use Rattle.std.proofs.Common.{◌≡◌, ◌≢◌, ◌⊎◌, ◌+◌, ◌<◌, ◌≤◌, ℕ, zero, suc, ℤ, Bool, true, false, if◌then◌else◌, Option, Some, None, List, [], ◌∷◌, ◌++◌, length, drop, refl, sym, ap, subst, ◌∙◌, inl, inr, ⊎_elim, arith, drop_of_length-le}
-use Rattle.std.specs.Prelude.{◌<ℤ◌, ◌≤ℤ◌, int_lt, slice_get}
-use Rattle.std.specs.Ordering.{int_eq}
-use Rattle.std.proofs.lemmas.Bool.Decides.{Decides-int_eq, not_from_Decides}
-use Rattle.std.proofs.lemmas.Int.{ints}
-use Rattle.sm_explain.specs.Indices.{IsOf, Rise}
-use Rattle.sm_explain.specs.Merging.{first, lesser, past, AreMerging}
+use Rattle.sm_explain.proofs.Imports.{◌≡◌, ◌≢◌, ◌⊎◌, ◌+◌, ◌<◌, ◌≤◌, ℕ, zero, suc, ℤ, Bool, true, false, if◌then◌else◌, Option, Some, None, List, [], ◌∷◌, ◌++◌, length, drop, refl, sym, ap, subst, ◌∙◌, inl, inr, ⊎_elim, arith, drop_of_length-le, ◌<ℤ◌, ◌≤ℤ◌, int_lt, slice_get, int_eq, Decides-int_eq, not_from_Decides, ints, IsOf, Rise, first, lesser, past, AreMerging}
 
 -- an index behind all
 of_more : (xs : List ℤ) (i k : ℤ) → IsOf (xs ++ i ∷ []) k → IsOf xs k ⊎ (k ≡ i)

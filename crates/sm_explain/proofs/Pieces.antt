@@ -1,7 +1,5 @@
 -- Texts that are put one behind the other.
-use Rattle.std.proofs.Common.{◌≡◌, ◌+◌, ◌<◌, ◌≤◌, ℕ, List, ◌++◌, length, map, drop, get_or, sym, ap, ◌∙◌, append_assoc, append-nil, drop_of_length-le}
-use Rattle.std.specs.List.{concat}
-use Rattle.std.proofs.lemmas.List.{drop_more}
+use Rattle.sm_explain.proofs.Imports.{◌≡◌, ◌+◌, ◌<◌, ◌≤◌, ℕ, List, ◌++◌, length, map, drop, get_or, sym, ap, ◌∙◌, append_assoc, append-nil, drop_of_length-le, concat, drop_more}
 
 -- one text more is put, and one less is left
 pub pieces_more : {X : Type 0} (f : X → List ℕ) (xs : List X) (n : ℕ) (d : X) (old new whole : List ℕ) → n < length xs

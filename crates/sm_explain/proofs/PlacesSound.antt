@@ -1,8 +1,6 @@
 -- Where lines start and end.
-use Rattle.std.proofs.Common.{◌≡◌, ◌⊎◌, ◌+◌, ◌<◌, ◌≤◌, ℕ, List, length, sym, ap, ◌∙◌, ⊎_elim, arith}
-use Rattle.std.specs.Prelude.{slice_index}
+use Rattle.sm_explain.proofs.Imports.{◌≡◌, ◌⊎◌, ◌+◌, ◌<◌, ◌≤◌, ℕ, List, length, sym, ap, ◌∙◌, ⊎_elim, arith, slice_index, StartsLine, EndsLine, HasNoFeed, IsPlace}
 use Rattle.sm_explain.specs.declared.places.Place.{Place}
-use Rattle.sm_explain.specs.Places.{StartsLine, EndsLine, HasNoFeed, IsPlace}
 
 -- a line's two parts
 pub feed_both : (text : List ℕ) (from mid to : ℕ) → HasNoFeed text from mid → HasNoFeed text mid to → HasNoFeed text from to

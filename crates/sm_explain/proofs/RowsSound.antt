@@ -1,10 +1,6 @@
 -- The lines of a cell, part by part.
-use Rattle.std.proofs.Common.{◌≡◌, ℕ, ℤ, Bool, false, List, [], ◌++◌, if◌then◌else◌, sym, ap, ◌∙◌, append_assoc}
-use Rattle.sm_syntax.specs.claim.ConflictFree.{Copy, O, A, B, M}
-use Rattle.sm_syntax.specs.claim.Keeps.{Cell, content}
-use Rattle.sm_syntax.specs.claim.Stores.{Store}
+use Rattle.sm_explain.proofs.Imports.{◌≡◌, ℕ, ℤ, Bool, false, List, [], ◌++◌, if◌then◌else◌, sym, ap, ◌∙◌, append_assoc, Copy, O, A, B, M, Cell, content, Store, agree, loses_change, adds_change, said_if, sentences, values_text, rows, cell_rows}
 use Rattle.sm_explain.specs.Cells.{cell_text}
-use Rattle.sm_explain.specs.Rows.{agree, loses_change, adds_change, said_if, sentences, values_text, rows, cell_rows}
 
 -- three texts behind another
 pub put_three : (old p q new a b c : List ℕ) → p ≡ old ++ a → q ≡ p ++ b → new ≡ q ++ c → new ≡ old ++ (a ++ b ++ c)

@@ -1,11 +1,5 @@
 -- Declared names, one behind the other.
-use Rattle.std.proofs.Common.{◌≡◌, ◌≢◌, ◌==◌, ◌+◌, ◌<◌, ◌≤◌, ℕ, zero, suc, Bool, true, false, if◌then◌else◌, Some, None, List, [], ◌∷◌, ◌++◌, length, take, get_or, refl, sym, ap, subst, ◌∙◌, append_assoc, append-nil, take_all, arith}
-use Rattle.std.proofs.lemmas.List.{take_more, map-append}
-use Rattle.sm_syntax.specs.declared.tree.Name.{Name}
-use Rattle.sm_syntax.specs.declared.tree.Sort.{Sort}
-use Rattle.sm_syntax.specs.claim.Stores.{Store}
-use Rattle.sm_syntax.specs.text.Parts.{sort_of}
-use Rattle.sm_explain.specs.Starts.{numbered, AreValueLines, AreStartLines}
+use Rattle.sm_explain.proofs.Imports.{◌≡◌, ◌≢◌, ◌==◌, ◌+◌, ◌<◌, ◌≤◌, ℕ, zero, suc, Bool, true, false, if◌then◌else◌, Some, None, List, [], ◌∷◌, ◌++◌, length, take, get_or, refl, sym, ap, subst, ◌∙◌, append_assoc, append-nil, take_all, arith, take_more, map-append, Name, Sort, Store, sort_of, numbered, AreValueLines, AreStartLines}
 
 -- one name more
 lines_more : (names : List (List ℕ)) (s : Store) (declared : List (ℕ × Sort)) (d : ℕ × Sort) (text more : List ℕ)

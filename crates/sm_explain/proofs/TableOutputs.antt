@@ -1,27 +1,13 @@
 -- Outputs, one behind the other, and the whole table.
-use Rattle.std.proofs.Common.{◌≡◌, ◌+◌, ◌<◌, ◌≤◌, ℕ, true, None, List, [], ◌∷◌, ◌++◌, length, map, take, get_or, refl, sym, ap, subst, ◌∙◌, append_assoc, append-nil, take_all}
+use Rattle.sm_explain.proofs.Imports.{◌≡◌, ◌+◌, ◌<◌, ◌≤◌, ℕ, true, None, List, [], ◌∷◌, ◌++◌, length, map, take, get_or, refl, sym, ap, subst, ◌∙◌, append_assoc, append-nil, take_all, take_more, map-append, unwrap_or, Name, Copy, Scalar, number, Store, Code, Sorts, Sort, Num, held, sort, stored_value_of, meaning, sorts_of, code_in, end_in, HaveSort, cell_rows, AreOutputRows, AreRows}
 use Rattle.std.proofs.Math.Path.{fun_ext}
-use Rattle.std.proofs.lemmas.List.{take_more, map-append}
-use Rattle.std.specs.Option.{unwrap_or}
 use Rattle.sm_syntax.specs.declared.tree.Block.{Block}
-use Rattle.sm_syntax.specs.declared.tree.Name.{Name}
-use Rattle.sm_syntax.specs.claim.ConflictFree.{Copy}
-use Rattle.sm_syntax.specs.claim.Keeps.{Scalar}
-use Rattle.sm_syntax.specs.claim.Stores.{number, Store}
-use Rattle.sm_syntax.specs.claim.Syntax.{Code}
-use Rattle.sm_syntax.specs.text.Sorts.{Sorts}
-use Rattle.sm_syntax.specs.declared.tree.Sort.{Sort}
-use Rattle.sm_syntax.specs.declared.tree.Sort.TheVariants.{Num}
 use Rattle.sm_syntax.specs.trees.Copies.{of_copy}
 use Rattle.sm_syntax.specs.declared.copies.PerCopy.{PerCopy}
 use Rattle.sm_eval.specs.declared.stored_value.StoredValue.TheVariants as stored
 use Rattle.sm_eval.specs.declared.store.Store as code
-use Rattle.sm_eval.specs.StoredValues.{held, sort, stored_value_of, meaning, sorts_of}
 use Rattle.sm_eval.specs.declared.stored_value.StoredValue.{StoredValue}
 use Rattle.sm_replay.specs.FirstBreak.{sorted_by}
-use Rattle.sm_replay.specs.Runs.{code_in, end_in, HaveSort}
-use Rattle.sm_explain.specs.Rows.{cell_rows}
-use Rattle.sm_explain.specs.Tables.{AreOutputRows, AreRows}
 use Rattle.sm_explain.proofs.DifferentCells.{agree_at, zeros_agree}
 use Rattle.sm_replay.proofs.FirstBreakSound.{absent}
 

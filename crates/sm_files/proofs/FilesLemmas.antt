@@ -1,20 +1,8 @@
 -- What answers leave in the files.
-use Rattle.std.proofs.Common.{◌≡◌, ◌≢◌, ◌≤◌, ◌<◌, ◌⊎◌, inl, inr, ℕ, List, length, Some, Result, Ok, Err, IfOk, IfErr, refl, sym, ap, subst, ◌∙◌, arith}
-use Rattle.sm_io.specs.Causes.{HasCause, Rose}
-use Rattle.sm_io.specs.Files.{Known, absent, holds, emptied}
-use Rattle.sm_syntax.specs.text.Parts.{Parts}
-use Rattle.sm_syntax.specs.text.Spells.{Spells}
+use Rattle.sm_files.proofs.Imports.{◌≡◌, ◌≢◌, ◌≤◌, ◌<◌, ◌⊎◌, inl, inr, ℕ, List, length, Some, Result, Ok, Err, IfOk, IfErr, refl, sym, ap, subst, ◌∙◌, arith, HasCause, Rose, Known, absent, holds, emptied, Parts, Spells, ExitsWith, Exit, file_limit, GivesNoTask, GivesTask, Status, Accepted, WriteFault, HoldsFront, HoldsProof, IsTaskIn, LeavesCut, LeavesFront, LeavesProof, LeftBy, LeftCut, CountsWrites, EndsWith, Reply}
 use Rattle.sm_text.proofs.Complete.Tasks as text
-use Rattle.sm_answers.specs.Exit.{ExitsWith}
-use Rattle.sm_answers.specs.declared.exit.Exit.{Exit}
-use Rattle.sm_answers.specs.File.{file_limit, GivesNoTask, GivesTask}
-use Rattle.sm_answers.specs.declared.status.Status.{Status}
-use Rattle.sm_answers.specs.declared.status.Status.TheVariants.{Accepted, WriteFault}
-use Rattle.sm_files.specs.ProofFile.{HoldsFront, HoldsProof, IsTaskIn, LeavesCut, LeavesFront, LeavesProof, LeftBy, LeftCut}
-use Rattle.sm_files.specs.Views.{CountsWrites, EndsWith}
 use Rattle.sm_words.specs.Words.{Asked}
 use Rattle.sm_answers.specs.declared.exit.Exit.TheVariants as stopped
-use Rattle.sm_answers.specs.declared.status.Reply.{Reply}
 
 -- ---- results of commands
 

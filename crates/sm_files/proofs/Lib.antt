@@ -1,3 +1,4 @@
+mod Imports
 pub mod FilesLemmas
 pub mod Trimmed
 pub mod TrimmedFiles

@@ -1,8 +1,6 @@
 -- As many lines end as there are line feeds.
-use Rattle.std.proofs.Common.{◌≡◌, ◌==◌, ◌+◌, ℕ, Bool, true, false, if◌then◌else◌, List, [], ◌∷◌, length, cond, count_by, refl, arith}
+use Rattle.sm_files.proofs.Imports.{◌≡◌, ◌==◌, ◌+◌, ℕ, Bool, true, false, if◌then◌else◌, List, [], ◌∷◌, length, cond, count_by, refl, arith, FileLines, in_first_line, lines_in, line_count}
 use Rattle.std.proofs.lemmas.List.Recursion.{is_count_by}
-use Rattle.sm_proof.specs.Verdicts.{FileLines, in_first_line, lines_in}
-use Rattle.sm_files.specs.Trim.{line_count}
 
 -- a byte before a line or before what isn't ended ends none
 none_ended : (byte : ℕ) (lines : List (List ℕ)) (rest : List ℕ) → length (in_first_line byte lines rest).ended ≡ length lines

@@ -1,19 +1,10 @@
 -- What the answers of `trim` say.
-use Rattle.std.proofs.Common.{◌≡◌, ◌≢◌, inl, inr, ℕ, List, sym, subst, ◌∙◌, arith}
+use Rattle.sm_files.proofs.Imports.{◌≡◌, ◌≢◌, inl, inr, ℕ, List, sym, subst, ◌∙◌, arith, Known, WhereHeld, Read, Parts, task_of, Spells, Status, Accepted, Conflict, Unknown, Refused, Usage, ReadFault, Memory, SinkFault, WriteFault, fault_not_accepted, IsOfCommand, without_task, AnswersTrim, Trims, TrimsByReads, TrimsProof}
 use Rattle.sm_check.proofs.SpelledCheckable.{spelled_checkable}
-use Rattle.sm_io.specs.Files.{Known, WhereHeld}
-use Rattle.sm_io.specs.Reads.{Read}
 use Rattle.sm_proof.proofs.PassSound.{pass_free}
 use Rattle.sm_syntax.specs.claim.ConflictFree.{ConflictFree}
-use Rattle.sm_syntax.specs.text.Parts.{Parts, task_of}
-use Rattle.sm_syntax.specs.text.Spells.{Spells}
-use Rattle.sm_answers.specs.declared.status.Status.{Status}
-use Rattle.sm_answers.specs.declared.status.Status.TheVariants.{Accepted, Conflict, Unknown, Refused, Usage, ReadFault, Memory, SinkFault, WriteFault}
-use Rattle.sm_answers.proofs.Answering.{fault_not_accepted}
-use Rattle.sm_answers.proofs.Statuses.{IsOfCommand, without_task}
 use Rattle.sm_answers.specs.Merges.{IsProved, IsSafeMerge}
 use Rattle.sm_answers.specs.ReadFiles.{ReadsTwo}
-use Rattle.sm_files.specs.Trim.{AnswersTrim, Trims, TrimsByReads, TrimsProof}
 
 -- what every answer to `trim` says of its status
 pub record IsToTrim (before now : ℕ) (status : Status) : Type 0 where

@@ -1,18 +1,7 @@
 -- What `trim` leaves in the files.
-use Rattle.std.proofs.Common.{◌≡◌, ◌≢◌, ◌⊎◌, inl, inr, ℕ, List, Result, Ok, Err, IfOk, codes, sym, subst, ◌∙◌}
+use Rattle.sm_files.proofs.Imports.{◌≡◌, ◌≢◌, ◌⊎◌, inl, inr, ℕ, List, Result, Ok, Err, IfOk, sym, subst, ◌∙◌, HasCause, Rose, Known, emptied, longer, Passes, subject_of, HasUsedLines, Parts, HasVersion, Says, Reply, Status, Accepted, WriteFault, HoldsProof, IsTaskIn, LeavesProof, LeftBy, HoldsTrimmed, LeavesTrimmed, LeftTrimmed, TellsOfTask, TellsTrimmed, line_count, trimmed_line}
+use Rattle.std.proofs.Common.{codes}
 use Rattle.std.specs.declared.alloc.AllocError.{AllocError}
-use Rattle.sm_io.specs.Causes.{HasCause, Rose}
-use Rattle.sm_io.specs.Files.{Known, emptied, longer}
-use Rattle.sm_proof.specs.Verdicts.{Passes, subject_of}
-use Rattle.sm_prune.specs.UsedLines.{HasUsedLines}
-use Rattle.sm_syntax.specs.text.Parts.{Parts}
-use Rattle.sm_write.specs.Versions.{HasVersion}
-use Rattle.sm_answers.specs.Status.{Says}
-use Rattle.sm_answers.specs.declared.status.Reply.{Reply}
-use Rattle.sm_answers.specs.declared.status.Status.{Status}
-use Rattle.sm_answers.specs.declared.status.Status.TheVariants.{Accepted, WriteFault}
-use Rattle.sm_files.specs.ProofFile.{HoldsProof, IsTaskIn, LeavesProof, LeftBy}
-use Rattle.sm_files.specs.Trim.{HoldsTrimmed, LeavesTrimmed, LeftTrimmed, TellsOfTask, TellsTrimmed, line_count, trimmed_line}
 
 -- ---- a trimmed proof is one that `check` might leave
 

@@ -1,22 +1,7 @@
 -- The answers of `trim` to what was read.
-use Rattle.std.proofs.Common.{◌≡◌, ◌≤◌, inl, inr, ℕ, List, length, Result, Err, sym, subst}
-use Rattle.sm_io.specs.Files.{Known}
-use Rattle.sm_io.specs.Reads.{Read, ReadsWhole}
-use Rattle.sm_proof.specs.Verdicts.{Passes}
-use Rattle.sm_syntax.specs.text.Parts.{Parts}
-use Rattle.sm_answers.specs.Exit.{ExitsWith}
-use Rattle.sm_answers.specs.declared.exit.Exit.{Exit}
-use Rattle.sm_answers.specs.File.{GivesNoTask, GivesTask}
-use Rattle.sm_answers.specs.declared.status.Status.{Status}
-use Rattle.sm_answers.specs.declared.status.Status.TheVariants.{Accepted}
+use Rattle.sm_files.proofs.Imports.{◌≡◌, ◌≤◌, inl, inr, ℕ, List, length, Result, Err, sym, subst, Known, Read, ReadsWhole, Passes, Parts, ExitsWith, Exit, GivesNoTask, GivesTask, Status, Accepted, Reply, stops_by, without_task, LeavesFront, AnswersTrim, IsProofRead, LeavesTrimmed, Trims, TrimsByReads, trim_limit, EndsWith}
 use Rattle.sm_answers.specs.Readings.{ReadsTask}
 use Rattle.sm_answers.specs.declared.exit.Exit.TheVariants as stopped
-use Rattle.sm_answers.specs.declared.status.Reply.{Reply}
-use Rattle.sm_answers.proofs.Answering.{stops_by}
-use Rattle.sm_answers.proofs.Statuses.{without_task}
-use Rattle.sm_files.specs.ProofFile.{LeavesFront}
-use Rattle.sm_files.specs.Trim.{AnswersTrim, IsProofRead, LeavesTrimmed, Trims, TrimsByReads, trim_limit}
-use Rattle.sm_files.specs.Views.{EndsWith}
 
 -- ---- a proof's file that gives no bytes
 

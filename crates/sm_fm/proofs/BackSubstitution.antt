@@ -1,27 +1,13 @@
 -- A solution of the forms without an atom, and of the sums in which it cancels, gives one of all.
-use Rattle.std.proofs.Common.{◌≡◌, ◌⊎◌, inl, inr, ℕ, ◌*◌, ◌<◌, ◌==◌, ℤ, pos, negsuc, neg_ℤ, nat_abs, ◌+ℤ◌, ◌*ℤ◌, ◌≤ℤ◌, ◌<ℤ◌, Bool, true, false, not, ◌&&◌, ◌||◌, if◌then◌else◌, IsTrue, Option, Some, None, List, [], ◌∷◌, filter, refl, sym}
-use Rattle.std.proofs.Common.{ap, subst, ◌∙◌, ⊎_elim, arith, eq-zero-or-pos, mul-pos}
-use Rattle.std.specs.List.{find}
-use Rattle.std.specs.Ordering.{int_eq}
-use Rattle.std.proofs.lemmas.Bool.{cases_Bool, eqb-true, and_parts}
-use Rattle.std.proofs.lemmas.Bool.Decides.{Decides-int_eq}
-use Rattle.sm_num.specs.Forms.{Linear, Satisfies}
-use Rattle.sm_num.specs.declared.kind.Kind.{Kind}
-use Rattle.sm_num.specs.declared.kind.Kind.TheVariants.{Le, Eq}
-use Rattle.sm_num.specs.Combining.{Fits}
-use Rattle.sm_num.specs.Eliminating.{is_equation, is_negative, signs_alike, multipliers, kind_of_sum, eliminated}
-use Rattle.sm_num.proofs.RingLemmas.{sums, mul-neg_left, mul-neg_right}
-use Rattle.sm_num.proofs.SameAtomLemmas.{zero_test, not_both}
+use Rattle.sm_fm.proofs.Imports.{◌≡◌, ◌⊎◌, inl, inr, ℕ, ◌*◌, ◌<◌, ◌==◌, ℤ, pos, negsuc, neg_ℤ, nat_abs, ◌+ℤ◌, ◌*ℤ◌, ◌≤ℤ◌, ◌<ℤ◌, Bool, true, false, not, ◌&&◌, ◌||◌, if◌then◌else◌, IsTrue, Option, Some, None, List, [], ◌∷◌, refl, sym, ap, subst, ◌∙◌, ⊎_elim, arith, eq-zero-or-pos, mul-pos, find, int_eq, cases_Bool, eqb-true, and_parts, Decides-int_eq, Linear, Satisfies, Kind, Le, Eq, Fits, is_equation, is_negative, signs_alike, multipliers, kind_of_sum, eliminated, mul-neg_left, mul-neg_right, zero_test, not_both, multipliers_positive, Placed, has_atom, is_below, is_above, is_pivot, pairs_with, pairs, HoldsOver, not_true, negative_below, equation_is}
+use Rattle.std.proofs.Common.{filter}
+use Rattle.sm_num.proofs.RingLemmas.{sums}
 use Rattle.sm_num.proofs.EliminationSound.{multipliers_cancel}
-use Rattle.sm_num.proofs.EliminationParts.{multipliers_positive}
-use Rattle.sm_fm.specs.Elimination.{Placed, coefficient_at, has_atom, is_below, is_above, is_pivot, pairs_with, pairs}
-use Rattle.sm_fm.specs.Solutions.{HoldsOver}
+use Rattle.sm_fm.specs.Elimination.{coefficient_at}
 use Rattle.sm_fm.proofs.MembershipLemmas.{IsIn, in_filter, from_filter, found, not_found, in_map, in_crossed}
 use Rattle.sm_fm.proofs.BoundLemmas.{above_zero, below_zero, square_some, pivot_value, pivot_itself, bounds_cross, Greatest, greatest}
 use Rattle.sm_fm.proofs.ValueLemmas.{rest_over, raised, raised_value, raised_holds, sum_says}
 use Rattle.sm_fm.proofs.WithLemmas.{below_some}
-use Rattle.sm_lemmas.proofs.Tests.{not_true}
-use Rattle.sm_num.proofs.OneForm.{negative_below, equation_is}
 
 -- placed forms have a solution
 pub record SolutionOf (forms : List Placed) : Type 0 where

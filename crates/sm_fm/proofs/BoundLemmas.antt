@@ -1,13 +1,8 @@
 -- Whole numbers: what follows for two bounds of a value from their sum in which it cancels, and the
 -- greatest of lower bounds, compared by cross products.
-use Rattle.std.proofs.Common.{◌≡◌, inl, inr, ℕ, suc, ◌*◌, ◌<◌, ℤ, pos, negsuc, neg_ℤ, nat_abs, ◌+ℤ◌, ◌*ℤ◌, ◌≤ℤ◌, ◌<ℤ◌, List, [], ◌∷◌, refl, sym, ap, subst, ◌∙◌, ⊎_elim, arith, eq-zero-or-pos, mul-pos}
-use Rattle.std.proofs.lemmas.Int.{by_lt_z}
+use Rattle.sm_fm.proofs.Imports.{◌≡◌, inl, inr, ℕ, suc, ◌*◌, ◌<◌, ℤ, pos, negsuc, neg_ℤ, nat_abs, ◌+ℤ◌, ◌*ℤ◌, ◌≤ℤ◌, ◌<ℤ◌, List, [], ◌∷◌, refl, sym, ap, subst, ◌∙◌, ⊎_elim, arith, eq-zero-or-pos, mul-pos, by_lt_z, Satisfies, Kind, Le, ring, mul_zero, zero_mul, mul_mono, satisfies_times}
 use Rattle.std.specs.Int.Signed.{≤ℤ_refl}
-use Rattle.sm_num.specs.Forms.{Satisfies}
-use Rattle.sm_num.specs.declared.kind.Kind.{Kind}
-use Rattle.sm_num.specs.declared.kind.Kind.TheVariants.{Le}
-use Rattle.sm_num.proofs.RingLemmas.{sums, ring, mul_zero, zero_mul}
-use Rattle.sm_num.proofs.DivisionLemmas.{mul_mono, satisfies_times}
+use Rattle.sm_num.proofs.RingLemmas.{sums}
 use Rattle.sm_fm.proofs.MembershipLemmas.{IsIn}
 
 -- a number above 0 is a natural number above 0

@@ -1,9 +1,5 @@
 -- Pairs of places that are left, by the two places where the first of them stands.
-use Rattle.std.proofs.Common.{◌≡◌, ◌≢◌, ◌<◌, ◌≤◌, ◌+◌, ◌↔◌, ◌==◌, ℕ, true, List, [], ◌∷◌, length, get_or, drop, refl, sym, ap, ◌∙◌, ⊎_elim, arith}
-use Rattle.std.proofs.lemmas.Bool.{cases_eq}
-use Rattle.std.proofs.lemmas.Bool.Decides.{Decides-eqb}
-use Rattle.std.proofs.lemmas.List.{drop_more, drop_all}
-use Rattle.sm_fm.specs.Places.{crossed_from, crossed_places}
+use Rattle.sm_fm.proofs.Imports.{◌≡◌, ◌≢◌, ◌<◌, ◌≤◌, ◌+◌, ◌↔◌, ◌==◌, ℕ, true, List, [], ◌∷◌, length, get_or, drop, refl, sym, ap, ◌∙◌, ⊎_elim, arith, cases_eq, Decides-eqb, drop_more, drop_all, crossed_from, crossed_places}
 
 -- where the first places are all done, no pair is left
 none_left : (fs gs : List ℕ) (i j : ℕ) → length fs ≤ i → crossed_from (drop i fs) (drop j gs) gs ≡ []

@@ -1,11 +1,7 @@
 -- Eliminations worked by hand and by the definitions.
-use Rattle.std.proofs.Common.{◌≡◌, ℕ, ℤ, pos, negsuc, true, false, List, [], ◌∷◌, refl}
+use Rattle.sm_fm.proofs.Imports.{◌≡◌, ℕ, ℤ, pos, negsuc, true, false, List, [], ◌∷◌, refl, Linear, Kind, Le, Eq, Cancels, GoesBeyond, events}
 use Rattle.sm_num.specs.declared.op.Op.TheVariants.{Add}
-use Rattle.sm_num.specs.Forms.{Linear}
-use Rattle.sm_num.specs.declared.kind.Kind.{Kind}
-use Rattle.sm_num.specs.declared.kind.Kind.TheVariants.{Le, Eq}
 use Rattle.sm_num.specs.Eliminating.{gcd}
-use Rattle.sm_fm.specs.Elimination.{Cancels, GoesBeyond, events}
 
 -- a form
 abbrev form : List (ℕ × ℤ) → ℤ → Kind → Linear ℕ

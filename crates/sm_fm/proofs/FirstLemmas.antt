@@ -1,20 +1,8 @@
 -- The places of forms by the atoms with which they begin.
-use Rattle.std.proofs.Common.{◌≡◌, ◌≢◌, ◌<◌, ◌≤◌, ◌+◌, ◌==◌, ⊎_elim, ℕ, ℤ, pos, Bool, true, false, ◌&&◌, not, cond, List, [], ◌∷◌, ◌++◌, map, length, get_or, set, take, Vec, refl, sym, ap, subst, ◌∙◌, arith}
-use Rattle.std.specs.List.{filter, range_with_len, All}
-use Rattle.std.specs.Ordering.{int_eq}
+use Rattle.sm_fm.proofs.Imports.{◌≡◌, ◌≢◌, ◌<◌, ◌≤◌, ◌+◌, ◌==◌, ⊎_elim, ℕ, ℤ, pos, Bool, true, false, ◌&&◌, not, cond, List, [], ◌∷◌, ◌++◌, map, length, get_or, set, take, Vec, refl, sym, ap, subst, ◌∙◌, arith, range_with_len, All, int_eq, cases_eq, cases_lt, Decides-eqb, map-id, length_push, length-set, length-map, get_or_push, get_or-map, get_or-set_same, get_or-set_other, map-set, map_push, set-get_or, set_past, nil_from_length, length-take-le, take_more, All-filter, All-head, All-tail, filter-append, filter_passes, Linear, coefficient, AreParts, same_atom, other_test, Placed, has_atom, placed_from, has, has_none_before, begins_with, BeginsAt, standing, beginning, beginnings, lists_in, put_at, ListsFirsts, no_form, form_at, placed_at, AreWithin, Lacks}
+use Rattle.std.specs.List.{filter}
 use Rattle.std.specs.declared.alloc.Global.{Global}
-use Rattle.std.proofs.lemmas.Bool.{cases_eq, cases_lt}
-use Rattle.std.proofs.lemmas.Bool.Decides.{Decides-eqb}
-use Rattle.std.proofs.lemmas.List.{map-id, length_push, length-set, length-map, get_or_push, get_or-map, get_or-set_same, get_or-set_other, map-set, map_push, set-get_or, set_past, nil_from_length, length-take-le, take_more}
-use Rattle.std.proofs.lemmas.List.Elements.{All-filter, All-head, All-tail, filter-append, filter_passes}
 use Rattle.std.proofs.lemmas.List.FromFn.{length-range_with_len, get_or-range_with_len, map-range_with_len_more, length-map-range_with_len, get_or-map-range_with_len, fill_by_all}
-use Rattle.sm_num.specs.Forms.{Linear, coefficient, AreParts}
-use Rattle.sm_num.specs.FormLaws.{same_atom}
-use Rattle.sm_num.proofs.SameAtomLemmas.{other_test}
-use Rattle.sm_fm.specs.Elimination.{Placed, has_atom, placed_from}
-use Rattle.sm_fm.specs.Firsts.{has, has_none_before, begins_with, BeginsAt, standing, beginning, beginnings, lists_in, put_at, ListsFirsts}
-use Rattle.sm_fm.specs.Places.{no_form, form_at, placed_at, AreWithin}
-use Rattle.sm_fm.specs.States.{Lacks}
 use Rattle.sm_fm.proofs.PlaceLemmas.{map-filter, placed_are, form_stays, and_first}
 use Rattle.sm_fm.proofs.StandingLemmas.{chosen_twice, lacks_told, told_lacks}
 use Rattle.sm_num.proofs.KeptForms.{coefficient_below, coefficient_first}

@@ -1,10 +1,6 @@
 -- Atoms with which no form begins are passed over at once.
-use Rattle.std.proofs.Common.{◌≡◌, ◌<◌, ◌≤◌, ◌+◌, ◌-◌, ℕ, zero, suc, List, [], map, length, refl, sym, ap, ◌∙◌, arith}
-use Rattle.sm_num.specs.Forms.{Linear}
-use Rattle.sm_fm.specs.Elimination.{Placed, pairs, sums, taken_out}
-use Rattle.sm_fm.specs.Firsts.{standing, beginning}
-use Rattle.sm_fm.specs.Places.{placed_at, both_at, place_pairs}
-use Rattle.sm_fm.specs.States.{later_atoms, left_of}
+use Rattle.sm_fm.proofs.Imports.{◌≡◌, ◌<◌, ◌≤◌, ◌+◌, ◌-◌, ℕ, zero, suc, List, [], map, length, refl, sym, ap, ◌∙◌, arith, Linear, Placed, pairs, taken_out, standing, beginning, placed_at, both_at, place_pairs, later_atoms, left_of}
+use Rattle.sm_fm.specs.Elimination.{sums}
 use Rattle.sm_fm.proofs.FirstLemmas.{beginning_is}
 use Rattle.sm_fm.proofs.PlaceLemmas.{pairs_are}
 use Rattle.sm_fm.proofs.StandingLemmas.{others_stand}

@@ -1,21 +1,6 @@
 -- What a set knows of forms, and which atoms a sum lacks.
-use Rattle.std.proofs.Common.{◌≡◌, ◌≢◌, ⊎_elim, ℕ, suc, Bool, true, false, ◌||◌, [], ◌∷◌, ◌++◌, Result, Ok, Err, List, refl, sym, ap, ◌∙◌, arith}
-use Rattle.std.specs.List.{list_any}
-use Rattle.std.specs.Result.{IfOk}
-use Rattle.std.proofs.lemmas.Bool.{cases_eq}
-use Rattle.std.proofs.lemmas.Bool.Decides.{same_from_decides}
-use Rattle.std.proofs.lemmas.List.Folds.{list_any-append}
-use Rattle.sm_num.specs.Forms.{Linear, coefficient, IsKept}
-use Rattle.sm_num.specs.FormLaws.{same_atom}
-use Rattle.sm_num.specs.Eliminating.{eliminated}
+use Rattle.sm_fm.proofs.Imports.{◌≡◌, ◌≢◌, ⊎_elim, ℕ, suc, Bool, true, false, ◌||◌, [], ◌∷◌, ◌++◌, Result, Ok, Err, List, refl, sym, ap, ◌∙◌, arith, list_any, IfOk, cases_eq, same_from_decides, list_any-append, Linear, coefficient, IsKept, same_atom, eliminated, NumError, eliminated_takes_atom, eliminated_adds_no_atom, same_form, Known, Learns, KnowsAll, same_form-Decides, Lacks}
 use Rattle.sm_num.specs.Errors.{Returns}
-use Rattle.sm_num.specs.declared.error.NumError.{NumError}
-use Rattle.sm_num.proofs.KeptLemmas.{eliminated_takes_atom, eliminated_adds_no_atom}
-use Rattle.sm_fm.specs.Elimination.{same_form}
-use Rattle.sm_fm.specs.declared.known.Known.{Known}
-use Rattle.sm_fm.specs.Known.{Learns, KnowsAll}
-use Rattle.sm_fm.specs.KnownLaws.{same_form-Decides}
-use Rattle.sm_fm.specs.States.{Lacks}
 
 -- a choice of two, the other way round
 pub or_turns : (x y b : Bool) → x ≡ y → (x || b) ≡ (b || (y || false))

@@ -1,3 +1,4 @@
+mod Imports
 pub mod CoefficientLemmas
 pub mod CrossedLemmas
 pub mod FirstLemmas

@@ -1,8 +1,6 @@
 -- What stands in lists that are chosen from others, crossed, mapped and put together.
-use Rattle.std.proofs.Common.{◌≡◌, ◌⊎◌, inl, inr, ℕ, ◌==◌, Bool, true, false, ◌&&◌, ◌||◌, not, if◌then◌else◌, Option, Some, None, List, [], ◌∷◌, ◌++◌, map, filter, refl, sym, ap, subst, ⊎_elim}
-use Rattle.std.specs.List.{find, list_any}
-use Rattle.sm_num.proofs.SameAtomLemmas.{not_both}
-use Rattle.sm_fm.specs.Elimination.{Placed, has_atom, is_below, is_above, is_pivot, crossed, pairs_with, pairs}
+use Rattle.sm_fm.proofs.Imports.{◌≡◌, ◌⊎◌, inl, inr, ℕ, ◌==◌, Bool, true, false, ◌&&◌, ◌||◌, not, if◌then◌else◌, Option, Some, None, List, [], ◌∷◌, ◌++◌, map, refl, sym, ap, subst, ⊎_elim, find, list_any, not_both, Placed, has_atom, is_below, is_above, is_pivot, crossed, pairs_with, pairs}
+use Rattle.std.proofs.Common.{filter}
 
 -- something is an element of a list
 abbrev pub IsIn : {X : Type 0} → X → List X → Type 0

@@ -1,15 +1,8 @@
 -- Forms by their places, and the pairs in which an atom cancels.
-use Rattle.std.proofs.Common.{◌≡◌, ◌<◌, ◌+◌, ◌==◌, ℕ, suc, ℤ, pos, negsuc, Bool, true, false, ◌&&◌, ◌||◌, not, IsTrue, cond, Option, Some, None, option_map, List, [], ◌∷◌, ◌++◌, map, length, get_or, drop, refl, sym, ap, subst, ◌∙◌, arith}
-use Rattle.std.specs.List.{filter, find, range_with_len, All}
-use Rattle.std.specs.Ordering.{int_eq}
-use Rattle.std.proofs.lemmas.List.{map-append, get_or_append_left, get_or-drop, drop-drop}
-use Rattle.std.proofs.lemmas.List.Elements.{All-nil, All-cons, All-head, All-tail, All-append, All-map, All-filter, All-weaker, filter_passes}
-use Rattle.sm_num.specs.Forms.{Linear}
-use Rattle.sm_num.specs.Tightening.{has_no_part}
-use Rattle.sm_num.specs.Eliminating.{is_equation, is_negative, signs_alike}
-use Rattle.sm_fm.specs.Elimination.{Placed, has_atom, is_below, is_above, is_pivot, crossed, pairs_with, pairs, placed_from, coefficient_at}
+use Rattle.sm_fm.proofs.Imports.{◌≡◌, ◌<◌, ◌+◌, ◌==◌, ℕ, suc, ℤ, pos, negsuc, Bool, true, false, ◌&&◌, ◌||◌, not, IsTrue, cond, Option, Some, None, option_map, List, [], ◌∷◌, ◌++◌, map, length, get_or, drop, refl, sym, ap, subst, ◌∙◌, arith, find, range_with_len, All, int_eq, map-append, get_or_append_left, get_or-drop, drop-drop, All-nil, All-cons, All-head, All-tail, All-append, All-map, All-filter, All-weaker, filter_passes, Linear, has_no_part, is_equation, is_negative, signs_alike, Placed, has_atom, is_below, is_above, is_pivot, crossed, pairs_with, pairs, placed_from, no_form, form_at, placed_at, both_at, places_of, crossed_places, place_pairs_with, pivot_place, place_pairs, AreWithin, IsPair}
+use Rattle.std.specs.List.{filter}
+use Rattle.sm_fm.specs.Elimination.{coefficient_at}
 use Rattle.sm_fm.specs.declared.roles.Role.TheVariants.{Below, Above, Beside}
-use Rattle.sm_fm.specs.Places.{no_form, form_at, placed_at, both_at, places_of, crossed_places, place_pairs_with, pivot_place, place_pairs, AreWithin, IsPair}
 
 -- a choice goes through a function
 filter_step : (p : ℕ → Placed) (b : Bool) (n : ℕ) (ns : List ℕ) (rest : List Placed) → map p ns ≡ rest →

@@ -1,16 +1,10 @@
 -- Where an elimination ends quietly its forms have a solution: at the end each form says something
 -- true of no atom, and each atom before is given a value.
-use Rattle.std.proofs.Common.{◌≡◌, inl, inr, ℕ, zero, suc, ◌+◌, ◌<◌, ◌≤◌, ℤ, pos, true, false, not, List, [], ◌∷◌, length, refl, sym, ap, subst, ◌∙◌, arith}
-use Rattle.sm_num.specs.Forms.{Linear}
-use Rattle.sm_num.specs.Tightening.{has_no_part, is_contradictory}
-use Rattle.sm_num.proofs.ResultsReduced.{AreAmong}
-use Rattle.sm_fm.specs.Elimination.{Placed, has_atom, pairs, forms_without, taken_out, placed_from}
-use Rattle.sm_fm.specs.Solutions.{EachForm, HoldsOver, AreBelow, IsGiven, AreQuiet, QuietHasSolution}
+use Rattle.sm_fm.proofs.Imports.{◌≡◌, inl, inr, ℕ, zero, suc, ◌+◌, ◌<◌, ◌≤◌, ℤ, pos, true, false, not, List, [], ◌∷◌, length, refl, sym, ap, subst, ◌∙◌, arith, Linear, has_no_part, is_contradictory, AreAmong, Placed, has_atom, pairs, forms_without, taken_out, placed_from, EachForm, HoldsOver, AreBelow, IsGiven, AreQuiet, QuietHasSolution, not_true}
 use Rattle.sm_fm.proofs.MembershipLemmas.{IsIn, in_filter, from_pairs}
 use Rattle.sm_fm.proofs.ValueLemmas.{partless_holds}
 use Rattle.sm_fm.proofs.BackSubstitution.{SolutionOf, AreApart, atom_solves}
 use Rattle.sm_fm.proofs.SummedLemmas.{IsSane, IsState, AreSummed, summed, state_without}
-use Rattle.sm_lemmas.proofs.Tests.{not_true}
 
 -- forms over no atom have any solution
 none_left : (t atoms : ℕ) (forms : List Placed) (count : ℕ) → t ≡ atoms → IsState t atoms forms count → SolutionOf forms

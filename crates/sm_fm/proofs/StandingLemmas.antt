@@ -1,16 +1,6 @@
 -- The forms that stand, from one atom to the next and as the list grows.
-use Rattle.std.proofs.Common.{◌≡◌, ◌≢◌, ◌+◌, ⊎_elim, ℕ, zero, suc, ℤ, pos, Bool, true, false, ◌&&◌, ◌||◌, not, cond, List, [], ◌∷◌, ◌++◌, length, refl, sym, ap, ◌∙◌, arith}
-use Rattle.std.specs.List.{filter, list_any}
-use Rattle.std.specs.Ordering.{int_eq}
-use Rattle.std.proofs.lemmas.Bool.{cases_eq, cases_Bool}
-use Rattle.std.proofs.lemmas.Bool.Decides.{Decides-int_eq}
-use Rattle.std.proofs.lemmas.List.Elements.{filter-append}
-use Rattle.sm_num.specs.Forms.{Linear, coefficient}
-use Rattle.sm_num.specs.FormLaws.{same_atom}
-use Rattle.sm_fm.specs.Elimination.{Placed, same_form, has_atom, forms_without, placed_from}
-use Rattle.sm_fm.specs.Firsts.{has, has_none_before, standing}
-use Rattle.sm_fm.specs.KnownLaws.{same_form-Decides}
-use Rattle.sm_fm.specs.States.{Lacks}
+use Rattle.sm_fm.proofs.Imports.{◌≡◌, ◌≢◌, ◌+◌, ⊎_elim, ℕ, zero, suc, ℤ, pos, Bool, true, false, ◌&&◌, ◌||◌, not, cond, List, [], ◌∷◌, ◌++◌, length, refl, sym, ap, ◌∙◌, arith, list_any, int_eq, cases_eq, cases_Bool, Decides-int_eq, filter-append, Linear, coefficient, same_atom, Placed, same_form, has_atom, forms_without, placed_from, has, has_none_before, standing, same_form-Decides, Lacks}
+use Rattle.std.specs.List.{filter}
 use Rattle.sm_fm.proofs.PlaceLemmas.{and_first, and_second}
 
 module _ {X : Type 0} (first second : X → Bool) where

@@ -1,15 +1,6 @@
 -- What is left of a state as it goes on.
-use Rattle.std.proofs.Common.{◌≡◌, ◌<◌, ◌-◌, ℕ, zero, suc, IsTrue, List, [], ◌∷◌, ◌++◌, map, length, sym, ap, subst, ◌∙◌, arith}
-use Rattle.std.specs.List.{All}
-use Rattle.std.proofs.lemmas.List.{length_push}
-use Rattle.std.proofs.lemmas.List.Elements.{All-weaker}
-use Rattle.sm_num.specs.Forms.{Linear}
-use Rattle.sm_num.specs.FormLaws.{same_atom}
-use Rattle.sm_num.specs.Eliminating.{can_cancel}
-use Rattle.sm_fm.specs.Elimination.{Placed, pairs, sums, events}
-use Rattle.sm_fm.specs.Firsts.{standing, beginning}
-use Rattle.sm_fm.specs.Places.{form_at, both_at, place_pairs, AreWithin}
-use Rattle.sm_fm.specs.States.{later_atoms, after_sum, left_of, IsPairOf, Lacks}
+use Rattle.sm_fm.proofs.Imports.{◌≡◌, ◌<◌, ◌-◌, ℕ, zero, suc, IsTrue, List, [], ◌∷◌, ◌++◌, map, length, sym, ap, subst, ◌∙◌, arith, All, length_push, All-weaker, Linear, same_atom, can_cancel, Placed, pairs, events, standing, beginning, form_at, both_at, place_pairs, AreWithin, later_atoms, after_sum, left_of, IsPairOf, Lacks}
+use Rattle.sm_fm.specs.Elimination.{sums}
 use Rattle.sm_fm.proofs.FirstLemmas.{beginning_within, beginning_lacks}
 use Rattle.sm_fm.proofs.JumpLemmas.{pairs_begin}
 use Rattle.sm_fm.proofs.PlaceLemmas.{map-agree, form_stays, placed_stays, pairs_cancel, pairs_have}

@@ -1,19 +1,9 @@
 -- What a step gives, by how the sum of its pair was dealt with.
-use Rattle.std.proofs.Common.{◌≡◌, ℕ, Some, List, [], ◌∷◌, ◌++◌, Result, Ok, Err, if◌then◌else◌, sym, ap, ◌∙◌}
-use Rattle.std.specs.List.{slice_get}
-use Rattle.sm_num.specs.declared.error.NumError.{NumError}
+use Rattle.sm_fm.proofs.Imports.{◌≡◌, ℕ, Some, List, [], ◌∷◌, ◌++◌, Result, Ok, Err, if◌then◌else◌, sym, ap, ◌∙◌, slice_get, NumError, Linear, eliminated, State, Cancels, no_form, form_at, Taking, Gives, events_left, events_of_sum, taking, TakesPair, Finishes, slice_get-get_or}
 use Rattle.sm_num.specs.declared.error.NumError.TheVariants.{Beyond, Memory}
-use Rattle.sm_num.specs.Forms.{Linear}
-use Rattle.sm_num.specs.Eliminating.{eliminated}
 use Rattle.sm_term.specs.declared.term.TermId.{TermId}
 use Rattle.sm_fm.specs.declared.step.ElimStep.{ElimStep}
 use Rattle.sm_fm.specs.declared.step.ElimStep.TheVariants.{Line, End}
-use Rattle.sm_fm.specs.declared.state.State.{State}
-use Rattle.sm_fm.specs.Elimination.{Cancels}
-use Rattle.sm_fm.specs.Places.{no_form, form_at}
-use Rattle.sm_fm.specs.Taking.{Taking, Gives}
-use Rattle.sm_fm.specs.States.{events_left, events_of_sum, taking, TakesPair, Finishes}
-use Rattle.std.proofs.lemmas.Option.{slice_get-get_or}
 
 -- the sum of the first pair is the next event
 pub gives_sum : (old mid new : State) (p : ℕ × ℕ) (atom : TermId) (result : Result ElimStep NumError) → TakesPair old mid p →

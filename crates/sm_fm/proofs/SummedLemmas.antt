@@ -1,26 +1,9 @@
 -- While an atom is taken out: each pair has its sum, and what was true of the forms stays so.
-use Rattle.std.proofs.Common.{◌≡◌, ◌⊎◌, inl, inr, ℕ, suc, ◌<◌, ◌≤◌, ◌==◌, ℤ, pos, Bool, true, false, not, ◌&&◌, if◌then◌else◌, List, [], ◌∷◌, ◌++◌, refl, sym, ap, subst, ◌∙◌, ⊎_elim, arith}
-use Rattle.std.specs.List.{list_any}
-use Rattle.std.specs.Ordering.{int_eq}
-use Rattle.std.proofs.lemmas.Bool.{eqb-true, eqb-false, and_parts}
-use Rattle.std.proofs.lemmas.Bool.Decides.{Decides-int_eq}
-use Rattle.sm_num.specs.Forms.{Linear, IsKept, coefficient}
-use Rattle.sm_num.specs.declared.kind.Kind.{Kind}
-use Rattle.sm_num.specs.declared.kind.Kind.TheVariants.{Le, Eq}
-use Rattle.sm_num.specs.FormLaws.{same_atom}
-use Rattle.sm_num.specs.Combining.{Outcome, Fits, Leaves}
-use Rattle.sm_num.specs.Eliminating.{eliminated}
-use Rattle.sm_num.specs.Tightening.{has_no_part, is_contradictory}
-use Rattle.sm_num.proofs.OutcomeLemmas.{gives_fits}
-use Rattle.sm_num.proofs.SameAtomLemmas.{IsApart, same_atom_sound, zero_test, zero_apart}
-use Rattle.sm_num.proofs.ResultsReduced.{AreAmong}
-use Rattle.sm_num.proofs.KeptLemmas.{parts_reduced, eliminated_is_kept, eliminated_among, eliminated_takes_atom}
-use Rattle.sm_fm.specs.Elimination.{Placed, Cancels, same_list, same_kind, same_form, has_atom, is_new, Next, with_sum, sums, forms_without}
-use Rattle.sm_fm.specs.Solutions.{HoldsOver, AreQuiet}
+use Rattle.sm_fm.proofs.Imports.{◌≡◌, ◌⊎◌, inl, inr, ℕ, suc, ◌<◌, ◌≤◌, ◌==◌, ℤ, pos, Bool, true, false, not, ◌&&◌, if◌then◌else◌, List, [], ◌∷◌, ◌++◌, refl, sym, ap, subst, ◌∙◌, ⊎_elim, arith, list_any, int_eq, eqb-true, eqb-false, and_parts, Decides-int_eq, Linear, IsKept, coefficient, Kind, Le, Eq, same_atom, Outcome, Fits, Leaves, eliminated, has_no_part, is_contradictory, gives_fits, IsApart, same_atom_sound, zero_test, zero_apart, AreAmong, parts_reduced, eliminated_is_kept, eliminated_among, eliminated_takes_atom, Placed, Cancels, same_list, same_kind, same_form, has_atom, is_new, Next, with_sum, forms_without, HoldsOver, AreQuiet, not_true}
+use Rattle.sm_fm.specs.Elimination.{sums}
 use Rattle.sm_fm.proofs.MembershipLemmas.{IsIn, from_filter, in_first, in_second, from_both, some_passes}
 use Rattle.sm_fm.proofs.ValueLemmas.{partless_holds}
 use Rattle.sm_fm.proofs.BackSubstitution.{AreApart, none_there}
-use Rattle.sm_lemmas.proofs.Tests.{not_true}
 
 -- equal tests, equal forms
 same_list_is : (ps qs : List (ℕ × ℤ)) → same_list ps qs ≡ true → ps ≡ qs

@@ -1,24 +1,9 @@
 -- Values of forms over a common denominator: at an atom and elsewhere, where all are multiplied, and
 -- for a sum in which an atom cancels.
-use Rattle.std.proofs.Common.{◌≡◌, ℕ, ◌*◌, ◌<◌, ℤ, pos, negsuc, ◌+ℤ◌, ◌*ℤ◌, ◌≤ℤ◌, Bool, true, false, not, ◌&&◌, if◌then◌else◌, List, [], ◌∷◌, refl, sym, ap, subst, ◌∙◌, arith}
-use Rattle.std.specs.Ordering.{int_eq}
-use Rattle.std.proofs.lemmas.Bool.{ltb-false}
-use Rattle.std.proofs.lemmas.Bool.Decides.{Decides-int_eq}
+use Rattle.sm_fm.proofs.Imports.{◌≡◌, ℕ, ◌*◌, ◌<◌, ℤ, pos, negsuc, ◌+ℤ◌, ◌*ℤ◌, ◌≤ℤ◌, Bool, true, false, not, ◌&&◌, if◌then◌else◌, List, [], ◌∷◌, refl, sym, ap, subst, ◌∙◌, arith, int_eq, ltb-false, Decides-int_eq, Linear, Satisfies, sum_of_parts, coefficient, parts_without, without, Kind, Le, Eq, same_atom, Fits, multipliers, kind_of_sum, eliminated, has_no_part, fails, is_contradictory, ring, mul_zero, zero_mul, gives_fits, IsApart, same_atom_sound, same_atom_reflexive, without_apart, mul_mono, satisfies_times, SumsTo, eliminated_sums_to, HoldsOver}
 use lib.IntN.{*ℤ_comm}
-use Rattle.sm_num.specs.Forms.{Linear, Satisfies, sum_of_parts, coefficient, parts_without, without}
-use Rattle.sm_num.specs.declared.kind.Kind.{Kind}
-use Rattle.sm_num.specs.declared.kind.Kind.TheVariants.{Le, Eq}
-use Rattle.sm_num.specs.FormLaws.{same_atom}
-use Rattle.sm_num.specs.Combining.{Fits}
-use Rattle.sm_num.specs.Eliminating.{multipliers, kind_of_sum, eliminated}
-use Rattle.sm_num.specs.Tightening.{has_no_part, fails, is_contradictory}
-use Rattle.sm_num.proofs.RingLemmas.{sums, ring, mul_zero, zero_mul}
-use Rattle.sm_num.proofs.OutcomeLemmas.{gives_fits}
-use Rattle.sm_num.proofs.SameAtomLemmas.{IsApart, same_atom_sound, same_atom_reflexive, without_apart}
-use Rattle.sm_num.proofs.DivisionLemmas.{mul_mono, satisfies_times}
+use Rattle.sm_num.proofs.RingLemmas.{sums}
 use Rattle.sm_num.proofs.FormValues.{sum_without}
-use Rattle.sm_num.proofs.EliminationParts.{SumsTo, eliminated_sums_to}
-use Rattle.sm_fm.specs.Solutions.{HoldsOver}
 
 -- a form's value over a denominator
 abbrev pub value_over : ℕ → (ℕ → ℤ) → Linear ℕ → ℤ

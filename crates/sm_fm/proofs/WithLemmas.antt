@@ -1,9 +1,7 @@
 -- The pairs in which an atom cancels are those of the forms that have it.
-use Rattle.std.proofs.Common.{◌≡◌, ◌==◌, ℕ, ℤ, pos, negsuc, Bool, true, false, not, cond, ◌&&◌, Option, Some, None, List, [], ◌∷◌, map, refl, ap, ◌∙◌}
-use Rattle.std.specs.List.{filter, find}
-use Rattle.std.specs.Ordering.{int_eq}
-use Rattle.sm_num.specs.Eliminating.{is_equation, is_negative}
-use Rattle.sm_fm.specs.Elimination.{Placed, coefficient_at, has_atom, is_below, is_above, is_pivot, crossed, pairs_with, pairs}
+use Rattle.sm_fm.proofs.Imports.{◌≡◌, ◌==◌, ℕ, ℤ, pos, negsuc, Bool, true, false, not, cond, ◌&&◌, Option, Some, None, List, [], ◌∷◌, map, refl, ap, ◌∙◌, find, int_eq, is_equation, is_negative, Placed, has_atom, is_below, is_above, is_pivot, crossed, pairs_with, pairs}
+use Rattle.std.specs.List.{filter}
+use Rattle.sm_fm.specs.Elimination.{coefficient_at}
 use Rattle.sm_fm.proofs.PlaceLemmas.{and_first, and_second}
 
 module _ (test wide : Placed → Bool) (more : (f : Placed) → test f ≡ true → wide f ≡ true) where

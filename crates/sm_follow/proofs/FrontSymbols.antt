@@ -1,12 +1,6 @@
 -- The tokens of a front have the symbols that they have in it alone, whatever stands behind it.
-use Rattle.std.proofs.Common.{◌≡◌, ℕ, ◌+◌, ◌≤◌, Bool, true, None, Option, List, [], ◌∷◌, ◌++◌, map, length, take, drop, refl, sym, ap, ap₂, ◌∙◌, subst, arith}
-use Rattle.std.proofs.lemmas.List.{take-append-le, drop-append-le, length-drop}
-use Rattle.std.specs.List.{AllByRecursion}
-use Rattle.sm_syntax.specs.declared.symbol.Symbol.{Symbol}
-use Rattle.sm_syntax.specs.text.Symbols.{text_of, is_among, is_name, names_after, names_among, names_of, symbol_by, symbol_of, symbols_among, symbols_of}
-use Rattle.sm_syntax.specs.text.Tokens.{Lexed, lexed}
-use Rattle.sm_syntax.specs.declared.token.Token.{Token}
-use Rattle.sm_syntax.specs.declared.token.LexFault.{LexFault}
+use Rattle.sm_follow.proofs.Imports.{◌≡◌, ℕ, ◌+◌, ◌≤◌, Bool, true, None, Option, List, [], ◌∷◌, ◌++◌, map, length, take, drop, refl, sym, ap, ap₂, ◌∙◌, subst, arith, take-append-le, drop-append-le, length-drop, AllByRecursion, Symbol, text_of, is_among, is_name, names_after, symbol_by, Lexed, lexed, Token, LexFault}
+use Rattle.sm_syntax.specs.text.Symbols.{names_among, names_of, symbol_of, symbols_among, symbols_of}
 use Rattle.sm_text.specs.parsing.Fragments.{IsKnown}
 use Rattle.sm_text.specs.resolving.TokenTexts.{IsTokenOf}
 use Rattle.sm_text.proofs.Cut.Lexing.{IsTokenOf-lexed}

@@ -1,18 +1,10 @@
 -- Where a text is cut before one of its tokens, its front has the tokens before, whatever stands on a line behind it.
-use Rattle.std.proofs.Common.{◌≡◌, ℕ, ◌+◌, ◌<◌, Bool, true, false, true≢false, Option, Some, None, is_some, option_map, List, [], ◌∷◌, ◌++◌, length, length-append, append_assoc, if◌then◌else◌, refl, sym, ap, subst, ◌∙◌, arith}
+use Rattle.sm_follow.proofs.Imports.{◌≡◌, ℕ, ◌+◌, ◌<◌, Bool, true, false, true≢false, Option, Some, None, is_some, option_map, List, [], ◌∷◌, ◌++◌, length, length-append, append_assoc, if◌then◌else◌, refl, sym, ap, subst, ◌∙◌, arith, find, list_all, Table, entry, lexed, is_in_line, is_word_byte, TokenKind, Word, Number, Sign, Token, LexFault, begins, IsToken, Ends, IsCutInto, end, space, comment, token, fault, tokens_are_cut, both-left, both-right}
 use Rattle.std.proofs.lemmas.Slice.Eq.{bytes_eq-Decides}
-use Rattle.std.specs.List.{find, list_all}
 use Rattle.std.specs.Str.{bytes_eq}
 use Rattle.sm_syntax.specs.declared.symbol.Mark.{Mark}
-use Rattle.sm_syntax.specs.text.Tokens.{Table, entry, signs, lexed, mark_of_sign, is_in_line, is_word_byte}
-use Rattle.sm_syntax.specs.declared.token.TokenKind.{TokenKind}
-use Rattle.sm_syntax.specs.declared.token.TokenKind.TheVariants.{Word, Number, Sign}
-use Rattle.sm_syntax.specs.declared.token.Token.{Token}
-use Rattle.sm_syntax.specs.declared.token.LexFault.{LexFault}
-use Rattle.sm_text.specs.lexing.Cutting.{begins, IsToken, Ends, IsCutInto, end, space, comment, token, fault}
-use Rattle.sm_text.proofs.Cut.Exact.{tokens_are_cut}
+use Rattle.sm_syntax.specs.text.Tokens.{signs, mark_of_sign}
 use Rattle.sm_text.proofs.Cut.Standing.{is_sign_text, sign_text}
-use Rattle.sm_text.proofs.RoundTrip.PieceTokens.{both-left, both-right}
 use Rattle.std.proofs.lemmas.Bool.{false_from_ne_true}
 
 -- nothing, or what begins with a line feed

@@ -1,23 +1,10 @@
 -- What the reading of a text tells of whether some task begins with it, or is it.
-use Rattle.std.proofs.Common.{◌≡◌, ℕ, ◌<◌, ◌==◌, Bool, true, false, true≢false, Option, Some, None, List, [], ◌∷◌, ◌++◌, length, map, append_assoc, append-nil, eq-eqb, eqb-true, refl, sym, ap, subst, ◌∙◌, arith}
-use Rattle.std.specs.Prelude.{Decides}
+use Rattle.sm_follow.proofs.Imports.{◌≡◌, ℕ, ◌<◌, ◌==◌, Bool, true, false, true≢false, Option, Some, None, List, [], ◌∷◌, ◌++◌, length, map, append_assoc, append-nil, eq-eqb, eqb-true, refl, sym, ap, subst, ◌∙◌, arith, Decides, Symbol, names_of, symbol_of, symbols_of, lexed, Token, LexFault, AreTasks, IsFault, IsFirstFault, IsUnexpected, IsViable, IsWhole, Stands, at_token, at_end, TextError, all_symbols, whole_text, Ascends, before_end, behind-ascends, lexed-ascends, map-append, symbols-map, shorter-viable, IsBegun, IsComplete, NestsLast, NestsNowhere}
 use Rattle.sm_syntax.specs.text.MarkedSymbols.{plain}
-use Rattle.sm_syntax.specs.declared.symbol.Symbol.{Symbol}
 use Rattle.sm_syntax.specs.text.Parts.{Parts}
 use Rattle.sm_syntax.specs.text.Spells.{IsInGrammar}
-use Rattle.sm_syntax.specs.text.Symbols.{names_of, symbol_of, symbols_of}
-use Rattle.sm_syntax.specs.text.Tokens.{lexed}
-use Rattle.sm_syntax.specs.declared.token.Token.{Token}
-use Rattle.sm_syntax.specs.declared.token.LexFault.{LexFault}
 use Rattle.sm_text.specs.declared.error.TextError.TheVariants as error
-use Rattle.sm_text.specs.parsing.Places.{AreTasks, IsFault, IsFirstFault, IsUnexpected, IsViable, IsWhole, Stands, at_token, at_end}
-use Rattle.sm_text.specs.declared.error.TextError.{TextError}
-use Rattle.sm_text.specs.parsing.Places.Sources.{all_symbols, whole_text}
 use Rattle.sm_text.proofs.Complete.Parsers.{unmarked-plain}
-use Rattle.sm_text.proofs.FirstFault.Ordered.{Ascends, before_end, behind-ascends, lexed-ascends, map-append, symbols-map}
-use Rattle.sm_text.proofs.FirstFault.Refusals.{shorter-viable}
-use Rattle.sm_follow.specs.Following.{IsBegun, IsComplete}
-use Rattle.sm_follow.specs.Views.{NestsLast, NestsNowhere}
 
 none_is_some : (f : LexFault) → (let o : Option LexFault = None in o) ≡ Some f → ⊥
 none_is_some f e = cc

@@ -1,3 +1,4 @@
+mod Imports
 pub mod Fronts
 pub mod FrontSymbols
 pub mod Reached

@@ -1,10 +1,6 @@
 -- The line of what could stand behind a text: kind by kind, and that there is one.
-use Rattle.std.proofs.Common.{◌≡◌, ℕ, ◌+◌, ◌<◌, ◌≤◌, Bool, true, false, true≢false, List, [], ◌∷◌, ◌++◌, length, take, get_or, codes, append_assoc, append-nil, take_all, refl, sym, ap, subst, ◌∙◌}
-use Rattle.std.proofs.lemmas.List.{take_more}
-use Rattle.sm_follow.specs.Following.{could, could_not, none, AreThose, CouldStand, IsFollowLine}
-use Rattle.sm_follow.specs.Kinds.{kinds, shown}
+use Rattle.sm_follow.proofs.Imports.{◌≡◌, ℕ, ◌+◌, ◌<◌, ◌≤◌, Bool, true, false, true≢false, List, [], ◌∷◌, ◌++◌, length, take, get_or, codes, append_assoc, append-nil, take_all, refl, sym, ap, subst, ◌∙◌, take_more, could, could_not, none, AreThose, CouldStand, IsFollowLine, kinds, shown, Kind}
 use Rattle.sm_follow.specs.Laws.{OneFollowLine}
-use Rattle.sm_follow.specs.declared.kinds.Kind.{Kind}
 
 -- one kind more
 more_of : (text : List ℕ) (ks : List Kind) (k : Kind) (line more : List ℕ) → AreThose text ks line → AreThose text (k ∷ []) more →

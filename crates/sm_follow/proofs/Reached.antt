@@ -1,20 +1,7 @@
 -- Behind the front of a text up to its first fault a token nests too deep only where it is the last.
-use Rattle.std.proofs.Common.{◌≡◌, ◌⊎◌, inl, inr, ℕ, suc, ◌+◌, ◌<◌, ◌≤◌, Option, Some, None, List, [], ◌∷◌, ◌++◌, length, map, take, append_assoc, append-nil, refl, sym, ap, ap₂, subst, ◌∙◌, arith}
+use Rattle.sm_follow.proofs.Imports.{◌≡◌, ◌⊎◌, inl, inr, ℕ, suc, ◌+◌, ◌<◌, ◌≤◌, Option, Some, None, List, [], ◌∷◌, ◌++◌, length, map, take, append_assoc, append-nil, refl, sym, ap, ap₂, subst, ◌∙◌, arith, Symbol, names_of, symbol_of, symbols_of, Lexed, lexed, Token, LexFault, IsCutInto, end, place_of, AreTasks, IsFault, IsFirstFault, IsNestedAt, IsViable, NestsTooDeep, Stands, at_token, at_end, TextError, whole_text, tokens_are_cut, Ascends, behind-ascends, length-map-of, lexed-ascends, map-append, same_split, some_one, symbols-map, nested-viable, NestsLast, NestsNowhere}
 use Rattle.std.proofs.Math.Seq.{take-append_seam}
-use Rattle.sm_syntax.specs.declared.symbol.Symbol.{Symbol}
-use Rattle.sm_syntax.specs.text.Symbols.{names_of, symbol_of, symbols_of}
-use Rattle.sm_syntax.specs.text.Tokens.{Lexed, lexed}
-use Rattle.sm_syntax.specs.declared.token.Token.{Token}
-use Rattle.sm_syntax.specs.declared.token.LexFault.{LexFault}
 use Rattle.sm_text.specs.declared.error.TextError.TheVariants as error
-use Rattle.sm_text.specs.lexing.Cutting.{IsCutInto, end}
-use Rattle.sm_text.specs.parsing.Places.{place_of, AreTasks, IsFault, IsFirstFault, IsNestedAt, IsViable, NestsTooDeep, Stands, at_token, at_end}
-use Rattle.sm_text.specs.declared.error.TextError.{TextError}
-use Rattle.sm_text.specs.parsing.Places.Sources.{whole_text}
-use Rattle.sm_text.proofs.Cut.Exact.{tokens_are_cut}
-use Rattle.sm_text.proofs.FirstFault.Ordered.{Ascends, behind-ascends, length-map-of, lexed-ascends, map-append, same_split, some_one, symbols-map}
-use Rattle.sm_text.proofs.FirstFault.Refusals.{nested-viable}
-use Rattle.sm_follow.specs.Views.{NestsLast, NestsNowhere}
 use Rattle.sm_follow.proofs.Fronts.{place_behind, front_before, IsApart, IsFront, nothing, token_head, token_tail}
 use Rattle.sm_follow.proofs.FrontSymbols.{front_symbols}
 

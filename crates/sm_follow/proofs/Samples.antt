@@ -1,19 +1,10 @@
 -- A token on a line of its own is cut whole, and what is known of a text that ends with one.
-use Rattle.std.proofs.Common.{◌≡◌, ℕ, ◌+◌, ◌^◌, true, false, nat_le, None, List, [], ◌∷◌, ◌++◌, length, append-nil, codes, refl, sym, subst, ◌∙◌}
-use Rattle.std.specs.List.{list_all}
+use Rattle.sm_follow.proofs.Imports.{◌≡◌, ℕ, ◌+◌, ◌^◌, true, false, nat_le, None, List, [], ◌∷◌, ◌++◌, length, append-nil, codes, refl, sym, subst, ◌∙◌, list_all, is_word_byte, is_word_start, TokenKind, Word, Number, Sign, Token, begins, IsToken, Ends, IsCutInto, end, space, token, mark_kind, behind_line, EndsAtFault, sample, NestsLast, NestsNowhere}
 use Rattle.std.specs.Str.Parse.{digits_value}
 use Rattle.sm_syntax.specs.declared.symbol.Mark.{Mark}
 use Rattle.sm_syntax.specs.declared.symbol.Mark.TheVariants as mark
-use Rattle.sm_syntax.specs.text.Tokens.{is_word_byte, is_word_start, mark_of_sign, signs}
-use Rattle.sm_syntax.specs.declared.token.TokenKind.{TokenKind}
-use Rattle.sm_syntax.specs.declared.token.TokenKind.TheVariants.{Word, Number, Sign}
-use Rattle.sm_syntax.specs.declared.token.Token.{Token}
-use Rattle.sm_text.specs.lexing.Cutting.{begins, IsToken, Ends, IsCutInto, end, space, token}
+use Rattle.sm_syntax.specs.text.Tokens.{mark_of_sign, signs}
 use Rattle.sm_text.specs.printing.Pieces.{spelling}
-use Rattle.sm_text.proofs.RoundTrip.PieceTokens.{mark_kind}
-use Rattle.sm_follow.specs.Following.{behind_line, EndsAtFault}
-use Rattle.sm_follow.specs.Kinds.{sample}
-use Rattle.sm_follow.specs.Views.{NestsLast, NestsNowhere}
 use Rattle.sm_follow.specs.declared.kinds.Kind.TheVariants as kind
 use Rattle.sm_follow.proofs.Fronts.{nothing, line, sign_apart}
 use Rattle.sm_follow.proofs.Reached.{front_taken, last_nests, lexed_longer, nowhere}

@@ -1,13 +1,7 @@
 -- One more at the end: of numbers that are counted, of holes and of edits.
-use Rattle.std.proofs.Common.{◌≡◌, ℕ, zero, suc, ◌+◌, ◌*◌, ◌-◌, ◌/◌, ◌%◌, List, [], ◌∷◌, ◌++◌, map, refl, sym, ap, ap₂, ◌∙◌, arith}
+use Rattle.sm_gen.proofs.Imports.{◌≡◌, ℕ, zero, suc, ◌+◌, ◌*◌, ◌-◌, ◌/◌, ◌%◌, List, [], ◌∷◌, ◌++◌, map, refl, sym, ap, ap₂, ◌∙◌, arith, map-range_with_len_more, range_with_len, Code, Hole, append, Edit, drawn_after, drawn, editor_of, edit_of, holes}
 use Rattle.std.proofs.lemmas.List.{map-append}
-use Rattle.std.proofs.lemmas.List.FromFn.{map-range_with_len_more}
-use Rattle.std.specs.List.{range_with_len}
-use Rattle.sm_syntax.specs.claim.Syntax.{Code, Hole, append}
-use Rattle.sm_gen.specs.declared.drawing.Edit.{Edit}
 use Rattle.sm_gen.specs.declared.drawing.Editor.{Editor}
-use Rattle.sm_gen.specs.Drawing.{drawn_after, drawn, editor_of, edit_of}
-use Rattle.sm_gen.specs.Generating.{holes}
 
 -- one more number
 pub range_more : (a n : ℕ) → range_with_len a (n + 1) ≡ range_with_len a n ++ (a + n) ∷ []

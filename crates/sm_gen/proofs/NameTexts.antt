@@ -1,14 +1,6 @@
 -- The texts of the names differ from each other, and each is a word that isn't reserved.
-use Rattle.std.proofs.Common.{◌≡◌, ℕ, zero, suc, ◌+◌, ◌<◌, ◌≤◌, ◌^◌, Bool, true, false, ◌||◌, not, cond, Some, List, [], ◌∷◌, map, slice_get, refl, sym, ap, ap₂, ◌∙◌, arith, lit<}
-use Rattle.std.proofs.lemmas.Fmt.{decimal_injective}
-use Rattle.std.proofs.lemmas.List.FromFn.{map-range_with_len_more}
+use Rattle.sm_gen.proofs.Imports.{◌≡◌, ℕ, zero, suc, ◌+◌, ◌<◌, ◌≤◌, ◌^◌, Bool, true, false, ◌||◌, not, cond, Some, List, [], ◌∷◌, map, slice_get, refl, sym, ap, ap₂, ◌∙◌, arith, lit<, decimal_injective, map-range_with_len_more, decimal, range_with_len, position_or_len, bytes_eq, is_among, with_text, bytes_eq-refl, with_text-new, name_of}
 use Rattle.std.proofs.lemmas.Slice.Eq.{bytes_eq-Decides}
-use Rattle.std.specs.Fmt.{decimal}
-use Rattle.std.specs.List.{range_with_len, position_or_len}
-use Rattle.std.specs.Str.{bytes_eq}
-use Rattle.sm_syntax.specs.text.Symbols.{is_among, with_text}
-use Rattle.sm_syntax.proofs.Numbering.{bytes_eq-refl, with_text-new}
-use Rattle.sm_gen.specs.Generating.{name_of}
 
 -- the first byte, and the others
 abbrev first_byte : List ℕ → ℕ

@@ -1,22 +1,11 @@
 -- The canonical text of a task that is made up spells it.
-use Rattle.std.proofs.Common.{◌≡◌, ℕ, zero, suc, pos, ◌+◌, ◌<◌, ◌≤◌, ◌^◌, Bool, true, false, ◌&&◌, List, [], ◌∷◌, ◌++◌, map, unwrap_or, slice_get, Option, refl, sym, ap, ap₂, ◌∙◌, subst, arith, lit<}
-use Rattle.std.proofs.lemmas.Bool.Decides.{nat_tests}
-use Rattle.std.proofs.lemmas.Fmt.{decimal_is_IsNumeral, length-decimal-le}
+use Rattle.sm_gen.proofs.Imports.{◌≡◌, ℕ, zero, suc, pos, ◌+◌, ◌<◌, ◌≤◌, ◌^◌, Bool, true, false, ◌&&◌, List, [], ◌∷◌, ◌++◌, map, unwrap_or, slice_get, Option, refl, sym, ap, ap₂, ◌∙◌, subst, arith, lit<, nat_tests, decimal_is_IsNumeral, length-decimal-le, decimal, range_with_len, list_all, position_or_len, AllByRecursion, bytes_eq, Copy, O, A, B, M, Num, Parts, is_among, with_text, with_sort, IsTask, with_text-among, has_edits, edit_of, name_of, counted, holes, value_of, generated}
 use Rattle.std.proofs.lemmas.Str.Parse.{digit_from_value}
-use Rattle.std.specs.Fmt.{decimal}
-use Rattle.std.specs.List.{range_with_len, list_all, position_or_len, AllByRecursion}
-use Rattle.std.specs.Str.{bytes_eq}
 use Rattle.std.specs.Str.Parse.{AllDigits}
-use Rattle.sm_syntax.specs.claim.ConflictFree.{Copy, O, A, B, M}
 use Rattle.sm_syntax.specs.declared.symbol.Symbol.TheVariants as s
-use Rattle.sm_syntax.specs.declared.tree.Sort.TheVariants.{Num}
 use Rattle.sm_syntax.specs.text.MarkedSymbols.{plain}
 use Rattle.sm_syntax.specs.declared.symbol.Symbol.{Symbol}
-use Rattle.sm_syntax.specs.text.Parts.{Parts}
-use Rattle.sm_syntax.specs.text.Symbols.{is_among, with_text}
-use Rattle.sm_syntax.specs.text.TaskGrammar.{with_sort, IsTask}
 use Rattle.sm_syntax.specs.text.Tokens.{Lexed, is_word_byte, mark_of_word, reserved_words}
-use Rattle.sm_syntax.proofs.Numbering.{with_text-among}
 use Rattle.sm_text.specs.printing.Canonical.{task_pieces}
 use Rattle.sm_text.specs.printing.Named.{HasText}
 use Rattle.sm_text.specs.printing.Pieces.{pieces_text}
@@ -28,8 +17,6 @@ use Rattle.sm_text.proofs.RoundTrip.TaskApart.{task_relexed}
 use Rattle.sm_text.proofs.RoundTrip.TaskSpelled.{ArePrintable, HasOutput, task_shown}
 use Rattle.sm_text.proofs.RoundTrip.Tasks.{AllIn, all_spelled, IsContent, pieces_again}
 use Rattle.sm_text.proofs.RoundTrip.TextTokens.{IsNameText, IsLiteral}
-use Rattle.sm_gen.specs.Drawing.{has_edits, edit_of}
-use Rattle.sm_gen.specs.Generating.{name_of, counted, holes, value_of, generated}
 use Rattle.sm_gen.proofs.NameTexts.{names_more, text_at, place_of, stands}
 use Rattle.sm_gen.proofs.Valid.{fillings, valid}
 

@@ -1,25 +1,14 @@
 -- Of a task that is made up, no condition on tasks fails.
-use Rattle.std.proofs.Common.{◌≡◌, ℕ, zero, suc, ◌+◌, ◌-◌, ◌*◌, ◌<◌, ◌≤◌, ◌==◌, Bool, true, false, not, ◌||◌, if◌then◌else◌, Option, Some, None, List, [], ◌∷◌, length, map, nat_lt, refl, ap, ap₂, ◌∙◌, arith, eq-eqb}
-use Rattle.std.proofs.lemmas.Bool.Decides.{nat_tests}
-use Rattle.std.proofs.lemmas.List.FromFn.{length-map-range_with_len}
-use Rattle.std.specs.List.{range_with_len, AllByRecursion}
+use Rattle.sm_gen.proofs.Imports.{◌≡◌, ℕ, zero, suc, ◌+◌, ◌-◌, ◌*◌, ◌<◌, ◌≤◌, ◌==◌, Bool, true, false, not, ◌||◌, if◌then◌else◌, Option, Some, None, List, [], ◌∷◌, length, map, nat_lt, refl, ap, ap₂, ◌∙◌, arith, eq-eqb, nat_tests, length-map-range_with_len, range_with_len, AllByRecursion, Copy, O, A, B, M, Expression, Code, End, Assign, append, sort_of, Sort, Num, Arr, with_sort, has_edits, edit_of, counted, holes, value_of, filling_of, generated}
 use Rattle.std.specs.Option.{option_or}
 use Rattle.std.specs.Prelude.{option_map}
-use Rattle.sm_syntax.specs.claim.ConflictFree.{Copy, O, A, B, M}
 use Rattle.sm_syntax.specs.claim.Fill.{Fillings, filling, fill}
-use Rattle.sm_syntax.specs.claim.Syntax.{Expression, Code, End, Assign, append}
 use Rattle.sm_syntax.specs.text.Conditions.{Refusal, DoubleHole, HoleInFilling, UnknownHole, MissingFilling, DoubleName, TooMany, TooDeep, Section, Shared, ListOf, is_in, first_repeated, first_outside, first_of_all, at_hole, holes_of}
 use Rattle.sm_syntax.specs.text.Conditions.{filled_holes, holes_inside, double_hole, hole_in_filling, unknown_hole, missing_filling, expression_nodes, expression_depth, code_nodes, code_depth, sort_refusal, first_sort_fault, output_refusal}
 use Rattle.sm_syntax.specs.text.Conditions.{first_output_fault, over, size_fault, double_name, program_fault, ill_formed, ill_assumed, first_refusal}
-use Rattle.sm_syntax.specs.text.Parts.{sort_of}
 use Rattle.sm_syntax.specs.text.Sorts.{Sorts, IsAsDeclared, IsWellSorted, IsWellSortedExpression}
-use Rattle.sm_syntax.specs.declared.tree.Sort.{Sort}
-use Rattle.sm_syntax.specs.declared.tree.Sort.TheVariants.{Num, Arr}
-use Rattle.sm_syntax.specs.text.TaskGrammar.{with_sort}
 use Rattle.sm_syntax.specs.text.Uses.{names_used}
 use Rattle.sm_syntax.proofs.EachUse.{well_sorted_is_all}
-use Rattle.sm_gen.specs.Drawing.{has_edits, edit_of}
-use Rattle.sm_gen.specs.Generating.{counted, holes, value_of, filling_of, generated}
 use Rattle.sm_syntax.proofs.Refusals.{none_of_lists}
 
 -- where each of these is no refusal, there is none

@@ -1,8 +1,7 @@
 -- What the first seeds draw.
-use Rattle.std.proofs.Common.{◌≡◌, ◌∷◌, [], refl}
-use Rattle.sm_syntax.specs.claim.ConflictFree.{A, B}
+use Rattle.sm_gen.proofs.Imports.{◌≡◌, ◌∷◌, [], refl, A, B, drawn, edits, edit_count}
 use Rattle.sm_gen.specs.declared.drawing.Editor.TheVariants.{VariantA, VariantB}
-use Rattle.sm_gen.specs.Drawing.{drawn_after, drawn, edits, edit_count}
+use Rattle.sm_gen.specs.Drawing.{drawn_after}
 
 drawn_first : drawn 1 1 ≡ 1103527590
 unfolding drawn_after

@@ -1,3 +1,4 @@
+mod Imports
 pub mod FormsLemmas
 pub mod NodesLemmas
 pub mod TablesLemmas

@@ -1,18 +1,10 @@
 -- What nodes ask, over a table that widens.
-use Rattle.std.proofs.Common.{◌≡◌, ℕ, zero, suc, ◌<◌, Option, List, [], ◌∷◌, length, get_or, sym, ap, ◌∙◌, subst, arith}
+use Rattle.sm_goals.proofs.Imports.{◌≡◌, ℕ, zero, suc, ◌<◌, Option, List, [], ◌∷◌, length, get_or, sym, ap, ◌∙◌, subst, arith, Sorts, Formula, Assertion, TableValue, trees_in, sorts_in, AddsTerms, Tree, AreFormsReady, all_numbered, assertions_in}
 use Rattle.std.specs.Prelude.{IfSome}
-use Rattle.sm_syntax.specs.text.Sorts.{Sorts}
-use Rattle.sm_term.specs.declared.formula.Formula.{Formula}
-use Rattle.sm_term.specs.Assertions.{Assertion}
-use Rattle.sm_term.specs.Tables.{TableValue, trees_in, sorts_in}
-use Rattle.sm_term.specs.TableLaws.{AddsTerms}
-use Rattle.sm_term.specs.Terms.{Tree}
-use Rattle.sm_plan.specs.ReadyStates.{AreFormsReady}
 use Rattle.sm_plan.proofs.TablesWiden as widened
 use Rattle.sm_expand.specs.Views.{AreDuesReady}
 use Rattle.sm_expand.specs.declared.due.Due.{Due}
 use Rattle.sm_solve.specs.declared.fact_base.FactBase.{FactBase}
-use Rattle.sm_list.specs.Parts.{all_numbered, assertions_in}
 use Rattle.sm_solve.specs.Sharing.{IsFactBase}
 use Rattle.sm_goals.specs.Nodes.{IsNodeOf}
 use Rattle.sm_goals.proofs.FormsLemmas.{forms_same}

@@ -1,8 +1,5 @@
 -- The first terms of a table that widens.
-use Rattle.std.proofs.Common.{◌≡◌, ℕ, ◌+◌, ◌≤◌, length, take, ap, ◌∙◌, arith}
-use Rattle.std.proofs.lemmas.List.{length-append, take-append-le}
-use Rattle.sm_term.specs.Tables.{TableValue, trees_in}
-use Rattle.sm_term.specs.TableLaws.{ExtendsTable}
+use Rattle.sm_goals.proofs.Imports.{◌≡◌, ℕ, ◌+◌, ◌≤◌, length, take, ap, ◌∙◌, arith, length-append, take-append-le, TableValue, trees_in, ExtendsTable}
 
 -- as many terms as there were are there
 pub first_within : (v w : TableValue) → ExtendsTable v w → (from : ℕ) → from ≡ length (trees_in v) → from ≤ length (trees_in w)

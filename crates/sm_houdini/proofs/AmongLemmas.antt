@@ -1,19 +1,9 @@
 -- Lists that stand in others, in any order or in the same one.
-use Rattle.std.proofs.Common.{◌≡◌, inl, inr, ℕ, zero, suc, ◌+◌, ◌==◌, Bool, true, false, ◌||◌, Option, Some, None, List, [], ◌∷◌, ◌++◌, length, slice_get, refl, sym, ap, ◌∙◌, subst}
-use Rattle.std.specs.Prelude.{option_to_list}
-use Rattle.std.proofs.lemmas.Bool.Decides.{Decides-eqb}
-use Rattle.sm_syntax.specs.claim.ConflictFree.{Copy}
-use Rattle.sm_syntax.specs.text.Conditions.{is_in}
-use Rattle.sm_term.specs.Assertions.{Assertion}
-use Rattle.sm_term.specs.Slots.{at_stores, all_at_stores}
-use Rattle.sm_term.specs.Symbolic.{SymbolicStore}
-use Rattle.sm_sketch.specs.Choices.{picked}
-use Rattle.sm_houdini.specs.Obligations.{StandIn}
+use Rattle.sm_houdini.proofs.Imports.{◌≡◌, inl, inr, ℕ, zero, suc, ◌+◌, ◌==◌, Bool, true, false, ◌||◌, List, [], ◌∷◌, ◌++◌, length, refl, sym, ap, ◌∙◌, subst, option_to_list, Decides-eqb, Copy, is_in, Assertion, at_stores, all_at_stores, SymbolicStore, picked, StandIn, or_left, or_right, get_in_first, get_in_second}
+use Rattle.std.proofs.Common.{Option, Some, None, slice_get}
 use Rattle.sm_houdini.proofs.DroppedLemmas.{map_at}
 use Rattle.sm_houdini.proofs.PairedLemmas.{IsKept}
-use Rattle.std.proofs.lemmas.Bool.{or_left, or_right}
 use Rattle.sm_lemmas.proofs.Tests.{itself as number_itself}
-use Rattle.sm_lemmas.proofs.Lists.{get_in_first, get_in_second}
 
 -- each formula is one of others
 abbrev pub Among : List Assertion → List Assertion → Type 0

@@ -1,28 +1,11 @@
 -- Goals that close, over a table that widens, and what a node's goals do to marks.
-use Rattle.std.proofs.Common.{◌≡◌, ℕ, zero, suc, ◌+◌, ◌<◌, ◌≤◌, ◌==◌, Bool, true, false, not, ◌&&◌, ◌||◌, Option, Some, None, List, [], ◌∷◌, ◌++◌, length, take, get_or, slice_get, option_map, refl, sym, ap, ◌∙◌, subst, arith}
-use Rattle.std.proofs.lemmas.Bool.{eq-eqb, eqb-true}
-use Rattle.std.proofs.lemmas.List.{length-take-le, take_more, map-set, get_or-map}
+use Rattle.sm_houdini.proofs.Imports.{◌≡◌, ℕ, zero, suc, ◌+◌, ◌<◌, ◌≤◌, ◌==◌, Bool, true, false, not, ◌&&◌, ◌||◌, List, [], ◌∷◌, ◌++◌, length, take, get_or, option_map, refl, sym, ap, ◌∙◌, subst, arith, eq-eqb, eqb-true, length-take-le, take_more, map-set, get_or-map, Vec, IfOk, AllocError, Global, Sorts, numbered, assertion_in, Formula, TableValue, trees_in, sorts_in, ExtendsTable, Tree, AreFormsReady, forms_in, due_in, Choice, Reach, closing, closes_at, stays_at, owner_in, all_marked, still_marked, rows, Marked, is_site, closes_if}
+use Rattle.std.proofs.Common.{Option, Some, None, slice_get}
 use Rattle.std.proofs.Math.ListN.{set}
-use Rattle.std.specs.Prelude.{Vec, Result, Ok, Err, IfOk}
-use Rattle.std.specs.declared.alloc.AllocError.{AllocError}
-use Rattle.std.specs.declared.alloc.Global.{Global}
-use Rattle.sm_syntax.specs.text.Sorts.{Sorts}
-use Rattle.sm_term.specs.Formulas.{numbered, assertion_in}
-use Rattle.sm_term.specs.declared.formula.Formula.{Formula}
-use Rattle.sm_term.specs.Tables.{TableValue, trees_in, sorts_in}
-use Rattle.sm_term.specs.TableLaws.{ExtendsTable}
-use Rattle.sm_term.specs.Terms.{Tree}
+use Rattle.std.specs.Prelude.{Result, Ok, Err}
 use Rattle.sm_plan.specs.Plans as plain
-use Rattle.sm_plan.specs.ReadyStates.{AreFormsReady}
-use Rattle.sm_plan.specs.Views.{forms_in}
 use Rattle.sm_plan.proofs.TablesWiden as widened
-use Rattle.sm_expand.specs.Views.{due_in}
 use Rattle.sm_expand.specs.declared.due.Due.{Due}
-use Rattle.sm_sketch.specs.Choices.{Choice}
-use Rattle.sm_solve.specs.declared.reach.Reach.{Reach}
-use Rattle.sm_houdini.specs.Closing.{closing, closes_at, stays_at, owner_in}
-use Rattle.sm_houdini.specs.Marks.{all_marked, still_marked, rows, Marked}
-use Rattle.sm_houdini.specs.Rounds.{is_site, closes_if}
 use Rattle.sm_houdini.proofs.MarkedLemmas.{still_more, still_both, marked_same, all_same}
 use Rattle.sm_houdini.proofs.NodeLemmas.{with_true}
 

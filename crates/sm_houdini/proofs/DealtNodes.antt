@@ -1,7 +1,5 @@
 -- Each node comes at its place.
-use Rattle.std.proofs.Common.{◌≡◌, ℕ, ◌<◌, arith}
-use Rattle.std.proofs.lemmas.Bool.Decides.{nat_tests}
-use Rattle.sm_houdini.specs.Dealing.{dealt, placed}
+use Rattle.sm_houdini.proofs.Imports.{◌≡◌, ℕ, ◌<◌, arith, nat_tests, dealt, placed}
 
 pub placed_inside : (count node : ℕ) → node < count → placed count node < count
 placed_inside count node h = grind (arith, nat_tests)

@@ -1,27 +1,9 @@
 -- What is kept is the choice of a round, and each template that isn't kept was refuted in a round.
-use Rattle.std.proofs.Common.{◌≡◌, ◌⊎◌, inl, inr, ℕ, zero, suc, ◌+◌, ◌==◌, ◌<◌, Bool, true, false, not, ◌&&◌, ◌||◌, if◌then◌else◌, Option, Some, None, Result, Ok, Err, List, [], ◌∷◌, ◌++◌, map, length, slice_get, refl, sym, ap, ◌∙◌, subst}
-use Rattle.std.proofs.Common.{arith}
-use Rattle.std.specs.Prelude.{unwrap_or, option_to_list}
-use Rattle.std.specs.List.{list_all, range_with_len}
-use Rattle.std.proofs.lemmas.Bool.Decides.{nat_tests, Decides-eqb}
-use Rattle.std.proofs.lemmas.Option.{same_Some}
-use Rattle.sm_syntax.specs.text.Conditions.{is_in}
-use Rattle.sm_syntax.specs.text.Parts.{Parts, task_of}
-use Rattle.sm_term.specs.Assertions.{Assertion}
-use Rattle.sm_term.specs.Slots.{at_stores}
-use Rattle.sm_plan.specs.Plans.{Due, Fault, obligations}
-use Rattle.sm_moves.proofs.SetsLemmas.{Each}
-use Rattle.sm_sketch.specs.Choices.{Choice, chosen_at, picked, all_chosen}
-use Rattle.sm_sketch.specs.Sketches.{sites_of}
-use Rattle.sm_product.specs.ProductPlans.{templates, plan_of, full_choice}
-use Rattle.sm_product.specs.Products.{sketch_of}
-use Rattle.sm_houdini.specs.Laws.{AllAskChosen, round_at, IsRefuted, DroppedAreRefuted}
-use Rattle.sm_houdini.specs.Obligations.{AsksChosen}
-use Rattle.sm_houdini.specs.Owners.{owner_of}
-use Rattle.sm_houdini.specs.Rounds.{dues_in, dues_of, is_site, closes_if, holds_at, numbers_kept, sites_kept, next_round, total, same_choice, settled, kept}
+use Rattle.sm_houdini.proofs.Imports.{◌≡◌, ◌⊎◌, inl, inr, ℕ, zero, suc, ◌+◌, ◌==◌, ◌<◌, Bool, true, false, not, ◌&&◌, ◌||◌, if◌then◌else◌, List, [], ◌∷◌, ◌++◌, length, refl, sym, ap, ◌∙◌, subst, arith, unwrap_or, option_to_list, list_all, range_with_len, nat_tests, Decides-eqb, same_Some, is_in, Parts, task_of, Assertion, at_stores, Fault, obligations, Each, Choice, chosen_at, picked, all_chosen, sites_of, templates, plan_of, full_choice, sketch_of, AllAskChosen, round_at, IsRefuted, DroppedAreRefuted, AsksChosen, owner_of, dues_of, is_site, closes_if, holds_at, numbers_kept, sites_kept, next_round, total, same_choice, settled, kept, or_right, or_left, or_from, itself}
+use Rattle.std.proofs.Common.{Option, Some, None, Result, Ok, Err, map, slice_get}
+use Rattle.sm_plan.specs.Plans.{Due}
+use Rattle.sm_houdini.specs.Rounds.{dues_in}
 use Rattle.sm_houdini.proofs.OwnersLemmas.{owners_ask}
-use Rattle.std.proofs.lemmas.Bool.{or_right, or_left, or_from}
-use Rattle.sm_lemmas.proofs.Tests.{itself}
 
 -- rounds from a round end with one
 module _ (closes : List Assertion → Assertion → Bool) (t : Parts) where

@@ -1,56 +1,19 @@
 -- What runs of a node's goals come to, one after another, over the one table.
-use Rattle.std.proofs.Common.{◌≡◌, ℕ, zero, suc, ◌+◌, ◌-◌, ◌*◌, ◌/◌, ◌%◌, ◌<◌, ◌≤◌, pos, true, false, List, [], ◌∷◌, ◌++◌, length, map, take, drop, get_or, refl, sym, ap, ◌∙◌, subst, zero-add, zero-mul, suc-mul, mul_comm, mul-le-mul_right}
-use Rattle.std.proofs.Common.{arith}
-use Rattle.std.proofs.Math.Seq.{take-add}
-use Rattle.std.proofs.lemmas.List.{map-append, append_assoc, append-nil, drop-drop, drop-map, take-map, take_all, drop_all, take-append-drop, take-append-le, drop_more, length-append, length-drop, length-take-le, get_or-take, get_or-drop}
-use Rattle.std.proofs.lemmas.List.{take_at}
+use Rattle.sm_houdini.proofs.Imports.{◌≡◌, ℕ, zero, suc, ◌+◌, ◌-◌, ◌*◌, ◌/◌, ◌%◌, ◌<◌, ◌≤◌, pos, true, false, List, [], ◌∷◌, ◌++◌, length, take, drop, get_or, refl, sym, ap, ◌∙◌, subst, zero-add, zero-mul, suc-mul, mul_comm, mul-le-mul_right, arith, take-add, map-append, append_assoc, append-nil, drop-drop, drop-map, take-map, take_all, drop_all, take-append-drop, take-append-le, drop_more, length-append, length-drop, length-take-le, get_or-take, get_or-drop, take_at, slice_get_within, get_or_from_slice_get, range_with_len, is_some, MatchOption, Vec, IfOk, Global, AllocError, Sorts, StandInOrder, Assertion, numbered, assertion_in, Formula, TableValue, trees_in, sorts_in, tree_at, ExtendsTable, Tree, Lit, certificate_in, lines_of, AreLinesWithin, CertTree, AreFormsReady, forms_in, due_in, Verdict, AreTermsOf, Walked, walk, Reach, AreTreesWithin, AreShort, front_stays, AreCertified, AreCollected, goals_with, stop_in, RunStops, RunCloses, GoalsStop, GoalsClose, dealt, placed, PlanEndsValue, IsRunEnd, AreRunEnds, ArePlanEnds, IsPartEnd, TellsEnd, goals_from, size_of, Outcome, goal_outcome, goals_outcome, Stop, RunEnd, range_more, forms_long}
+use Rattle.std.proofs.Common.{map}
 use Rattle.std.proofs.lemmas.Grind.{div_ceil_times}
 use Rattle.std.proofs.lemmas.Nat.{div-mul-add, mod-mul-add}
-use Rattle.std.proofs.lemmas.Option.{slice_get_within, get_or_from_slice_get}
-use Rattle.std.specs.List.{range_with_len}
-use Rattle.std.specs.Prelude.{Option, Some, None, is_some, MatchOption, Vec, Result, IfOk, slice_get}
-use Rattle.std.specs.declared.alloc.Global.{Global}
-use Rattle.std.specs.declared.alloc.AllocError.{AllocError}
-use Rattle.sm_syntax.specs.text.Sorts.{Sorts}
-use Rattle.sm_par.specs.Results.{StandInOrder}
-use Rattle.sm_term.specs.Assertions.{Assertion}
-use Rattle.sm_term.specs.Formulas.{numbered, assertion_in}
-use Rattle.sm_term.specs.declared.formula.Formula.{Formula}
-use Rattle.sm_term.specs.Tables.{TableValue, trees_in, sorts_in, tree_at}
+use Rattle.std.specs.Prelude.{Option, Some, None, Result, slice_get}
 use Rattle.sm_term.specs.declared.term.TermId.{TermId}
-use Rattle.sm_term.specs.TableLaws.{ExtendsTable}
 use Rattle.sm_term.specs.Tails.{row_trees, AreRowsSound, trees_numbered}
-use Rattle.sm_term.specs.Terms.{Tree, Lit}
-use Rattle.sm_cert.specs.Views.{certificate_in, lines_of, AreLinesWithin}
-use Rattle.sm_cert.specs.declared.tree.CertTree.{CertTree}
-use Rattle.sm_plan.specs.ReadyStates.{AreFormsReady}
-use Rattle.sm_plan.specs.Views.{forms_in}
 use Rattle.sm_expand.specs.declared.due.Due as program
-use Rattle.sm_expand.specs.Views.{due_in}
-use Rattle.sm_replay.specs.declared.verdict.Verdict.{Verdict}
 use Rattle.sm_terms.specs.Listing.{trees_at, numbers_of, AreBelow}
-use Rattle.sm_list.specs.Renumbered.{AreTermsOf}
-use Rattle.sm_judge.specs.Forms.{Walked}
-use Rattle.sm_solve.specs.Walk.{walk}
-use Rattle.sm_solve.specs.declared.reach.Reach.{Reach}
-use Rattle.sm_write.specs.TreesWithin.{AreTreesWithin}
-use Rattle.sm_write.specs.Writable.{AreShort}
-use Rattle.sm_goals.proofs.TablesLemmas.{front_stays}
-use Rattle.sm_houdini.specs.Certified.{AreCertified}
-use Rattle.sm_houdini.specs.Collected.{AreCollected, goals_with, stop_in, RunStops, RunCloses, GoalsStop, GoalsClose}
-use Rattle.sm_houdini.specs.Dealing.{dealt, placed}
-use Rattle.sm_houdini.specs.EndJobs.{PlanEndsValue, IsRunEnd, AreRunEnds, ArePlanEnds, IsPartEnd, TellsEnd, goals_from, size_of}
-use Rattle.sm_houdini.specs.Outcomes.{Outcome, goal_outcome, goals_outcome}
-use Rattle.sm_houdini.specs.declared.ending.Stop.{Stop}
-use Rattle.sm_houdini.specs.declared.run_ends.RunEnd.{RunEnd}
 use Rattle.sm_houdini.proofs.ClosingLemmas.{ok_map}
 use Rattle.sm_houdini.proofs.DealtNodes.{placed_inside, dealt_placed}
 use Rattle.sm_houdini.proofs.EndLemmas.{collected_stays, within_append, short_append, Ended}
 use Rattle.sm_houdini.proofs.LoopLemmas.{taken}
 use Rattle.sm_houdini.proofs.SimpleWritable.{certified_append}
 use Rattle.sm_terms.proofs.ListingLemmas.{below-append}
-use Rattle.sm_lemmas.proofs.Lists.{range_more}
-use Rattle.sm_expand.proofs.NodeTaken.{forms_long}
 use Rattle.sm_houdini.proofs.TotalsLemmas.{different}
 
 -- the terms with the numbers from one on

@@ -1,50 +1,20 @@
 -- Goals that close or stop a search, and certificates that are collected.
-use Rattle.std.proofs.Common.{◌≡◌, ℕ, zero, suc, ◌+◌, ◌<◌, ◌≤◌, Bool, true, false, if◌then◌else◌, None, List, [], ◌∷◌, ◌++◌, map, length, take, drop, get_or, refl, sym, ap, ◌∙◌, subst, arith}
-use Rattle.std.specs.Prelude.{Option, Some, is_some, MatchOption, Result, IfOk}
-use Rattle.std.specs.declared.alloc.AllocError.{AllocError}
-use Rattle.std.proofs.lemmas.List.{map-append, append_assoc, drop_more, drop-map, take-map, take_all, drop_all}
-use Rattle.sm_syntax.specs.text.Sorts.{Sorts}
-use Rattle.sm_term.specs.Assertions.{Assertion, negate}
-use Rattle.sm_term.specs.Formulas.{numbered, assertion_in}
-use Rattle.sm_term.specs.declared.formula.Formula.{Formula}
-use Rattle.sm_term.specs.Tables.{TableValue, trees_in, sorts_in}
-use Rattle.sm_term.specs.TableLaws.{ExtendsTable}
-use Rattle.sm_term.specs.Terms.{Tree}
-use Rattle.sm_theory.specs.Facts.{as_facts}
-use Rattle.sm_cert.specs.Certificates.{Certificate, Closes}
-use Rattle.sm_cert.specs.NamedTerms.{EachTerm}
-use Rattle.sm_cert.specs.Views.{certificate_in, lines_of, AreLinesWithin}
-use Rattle.sm_cert.specs.declared.tree.CertTree.{CertTree}
+use Rattle.sm_houdini.proofs.Imports.{◌≡◌, ℕ, zero, suc, ◌+◌, ◌<◌, ◌≤◌, Bool, true, false, if◌then◌else◌, List, [], ◌∷◌, ◌++◌, length, take, drop, get_or, refl, sym, ap, ◌∙◌, subst, arith, is_some, MatchOption, IfOk, AllocError, map-append, append_assoc, drop_more, drop-map, take-map, take_all, drop_all, Sorts, Assertion, negate, numbered, assertion_in, Formula, TableValue, trees_in, sorts_in, ExtendsTable, Tree, as_facts, Certificate, EachTerm, certificate_in, lines_of, AreLinesWithin, CertTree, AreFormsReady, forms_in, due_in, AreDuesReady, Tells, Certifies, NamesOnly, terms_walked, all_numbered, assertions_in, walk, Reach, Verdict, IsOneOf, Walked, AreTreesWithin, IsShort, AreShort, asked, IsCertified, AreCertified, AreCollected, goals_with, stop_in, GoalStops, GoalCloses, RunStops, RunCloses, GoalsStop, GoalsClose, FinalStops, FinalCloses, AreInsideClosed, Outcome, Accepted, Conflict, Open, Coefficient, goal_outcome, goals_outcome, final_outcome, Stop, forms_same, facts_at, forms_long, ready_at}
+use Rattle.std.proofs.Common.{None, map}
+use Rattle.std.specs.Prelude.{Option, Some, Result}
+use Rattle.sm_cert.specs.Certificates.{Closes}
 use Rattle.sm_plan.specs.Plans.{Due}
-use Rattle.sm_plan.specs.ReadyStates.{AreFormsReady}
-use Rattle.sm_plan.specs.Views.{forms_in}
 use Rattle.sm_plan.proofs.TablesWiden as widened
 use Rattle.sm_expand.specs.declared.due.Due as program
-use Rattle.sm_expand.specs.Views.{due_in, dues_in, AreDuesReady}
+use Rattle.sm_expand.specs.Views.{dues_in}
 use Rattle.sm_solve.specs.declared.solving.Answer.{Answer}
 use Rattle.sm_solve.specs.declared.solving.Answer.TheVariants as answers
-use Rattle.sm_solve.specs.Answers.{Tells, Certifies, NamesOnly, terms_walked}
-use Rattle.sm_list.specs.Parts.{all_numbered, assertions_in}
-use Rattle.sm_solve.specs.Walk.{walk}
-use Rattle.sm_solve.specs.declared.reach.Reach.{Reach}
-use Rattle.sm_replay.specs.declared.verdict.Verdict.{Verdict}
-use Rattle.sm_list.specs.Branches.{IsOneOf}
-use Rattle.sm_judge.specs.Forms.{Walked}
-use Rattle.sm_write.specs.TreesWithin.{AreTreesWithin}
-use Rattle.sm_write.specs.Writable.{IsShort, AreShort}
 use Rattle.sm_write.proofs.TreesStay.{trees_stay, trees_wider}
-use Rattle.sm_houdini.specs.Certified.{asked, IsCertified, AreCertified}
-use Rattle.sm_houdini.specs.Collected.{AreCollected, goals_with, stop_in, GoalStops, GoalCloses, RunStops, RunCloses, GoalsStop, GoalsClose, FinalStops, FinalCloses, AreInsideClosed}
-use Rattle.sm_houdini.specs.Outcomes.{Outcome, Accepted, Conflict, Open, Steps, Coefficient, TooMany, goal_outcome, goals_outcome, final_outcome}
-use Rattle.sm_houdini.specs.declared.ending.Stop.{Stop}
+use Rattle.sm_houdini.specs.Outcomes.{Steps, TooMany}
 use Rattle.sm_houdini.proofs.LoopLemmas.{taken}
-use Rattle.sm_goals.proofs.FormsLemmas.{forms_same}
 use Rattle.sm_houdini.proofs.ClosingLemmas.{due_stays}
-use Rattle.sm_goals.proofs.NodesLemmas.{facts_at}
 use Rattle.sm_houdini.proofs.SimpleWritable.{certified_append}
-use Rattle.sm_expand.proofs.NodeTaken.{forms_long}
 use Rattle.sm_houdini.proofs.TotalsLemmas.{different}
-use Rattle.sm_plan.proofs.FillingForms.{ready_at}
 
 pub within_append : (n : ℕ) (xs ys : List CertTree) → AreTreesWithin n xs → AreTreesWithin n ys → AreTreesWithin n (xs ++ ys)
 within_append n [] ys a b = b

@@ -1,38 +1,14 @@
 -- What the plan under the kept templates decides.
-use Rattle.std.proofs.Common.{◌≡◌, ℕ, suc, Bool, true, false, if◌then◌else◌, List, [], ◌∷◌, map, refl, sym, ap, ◌∙◌, subst}
-use Rattle.std.specs.Prelude.{Option, Some, None, MatchOption, Result, Ok, Err}
-use Rattle.sm_syntax.specs.text.Parts.{Parts, sort_of, task_of}
-use Rattle.sm_syntax.specs.text.Sorts.{Sorts}
-use Rattle.sm_term.specs.Assertions.{Assertion}
-use Rattle.sm_term.specs.Tables.{TableValue, trees_in, sorts_in}
-use Rattle.sm_term.specs.TableLaws.{ExtendsTable}
-use Rattle.sm_cert.specs.Views.{certificate_in}
+use Rattle.sm_houdini.proofs.Imports.{◌≡◌, ℕ, suc, Bool, true, false, if◌then◌else◌, List, [], ◌∷◌, refl, sym, ap, ◌∙◌, subst, MatchOption, Parts, sort_of, task_of, Sorts, Assertion, TableValue, trees_in, sorts_in, ExtendsTable, certificate_in, Fault, obligations, IsTaskSorted, AreNumbered, IsPlanReady, numbered_plan, plan_in, plan_stays, plan_ready, Each, plan_of, is_small, Verdict, Walked, walk, Reach, IsWritable, Stop, asked, AreCertified, closing, AreCollected, AreInsideClosed, FinalCloses, FinalStops, AllClose, Outcome, is_closing, goal_outcome, goals_outcome, final_outcome, kept_dues, kept, plan_decides, TellsStop, Accepts}
+use Rattle.std.proofs.Common.{map}
+use Rattle.std.specs.Prelude.{Option, Some, None, Result, Ok, Err}
 use Rattle.sm_plan.specs.Plans as plain
-use Rattle.sm_plan.specs.Plans.{Due, Fault, obligations}
-use Rattle.sm_plan.specs.SortedStates.{IsTaskSorted}
-use Rattle.sm_plan.specs.Starts.{AreNumbered}
-use Rattle.sm_expand.specs.NumberedPlans.{IsPlanReady}
-use Rattle.sm_expand.specs.Views.{numbered_plan, plan_in}
+use Rattle.sm_plan.specs.Plans.{Due}
 use Rattle.sm_expand.specs.declared.plan.Plan.{Plan}
-use Rattle.sm_expand.proofs.PlansWiden.{plan_stays, plan_ready}
-use Rattle.sm_moves.proofs.SetsLemmas.{Each}
-use Rattle.sm_product.specs.ProductPlans.{plan_of}
-use Rattle.sm_product.specs.Sizes.{is_small}
 use Rattle.sm_sided.specs.declared.whole.CertTrees.{CertTrees}
-use Rattle.sm_replay.specs.declared.verdict.Verdict.{Verdict}
 use Rattle.sm_judge.specs.Forms as walked
-use Rattle.sm_judge.specs.Forms.{Walked}
-use Rattle.sm_solve.specs.Walk.{walk}
-use Rattle.sm_solve.specs.declared.reach.Reach.{Reach}
-use Rattle.sm_write.specs.Writable.{IsWritable}
-use Rattle.sm_houdini.specs.declared.ending.Stop.{Stop}
-use Rattle.sm_houdini.specs.Certified.{asked, AreCertified}
-use Rattle.sm_houdini.specs.Closing.{closing}
-use Rattle.sm_houdini.specs.Collected.{AreCollected, AreInsideClosed, FinalCloses, FinalStops}
-use Rattle.sm_houdini.specs.Laws.{AllClose}
-use Rattle.sm_houdini.specs.Outcomes.{Outcome, TooMany, is_closing, goal_outcome, goals_outcome, final_outcome, kept_dues}
-use Rattle.sm_houdini.specs.Rounds.{dues_in, kept}
-use Rattle.sm_houdini.specs.Searchable.{plan_decides, TellsStop, Accepts}
+use Rattle.sm_houdini.specs.Outcomes.{TooMany}
+use Rattle.sm_houdini.specs.Rounds.{dues_in}
 use Rattle.sm_houdini.proofs.LastPass.{ClosesInside, inside_close}
 use Rattle.sm_houdini.proofs.SearchWritable.{search_writable}
 

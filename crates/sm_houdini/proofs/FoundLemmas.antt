@@ -1,18 +1,10 @@
 -- What a search comes to, case by case.
-use Rattle.std.proofs.Common.{◌≡◌, inl, inr, ℕ, Bool, true, false, Option, Some, None, refl, sym, ap, ◌∙◌}
-use Rattle.sm_syntax.specs.claim.ConflictFree.{Copy, program_of}
-use Rattle.sm_syntax.specs.text.Parts.{Parts, sort_of, task_of}
-use Rattle.sm_syntax.specs.trees.Copies.{of_copy}
+use Rattle.sm_houdini.proofs.Imports.{◌≡◌, inl, inr, ℕ, Bool, true, false, refl, sym, ap, ◌∙◌, Copy, program_of, Parts, sort_of, task_of, of_copy, code_of, IsFirstViolation, Verdict, Reach, Outcome, Accepted, Conflict, or_conflict, IsOutcome, plan_decides}
+use Rattle.std.proofs.Common.{Option, Some, None}
 use Rattle.sm_syntax.specs.declared.copies.PerCopy.{PerCopy}
-use Rattle.sm_syntax.specs.trees.Views.{code_of}
 use Rattle.sm_syntax.specs.declared.tree.Block.{Block}
 use Rattle.sm_task.specs.Filling.{AreFilled}
 use Rattle.sm_sided.specs.OneSided.{is_one_sided}
-use Rattle.sm_replay.specs.Trials.{IsFirstViolation}
-use Rattle.sm_replay.specs.declared.verdict.Verdict.{Verdict}
-use Rattle.sm_solve.specs.declared.reach.Reach.{Reach}
-use Rattle.sm_houdini.specs.Outcomes.{Outcome, Accepted, Conflict, or_conflict, IsOutcome}
-use Rattle.sm_houdini.specs.Searchable.{plan_decides}
 
 module _ (t : Parts) (programs : PerCopy Block) (filled : AreFilled t programs) (sided : Bool)
     (exact : sided ≡ is_one_sided (λ (c : Copy). code_of (of_copy programs c))) (reach : Reach) (turns : ℕ) where

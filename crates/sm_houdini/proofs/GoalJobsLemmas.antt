@@ -1,21 +1,9 @@
 -- What jobs tell, each of its share of the templates.
-use Rattle.std.proofs.Common.{◌≡◌, ◌<◌, ◌≤◌, ℕ, Bool, not, ◌&&◌, Some, None, Ok, Err, List, length, get_or, zero-add, sym, ap, ◌∙◌, subst}
-use Rattle.std.specs.Prelude.{Result, IfOk}
-use Rattle.std.specs.declared.alloc.AllocError.{AllocError}
-use Rattle.sm_par.specs.Results.{StandInOrder}
-use Rattle.sm_term.specs.Tables.{TableValue, trees_in, sorts_in}
-use Rattle.sm_expand.specs.Views.{due_in, dues_in}
+use Rattle.sm_houdini.proofs.Imports.{◌≡◌, ◌<◌, ◌≤◌, ℕ, Bool, not, ◌&&◌, List, length, get_or, zero-add, sym, ap, ◌∙◌, subst, IfOk, AllocError, StandInOrder, TableValue, trees_in, sorts_in, due_in, Choice, choice_in, Reach, Marks, closing, closes_at, owner_in, RoundGoalsValue, TellsShare, holds_at_shared, AreKnown, all_marked, in_share, rows, Marked, NodeGoalsValue, TellsNodes, holds_but, holds_in_job, is_left_out, all_below, holds_at}
+use Rattle.std.proofs.Common.{Some, None, Ok, Err}
+use Rattle.std.specs.Prelude.{Result}
+use Rattle.sm_expand.specs.Views.{dues_in}
 use Rattle.sm_expand.specs.declared.due.Due.{Due}
-use Rattle.sm_sketch.specs.Choices.{Choice}
-use Rattle.sm_sketch.specs.ChoiceViews.{choice_in}
-use Rattle.sm_solve.specs.declared.reach.Reach.{Reach}
-use Rattle.sm_houdini.specs.declared.marks.Marks.{Marks}
-use Rattle.sm_houdini.specs.Closing.{closing, closes_at, owner_in}
-use Rattle.sm_houdini.specs.GoalJobs.{RoundGoalsValue, TellsShare, holds_at_shared}
-use Rattle.sm_houdini.specs.Known.{AreKnown}
-use Rattle.sm_houdini.specs.Marks.{all_marked, in_share, rows, Marked}
-use Rattle.sm_houdini.specs.NodeJobs.{NodeGoalsValue, TellsNodes, holds_but, holds_in_job, is_left_out, all_below}
-use Rattle.sm_houdini.specs.Rounds.{holds_at}
 use Rattle.sm_houdini.proofs.MarkedLemmas.{all_same}
 use Rattle.sm_houdini.proofs.NodeLemmas.{jobs_mean, below_again, shared_and_dealt}
 

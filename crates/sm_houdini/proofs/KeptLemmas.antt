@@ -1,36 +1,13 @@
 -- The plan of what is kept has obligations where that of all templates has.
-use Rattle.std.proofs.Common.{◌≡◌, ℕ, zero, suc, ◌+◌, ◌-◌, ◌/◌, ◌≤◌, ◌<◌, max, Bool, true, false, if◌then◌else◌, ℤ, Result, Ok, Err, List, [], ◌∷◌, ◌++◌, take, drop, length, slice_get, refl, sym, ap, ◌∙◌, subst, arith}
-use Rattle.std.specs.Prelude.{option_to_list}
-use Rattle.std.proofs.lemmas.Bool.Decides.{nat_tests}
-use Rattle.std.proofs.lemmas.List.{length-take, length-drop, take-append-drop}
+use Rattle.sm_houdini.proofs.Imports.{◌≡◌, ℕ, zero, suc, ◌+◌, ◌-◌, ◌/◌, ◌≤◌, ◌<◌, max, Bool, true, false, if◌then◌else◌, ℤ, List, [], ◌∷◌, ◌++◌, take, drop, length, refl, sym, ap, ◌∙◌, subst, arith, option_to_list, nat_tests, length-take, length-drop, take-append-drop, Sort, Expression, Code, Cmp, Copy, Parts, task_of, Assertion, term_of, Tree, Copies, form_nodes, form_depth, is_shallow, is_branching, Fault, branches, most_branches, size, obligations, Each, slots, weaker, HoldsOfTemplates, of_block_templates, of_loop_templates, each_take, each_drop, Choice, chosen_at, picked, halved, conjoined, kept_by, SketchNode, BlockSite, site_at, sites_of, plan_with, plans_with, each_picked, plan_of, full_choice, sketch_of, HoldsOfNodes, sketch_nodes, each_site, round_at, KeptExpands, owner_of, dues_of, holds_at, numbers_kept, kept}
+use Rattle.std.proofs.Common.{Result, Ok, Err, slice_get}
 use Rattle.sm_syntax.specs.declared.tree.Cmp.TheVariants as cmp
-use Rattle.sm_syntax.specs.declared.tree.Sort.{Sort}
-use Rattle.sm_syntax.specs.claim.Syntax.{Expression, Code}
-use Rattle.sm_syntax.specs.declared.tree.Cmp.{Cmp}
-use Rattle.sm_syntax.specs.claim.ConflictFree.{Copy}
-use Rattle.sm_syntax.specs.text.Parts.{Parts, task_of}
-use Rattle.sm_term.specs.Assertions.{Assertion}
-use Rattle.sm_term.specs.Symbolic.{term_of}
-use Rattle.sm_term.specs.Terms.{Tree}
-use Rattle.sm_plan.specs.Copies.{Copies}
-use Rattle.sm_plan.specs.Limits.{form_nodes, form_depth, is_kept, is_shallow}
-use Rattle.sm_plan.specs.Nodes.{is_branching}
-use Rattle.sm_plan.specs.Plans.{Due, Fault, branches, most_branches, size, obligations}
-use Rattle.sm_moves.proofs.SetsLemmas.{Each}
-use Rattle.sm_template.specs.Guards.{slots, weaker}
-use Rattle.sm_template.proofs.TemplatesLemmas.{HoldsOfTemplates, of_block_templates, of_loop_templates, each_take, each_drop}
-use Rattle.sm_sketch.specs.Choices.{Choice, chosen_at, picked, halved, conjoined, kept_by}
-use Rattle.sm_sketch.specs.Sketches.{SketchNode, Plain, LoopSite, BlockSite, Sketch, Draw, Sketches, Over, More, site_at, sites_of, plan_with, plans_with}
-use Rattle.sm_sketch.proofs.PickedLemmas.{each_picked}
+use Rattle.sm_plan.specs.Limits.{is_kept}
+use Rattle.sm_plan.specs.Plans.{Due}
+use Rattle.sm_sketch.specs.Sketches.{Plain, LoopSite, Sketch, Draw, Sketches, Over, More}
 use Rattle.sm_product.specs.Laws.{AreKept}
-use Rattle.sm_product.specs.ProductPlans.{plan_of, full_choice}
-use Rattle.sm_product.specs.Products.{sketch_of}
 use Rattle.sm_product.specs.Sizes.{is_within}
-use Rattle.sm_product.proofs.NodesLemmas.{HoldsOfNodes, sketch_nodes, each_site}
 use Rattle.sm_product.proofs.ObligationsLemmas.{obligations_back, expands_exactly}
-use Rattle.sm_houdini.specs.Laws.{round_at, KeptExpands}
-use Rattle.sm_houdini.specs.Owners.{owner_of}
-use Rattle.sm_houdini.specs.Rounds.{dues_of, holds_at, numbers_kept, kept}
 use Rattle.sm_houdini.proofs.DroppedLemmas.{sites_at, kept_round}
 use Rattle.sm_lemmas.proofs.Numbers.{half_less}
 

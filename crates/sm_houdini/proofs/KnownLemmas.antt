@@ -1,36 +1,12 @@
 -- What a round tells of the goals that the next one asks.
-use Rattle.std.proofs.Common.{◌≡◌, ℕ, zero, suc, ◌+◌, ◌==◌, ◌<◌, ◌≤◌, Bool, true, false, not, ◌&&◌, ◌||◌, Option, Some, None, ◌⊎◌, inl, inr, option_map, List, [], ◌∷◌, ◌++◌, map, length, get_or, slice_get, refl, sym, ap, ◌∙◌, subst, arith}
-use Rattle.std.specs.List.{list_all}
-use Rattle.std.specs.Prelude.{Vec, IfSome}
-use Rattle.std.specs.declared.alloc.Global.{Global}
-use Rattle.std.proofs.lemmas.List.{length-map}
-use Rattle.std.proofs.lemmas.Bool.{and_parts, or_right}
-use Rattle.std.proofs.lemmas.Bool.Decides.{nat_tests}
-use Rattle.sm_syntax.specs.text.Sorts.{Sorts}
-use Rattle.sm_term.specs.Assertions.{Assertion}
-use Rattle.sm_term.specs.Formulas.{NumberedFormula, numbered, assertion_in}
-use Rattle.sm_term.specs.declared.formula.Formula.{Formula}
-use Rattle.sm_term.specs.Tables.{TableValue, trees_in, sorts_in}
-use Rattle.sm_term.specs.TableLaws.{ExtendsTable}
-use Rattle.sm_term.specs.Terms.{Tree}
+use Rattle.sm_houdini.proofs.Imports.{◌≡◌, ℕ, zero, suc, ◌+◌, ◌==◌, ◌<◌, ◌≤◌, Bool, true, false, not, ◌&&◌, ◌||◌, ◌⊎◌, inl, inr, option_map, List, [], ◌∷◌, ◌++◌, length, get_or, refl, sym, ap, ◌∙◌, subst, arith, list_all, Vec, IfSome, Global, length-map, and_parts, or_right, nat_tests, Sorts, Assertion, NumberedFormula, numbered, assertion_in, Formula, TableValue, trees_in, sorts_in, ExtendsTable, Tree, AreFormsReady, forms_in, due_in, AreDuesReady, dues_stay, dues_ready, Choice, all_numbered, Reach, Asked, closing, closes_at, stays_at, owner_in, IsAsked, IsAskedBefore, AreKnown, ClosesAll, is_flagged, marked, all_marked, is_there, has_mark, rows, Marked, is_site, closes_if, holds_at, itself}
+use Rattle.std.proofs.Common.{Option, Some, None, map, slice_get}
 use Rattle.sm_plan.specs.Plans as plain
-use Rattle.sm_plan.specs.ReadyStates.{AreFormsReady}
-use Rattle.sm_plan.specs.Views.{forms_in}
-use Rattle.sm_expand.specs.Views.{due_in, dues_in, AreDuesReady}
+use Rattle.sm_expand.specs.Views.{dues_in}
 use Rattle.sm_expand.specs.declared.due.Due.{Due}
-use Rattle.sm_expand.proofs.PlansWiden.{dues_stay, dues_ready}
-use Rattle.sm_sketch.specs.Choices.{Choice}
-use Rattle.sm_list.specs.Parts.{all_numbered}
-use Rattle.sm_solve.specs.declared.reach.Reach.{Reach}
-use Rattle.sm_houdini.specs.declared.asked.Asked.{Asked}
-use Rattle.sm_houdini.specs.Closing.{closing, closes_at, stays_at, owner_in}
-use Rattle.sm_houdini.specs.Known.{IsAsked, IsAskedBefore, AreKnown, ClosesAll, is_flagged}
-use Rattle.sm_houdini.specs.Marks.{marked, all_marked, is_there, has_mark, rows, Marked}
-use Rattle.sm_houdini.specs.Rounds.{is_site, closes_if, holds_at}
 use Rattle.sm_houdini.proofs.ClosingLemmas.{closes_stays}
 use Rattle.sm_houdini.proofs.LoopLemmas.{get_any}
 use Rattle.sm_houdini.proofs.MarkedLemmas.{all_same}
-use Rattle.sm_lemmas.proofs.Tests.{itself}
 
 -- a mark that is there passes
 there_passes : (p : ℕ → Bool) (j : ℕ) (ns : List ℕ) (i : ℕ) → is_there (slice_get (marked p j ns) i) ≡ true → p (j + i) ≡ true

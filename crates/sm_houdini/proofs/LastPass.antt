@@ -1,13 +1,8 @@
 -- What the last pass over the obligations of what is kept comes upon.
-use Rattle.std.proofs.Common.{◌≡◌, ℕ, Bool, true, false, Option, Some, None, is_none, Ok, List, [], ◌∷◌, refl, sym, ap, ◌∙◌, subst}
-use Rattle.sm_syntax.specs.text.Parts.{Parts, task_of}
-use Rattle.sm_term.specs.Assertions.{Assertion}
-use Rattle.sm_plan.specs.Plans.{Due, obligations}
-use Rattle.sm_moves.proofs.SetsLemmas.{Each}
-use Rattle.sm_product.specs.ProductPlans.{plan_of}
-use Rattle.sm_houdini.specs.Laws.{AllClose, AllOwnedClose, AreFinalUnowned}
-use Rattle.sm_houdini.specs.Owners.{owner_of}
-use Rattle.sm_houdini.specs.Rounds.{dues_in, kept}
+use Rattle.sm_houdini.proofs.Imports.{◌≡◌, ℕ, Bool, true, false, is_none, List, [], ◌∷◌, refl, sym, ap, ◌∙◌, subst, Parts, task_of, Assertion, obligations, Each, plan_of, AllClose, AllOwnedClose, AreFinalUnowned, owner_of, kept}
+use Rattle.std.proofs.Common.{Option, Some, None, Ok}
+use Rattle.sm_plan.specs.Plans.{Due}
+use Rattle.sm_houdini.specs.Rounds.{dues_in}
 use Rattle.sm_houdini.proofs.OwnersLemmas.{owners_final}
 use Rattle.sm_houdini.proofs.RoundsLemmas.{kept_inductive}
 

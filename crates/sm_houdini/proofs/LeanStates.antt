@@ -1,48 +1,22 @@
 -- In the states of a plan whose kept formulas have no new value and no summary, no summary has more arguments than there are names.
-use Rattle.std.proofs.Common.{◌≡◌, ◌≤◌, ◌<◌, ℕ, zero, suc, ◌+◌, ◌-◌, ◌==◌, ◌&&◌, ◌||◌, nat_le, not, Bool, true, false, if◌then◌else◌, Option, Some, None, List, [], ◌∷◌, map, filter, length, refl, ap, subst, arith}
-use Rattle.std.specs.List.{flat_map, range_with_len}
-use Rattle.std.proofs.lemmas.Option.{same_Some}
+use Rattle.sm_houdini.proofs.Imports.{◌≡◌, ◌≤◌, ◌<◌, ℕ, zero, suc, ◌+◌, ◌-◌, ◌==◌, ◌&&◌, ◌||◌, nat_le, not, Bool, true, false, if◌then◌else◌, List, [], ◌∷◌, filter, length, refl, ap, subst, arith, flat_map, range_with_len, same_Some, Copy, Condition, Code, append, sort_of, Sorts, IsWellSorted, Sort, Assertion, negate, conj, terms_given, all_at_stores, SymbolicStore, term_of, form_of, Tree, Havoc, Fun, Copies, copies, each, has, is_inhabited, subsets, no_copies, is_kept, Node, Unfit, Opened, opened_by, where_true, after_step, both_ways, Plans, size, IsStateSorted, AreStatesSorted, IsTaskSorted, AreNumbered, State, start_facts, start_store, start_state, is_over, is_long, is_loop, front, rest_after, loop_guard, last_guard, node_sorted, front_well, start_sorted, Each, each_append, EachSide, AllSides, NoTerm, states_opened, plan_states, plans_states, IsBuilt, EachKept, IsStoreBuilt, term_built, form_built, negate_sides, conj_sides, sides_append, and_from, le_true}
+use Rattle.std.proofs.Common.{Option, Some, None, map}
 use Rattle.sm_syntax.specs.Assigns.{assigns}
-use Rattle.sm_syntax.specs.claim.ConflictFree.{Copy, Task}
+use Rattle.sm_syntax.specs.claim.ConflictFree.{Task}
 use Rattle.sm_syntax.specs.claim.Syntax as syntax
-use Rattle.sm_syntax.specs.claim.Syntax.{Condition, Code, append}
-use Rattle.sm_syntax.specs.text.Parts.{sort_of}
-use Rattle.sm_syntax.specs.text.Sorts.{Sorts, IsWellSorted}
-use Rattle.sm_syntax.specs.declared.tree.Sort.{Sort}
 use Rattle.sm_deps.specs.Inputs.{needed, greatest, inputs}
 use Rattle.sm_deps.specs.Names.{code_names}
 use Rattle.sm_deps.proofs.InputsDeclared.{inputs_declared, assigned_declared}
 use Rattle.sm_deps.proofs.InputsExact.{inputs_listed}
-use Rattle.sm_term.specs.Assertions.{Assertion, negate, conj}
-use Rattle.sm_term.specs.Heads.{terms_given}
-use Rattle.sm_term.specs.Slots.{all_at_stores}
-use Rattle.sm_term.specs.Symbolic.{SymbolicStore, with_term, term_of, form_of}
-use Rattle.sm_term.specs.Terms.{Tree, Havoc, Write, Fun}
-use Rattle.sm_plan.specs.Copies.{Copies, copies, each, has, is_inhabited, subsets, no_copies}
-use Rattle.sm_plan.specs.Limits.{is_kept}
-use Rattle.sm_plan.specs.Nodes.{Node, Step, Abs, Fork, Loop, Block, Dead, Ends, Unfit, Opened, opened_by, where_true, after_step, both_ways}
-use Rattle.sm_plan.specs.Plans.{Plan, At, Plans, Over, More, size}
-use Rattle.sm_plan.specs.SortedStates.{IsStateSorted, AreStatesSorted, IsTaskSorted}
-use Rattle.sm_plan.specs.Starts.{AreNumbered}
-use Rattle.sm_plan.specs.States.{State, start_facts, start_store, start_state}
-use Rattle.sm_plan.specs.Statements.{is_over, is_long, is_loop, front, rest_after, loop_guard, last_guard}
+use Rattle.sm_term.specs.Symbolic.{with_term}
+use Rattle.sm_term.specs.Terms.{Write}
+use Rattle.sm_plan.specs.Nodes.{Step, Abs, Fork, Loop, Block, Dead, Ends}
+use Rattle.sm_plan.specs.Plans.{Plan, At, Over, More}
 use Rattle.sm_plan.specs.Successors as next
 use Rattle.sm_plan.proofs.CopiesLemmas.{one_copy}
-use Rattle.sm_plan.proofs.NodeSorted.{node_sorted}
-use Rattle.sm_plan.proofs.SortedCode.{front_well}
-use Rattle.sm_plan.proofs.SortedStates.{start_sorted}
 use Rattle.sm_plan.proofs.StartsMade.{declared_below}
-use Rattle.sm_moves.proofs.SetsLemmas.{Each, each_append}
-use Rattle.sm_write.specs.Nameable.{EachSide, AllSides}
-use Rattle.sm_write.specs.PlainPlans.{NoTerm}
-use Rattle.sm_write.specs.PlanStates.{states_opened, plan_states, plans_states}
-use Rattle.sm_write.specs.Seen.{IsBuilt}
-use Rattle.sm_write.specs.Writable.{EachKept}
-use Rattle.sm_write.proofs.BuiltTerms.{IsStoreBuilt, term_built, form_built, negate_sides, conj_sides, sides_append}
 use Rattle.sm_houdini.proofs.LeanTerms.{is_lean, are_lean, Lean, built_lean, all_at_lean}
 use Rattle.sm_houdini.proofs.NamedGoals.{AreSimple, AreAllSimple, outputs_simple}
-use Rattle.std.proofs.lemmas.Bool.{and_from}
-use Rattle.sm_lemmas.proofs.Tests.{le_true}
 
 -- numbers of a range that pass a test and are below another are no more than that one
 few_pass : (p : ℕ → Bool) (most k n : ℕ) → ((x : ℕ) → p x ≡ true → x < most) → length (filter p (range_with_len k n)) ≤ most - k

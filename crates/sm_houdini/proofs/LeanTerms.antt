@@ -1,17 +1,6 @@
 -- Terms in which no summary has more than so many arguments.
-use Rattle.std.proofs.Common.{◌≡◌, ◌≤◌, ℕ, nat_le, Bool, true, ◌&&◌, List, [], ◌∷◌, length, refl, arith}
-use Rattle.std.proofs.lemmas.Bool.{and_parts, and_from}
-use Rattle.sm_syntax.specs.claim.ConflictFree.{Copy}
-use Rattle.sm_term.specs.Assertions.{Assertion, Yes, No, Eq, Ne, Le, Lt, And, Or}
-use Rattle.sm_term.specs.Heads.{terms_given, arguments_of}
-use Rattle.sm_term.specs.Slots.{fill_term, at_stores, all_at_stores}
-use Rattle.sm_term.specs.Symbolic.{SymbolicStore}
-use Rattle.sm_term.specs.Terms.{Tree, Lit, Start, Havoc, Slot, Cell, Read, Write, Neg, Add, Sub, Mul, Fun, Arguments, Over, Given}
-use Rattle.sm_write.specs.Nameable.{EachOf, EachSide, AllSides, PassesTest}
-use Rattle.sm_write.specs.PlainPlans.{NoTerm}
-use Rattle.sm_write.specs.Seen.{IsBuilt}
-use Rattle.sm_write.proofs.BuiltTerms.{IsStoreBuilt}
-use Rattle.sm_lemmas.proofs.Tests.{le_from_test}
+use Rattle.sm_houdini.proofs.Imports.{◌≡◌, ◌≤◌, ℕ, nat_le, Bool, true, ◌&&◌, List, [], ◌∷◌, length, refl, arith, and_parts, and_from, Copy, Assertion, Yes, No, Eq, Ne, Le, Lt, And, Or, terms_given, arguments_of, fill_term, at_stores, all_at_stores, SymbolicStore, Tree, Lit, Start, Havoc, Slot, Cell, Read, Neg, Add, Sub, Mul, Fun, Arguments, Given, EachOf, EachSide, AllSides, PassesTest, NoTerm, IsBuilt, IsStoreBuilt, le_from_test}
+use Rattle.sm_term.specs.Terms.{Write, Over}
 
 abbrev mutual
   -- each summary in a term has at most so many arguments, inside others too

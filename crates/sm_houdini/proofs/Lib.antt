@@ -1,3 +1,4 @@
+mod Imports
 pub mod PlacesLemmas
 pub mod OwnersLemmas
 pub mod RoundsLemmas

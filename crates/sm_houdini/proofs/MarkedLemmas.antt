@@ -1,11 +1,7 @@
 -- Marks of templates: one more, those that stay, and the numbers that they keep.
-use Rattle.std.proofs.Common.{◌≡◌, ℕ, suc, ◌+◌, ◌<◌, ◌≤◌, Bool, true, false, ◌&&◌, if◌then◌else◌, List, [], ◌∷◌, ◌++◌, map, length, take, get_or, refl, sym, ap, ◌∙◌, arith}
-use Rattle.std.specs.Prelude.{Vec}
-use Rattle.std.specs.declared.alloc.Global.{Global}
-use Rattle.std.proofs.lemmas.List.{length-take-le, map-append, take_more}
-use Rattle.sm_sketch.specs.Choices.{Choice}
-use Rattle.sm_houdini.specs.Marks.{marked, all_marked, still_marked, numbers_of, rows, Marked}
-use Rattle.sm_houdini.specs.Rounds.{numbers_kept, sites_kept}
+use Rattle.sm_houdini.proofs.Imports.{◌≡◌, ℕ, suc, ◌+◌, ◌<◌, ◌≤◌, Bool, true, false, ◌&&◌, if◌then◌else◌, List, [], ◌∷◌, ◌++◌, length, take, get_or, refl, sym, ap, ◌∙◌, arith, Vec, Global, length-take-le, map-append, take_more, Choice, marked, all_marked, still_marked, rows, Marked, numbers_kept, sites_kept}
+use Rattle.std.proofs.Common.{map}
+use Rattle.sm_houdini.specs.Marks.{numbers_of}
 use Rattle.sm_houdini.proofs.LoopLemmas.{taken}
 
 -- one more at the end

@@ -1,39 +1,12 @@
 -- What a plan asks compares what can be named where it is asked, where what its nodes keep is sorted and has no new value and no summary.
-use Rattle.std.proofs.Common.{◌≡◌, ℕ, zero, suc, ◌+◌, nat_le, not, ◌&&◌, ◌||◌, Option, Some, None, Ok, List, [], ◌∷◌, ◌++◌, map, slice_get, refl, sym, subst}
-use Rattle.std.specs.List.{flat_map}
-use Rattle.std.proofs.lemmas.Option.{same_Some}
-use Rattle.sm_syntax.specs.claim.ConflictFree.{Copy, O, A, B, M, Task}
-use Rattle.sm_syntax.specs.claim.Syntax.{Code, End, Skip, Assign, Write, If, While, Hole}
-use Rattle.sm_syntax.specs.text.Sorts.{Sorts}
-use Rattle.sm_syntax.specs.declared.tree.Sort.{Sort}
-use Rattle.sm_syntax.specs.declared.tree.Sort.TheVariants.{Num, Arr}
-use Rattle.sm_term.specs.Assertions.{Assertion, No, conj}
-use Rattle.sm_term.specs.Slots.{all_at_stores}
-use Rattle.sm_term.specs.Sorted.{AreFormsSorted}
-use Rattle.sm_term.specs.Symbolic.{SymbolicStore}
-use Rattle.sm_plan.specs.Copies.{Copies, each, has, is_inhabited, subsets}
-use Rattle.sm_plan.specs.Limits.{is_kept}
-use Rattle.sm_plan.specs.Nodes.{Node, Step, Abs, Fork, Loop, Block, Dead, Ends, Unfit, Opened, opened_by, after_step, both_ways, rule_of}
-use Rattle.sm_plan.specs.Plans.{Plan, At, Plans, Over, More, size, Due, Fault, Wrong, due, expand, expand_all}
-use Rattle.sm_plan.specs.SortedStates.{IsStateSorted, AreStatesSorted, IsNodeSorted, IsTaskSorted}
-use Rattle.sm_plan.specs.States.{State, place, keeps_goals, start_state}
-use Rattle.sm_plan.specs.Statements.{is_over, is_long, is_loop}
+use Rattle.sm_houdini.proofs.Imports.{◌≡◌, ℕ, zero, suc, ◌+◌, nat_le, not, ◌&&◌, ◌||◌, List, [], ◌∷◌, ◌++◌, refl, sym, subst, flat_map, same_Some, Copy, O, A, B, M, Code, End, Skip, Assign, If, While, Hole, Sorts, Sort, Num, Arr, Assertion, No, conj, all_at_stores, AreFormsSorted, SymbolicStore, Copies, each, has, is_inhabited, subsets, is_kept, Node, Unfit, Opened, opened_by, after_step, both_ways, rule_of, Plans, size, Fault, Wrong, due, expand, expand_all, IsStateSorted, AreStatesSorted, IsNodeSorted, IsTaskSorted, State, place, keeps_goals, start_state, is_over, is_long, is_loop, node_sorted, start_sorted, conj_sorted, Each, each_append, AllSides, Nameable, NoTerm, states_opened, plan_states, plans_states, IsBuilt, EachKept, states_until, states_are_nameable, conj_sides, sides_append, goals_nameable, opened_same, joined_is}
+use Rattle.std.proofs.Common.{Option, Some, None, Ok, map, slice_get}
+use Rattle.sm_syntax.specs.claim.ConflictFree.{Task}
+use Rattle.sm_syntax.specs.claim.Syntax.{Write}
+use Rattle.sm_plan.specs.Nodes.{Step, Abs, Fork, Loop, Block, Dead, Ends}
+use Rattle.sm_plan.specs.Plans.{Plan, At, Over, More, Due}
 use Rattle.sm_plan.specs.Successors as next
-use Rattle.sm_plan.proofs.NodeSorted.{node_sorted}
-use Rattle.sm_plan.proofs.SortedStates.{start_sorted}
-use Rattle.sm_plan.proofs.SortedTerms.{conj_sorted}
-use Rattle.sm_moves.proofs.SetsLemmas.{Each, each_append}
-use Rattle.sm_write.specs.Nameable.{AllSides, Nameable}
-use Rattle.sm_write.specs.PlainPlans.{NoTerm}
-use Rattle.sm_write.specs.PlanStates.{states_opened, plan_states, plans_states}
-use Rattle.sm_write.specs.Seen.{IsBuilt}
-use Rattle.sm_write.specs.Writable.{EachKept, states_until}
-use Rattle.sm_write.proofs.BranchNameable.{states_are_nameable}
-use Rattle.sm_write.proofs.BuiltTerms.{conj_sides, sides_append}
-use Rattle.sm_write.proofs.SimpleNameable.{goals_nameable}
 use Rattle.sm_houdini.proofs.PlacesLemmas.{IsAt, at_first, at_rest, at_left, at_right, at_start, dues_same, plan_parts, states_length}
-use Rattle.sm_plan.proofs.OpenedSame.{opened_same}
-use Rattle.sm_plan.proofs.PlanSound.{joined_is}
 
 -- what a node keeps is sorted and has no new value and no summary
 abbrev pub IsSimple : Sorts → Node → Type 0

@@ -1,10 +1,7 @@
 -- What nodes ask where some are left out, and marks after all jobs.
-use Rattle.std.proofs.Common.{◌≡◌, ℕ, zero, suc, ◌+◌, ◌==◌, ◌<◌, ◌≤◌, Bool, true, false, not, ◌&&◌, ◌||◌, nat_lt, Option, Some, None, List, [], ◌∷◌, length, slice_get, refl, sym, ap, ◌∙◌, arith}
-use Rattle.std.proofs.lemmas.Bool.Decides.{nat_tests}
-use Rattle.sm_term.specs.Assertions.{Assertion}
+use Rattle.sm_houdini.proofs.Imports.{◌≡◌, ℕ, zero, suc, ◌+◌, ◌==◌, ◌<◌, ◌≤◌, Bool, true, false, not, ◌&&◌, ◌||◌, nat_lt, List, [], ◌∷◌, length, refl, sym, ap, ◌∙◌, arith, nat_tests, Assertion, holds_but, number_at, is_left_out, all_below, is_site, closes_if, holds_at}
+use Rattle.std.proofs.Common.{Option, Some, None, slice_get}
 use Rattle.sm_plan.specs.Plans as plain
-use Rattle.sm_houdini.specs.NodeJobs.{holds_but, number_at, is_left_out, all_below}
-use Rattle.sm_houdini.specs.Rounds.{is_site, closes_if, holds_at}
 
 abbrev Closes : Type 0
 Closes = List Assertion → Assertion → Bool

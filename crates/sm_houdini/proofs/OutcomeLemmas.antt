@@ -1,16 +1,11 @@
 -- A search comes to one outcome, and its conflict is that of the least trial that violates.
-use Rattle.std.proofs.Common.{◌≡◌, inl, inr, ℕ, suc, Bool, true, false, if◌then◌else◌, Option, Some, None, List, [], ◌∷◌, sym, ap, ◌∙◌, subst}
-use Rattle.sm_syntax.specs.text.Parts.{Parts, sort_of, task_of}
-use Rattle.sm_term.specs.Assertions.{Assertion}
+use Rattle.sm_houdini.proofs.Imports.{◌≡◌, inl, inr, ℕ, suc, Bool, true, false, if◌then◌else◌, List, [], ◌∷◌, sym, ap, ◌∙◌, subst, Parts, sort_of, task_of, Assertion, is_small, IsLeast, IsFirstViolation, Verdict, Walked, Opens, TooFar, GoesOut, OutcomeIsOne, ConflictIsLeast, Outcome, Accepted, Conflict, Open, Coefficient, goal_outcome, goals_outcome, final_outcome, kept_dues, plan_outcome, or_conflict}
+use Rattle.std.proofs.Common.{Option, Some, None}
 use Rattle.sm_plan.specs.Plans.{Due}
-use Rattle.sm_product.specs.Sizes.{is_small}
 use Rattle.sm_replay.specs.Laws.{FirstViolationIsOne}
-use Rattle.sm_replay.specs.Trials.{IsLeast, IsFirstViolation}
-use Rattle.sm_replay.specs.declared.verdict.Verdict.{Verdict}
-use Rattle.sm_judge.specs.Forms.{Walked, Closes, Opens, TooFar, GoesOut}
+use Rattle.sm_judge.specs.Forms.{Closes}
 use Rattle.sm_solve.specs.Walk as walks
-use Rattle.sm_houdini.specs.Laws.{OutcomeIsOne, ConflictIsLeast}
-use Rattle.sm_houdini.specs.Outcomes.{Outcome, Accepted, Conflict, Open, Steps, Coefficient, TooMany, goal_outcome, goals_outcome, final_outcome, kept_dues, plan_outcome, or_conflict}
+use Rattle.sm_houdini.specs.Outcomes.{Steps, TooMany}
 use Rattle.sm_houdini.proofs.TotalsLemmas.{different}
 
 pub outcomes_same : FirstViolationIsOne → OutcomeIsOne

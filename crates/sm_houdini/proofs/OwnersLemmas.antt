@@ -1,36 +1,14 @@
 -- A goal is final exactly where no site owns it. What a site asks are the templates that are chosen there, at the stores of the node that asks.
-use Rattle.std.proofs.Common.{◌≡◌, ◌⊎◌, ℕ, suc, ◌+◌, Bool, true, false, not, ◌&&◌, ◌||◌, Option, Some, None, is_none, inl, inr, Result, Ok, Err, List, [], ◌∷◌, ◌++◌, map, length, slice_get, refl, sym, ap, ◌∙◌, subst, arith, ⊎_elim}
-use Rattle.std.specs.Prelude.{unwrap_or}
-use Rattle.std.proofs.lemmas.Option.{same_Some}
-use Rattle.std.proofs.lemmas.List.{length-append}
-use Rattle.sm_syntax.specs.claim.Syntax.{Code, End, Skip, Assign, Write, If, While, Hole}
-use Rattle.sm_syntax.specs.claim.ConflictFree.{Copy}
-use Rattle.sm_syntax.specs.text.Parts.{Parts, task_of}
-use Rattle.sm_term.specs.Assertions.{Assertion, conj}
-use Rattle.sm_term.specs.Slots.{all_at_stores}
-use Rattle.sm_term.specs.Symbolic.{SymbolicStore}
-use Rattle.sm_plan.specs.Copies.{Copies, subsets, each, has, is_inhabited}
-use Rattle.sm_plan.specs.Limits.{is_shallow, is_kept}
-use Rattle.sm_plan.specs.Nodes.{Node, Step, Abs, Fork, Loop, Block, Ends, Opened, opened_by, rule_of, is_end, where_true, after_step, both_ways}
-use Rattle.sm_plan.specs.Plans.{Plans, At, Due, Fault, Wrong, Deep, due, expand, expand_all, size, sizes, branches, obligations}
-use Rattle.sm_plan.specs.States.{State, start_state}
-use Rattle.sm_plan.specs.Statements.{is_over, is_long, is_loop}
+use Rattle.sm_houdini.proofs.Imports.{◌≡◌, ◌⊎◌, ℕ, suc, ◌+◌, Bool, true, false, not, ◌&&◌, ◌||◌, is_none, inl, inr, List, [], ◌∷◌, ◌++◌, length, refl, sym, ap, ◌∙◌, subst, arith, ⊎_elim, unwrap_or, same_Some, length-append, Code, End, Skip, Assign, If, While, Hole, Copy, Parts, task_of, Assertion, conj, all_at_stores, SymbolicStore, Copies, subsets, each, has, is_inhabited, is_shallow, is_kept, Node, Opened, opened_by, rule_of, is_end, where_true, after_step, both_ways, Plans, Fault, Wrong, Deep, due, expand, expand_all, size, sizes, branches, obligations, State, start_state, is_over, is_long, is_loop, Each, each_append, Choice, chosen_at, picked, kept_by, SketchNode, BlockSite, sites_of, sites_below, plan_with, plans_with, plan_of, sketch_of, EachNode, EachBelow, HoldsOfNodes, sketch_nodes, AreFinalUnowned, FinalHasNoOwner, AllAskChosen, SitesAskChosen, states_opened, plan_states, plans_states, states_of, AsksChosen, owners, owners_below, owner_of, opened_same, joined_is, passed}
+use Rattle.std.proofs.Common.{Option, Some, None, Result, Ok, Err, map, slice_get}
+use Rattle.sm_syntax.specs.claim.Syntax.{Write}
+use Rattle.sm_plan.specs.Nodes.{Step, Abs, Fork, Loop, Block, Ends}
+use Rattle.sm_plan.specs.Plans.{At, Due}
 use Rattle.sm_plan.specs.Successors as next
-use Rattle.sm_moves.proofs.SetsLemmas.{Each, each_append}
-use Rattle.sm_sketch.specs.Choices.{Choice, chosen_at, picked, kept_by}
-use Rattle.sm_sketch.specs.Sketches.{SketchNode, Plain, LoopSite, BlockSite, Sketch, Draw, Sketches, Over, More, sites_of, sites_below, plan_with, plans_with}
+use Rattle.sm_sketch.specs.Sketches.{Plain, LoopSite, Sketch, Draw, Sketches, Over, More}
 use Rattle.sm_product.specs.ProductPlans as plans
-use Rattle.sm_product.specs.ProductPlans.{plan_of}
-use Rattle.sm_product.specs.Products.{sketch_of}
 use Rattle.sm_product.proofs.ChoicesLemmas.{kept_parts_chosen}
-use Rattle.sm_product.proofs.NodesLemmas.{EachNode, EachBelow, HoldsOfNodes, sketch_nodes}
-use Rattle.sm_houdini.specs.Laws.{AreFinalUnowned, FinalHasNoOwner, AllAskChosen, SitesAskChosen}
-use Rattle.sm_write.specs.PlanStates.{states_opened, plan_states, plans_states}
-use Rattle.sm_houdini.specs.Obligations.{states_of, AsksChosen}
-use Rattle.sm_houdini.specs.Owners.{owners, owners_below, owner_of}
 use Rattle.sm_houdini.proofs.PlacesLemmas.{IsAt, at_first, at_rest, at_left, at_right, at_start, dues_same, plan_parts, states_length}
-use Rattle.sm_plan.proofs.OpenedSame.{opened_same}
-use Rattle.sm_plan.proofs.PlanSound.{joined_is, passed}
 
 -- a state has the target of another one
 record IsAs (st other : State) : Type 0 where

@@ -1,33 +1,14 @@
 -- The plans of two choices side by side. Where one has all templates of the other, each node asks these of it too, over the other's facts
 -- among others.
-use Rattle.std.proofs.Common.{◌≡◌, ◌⊎◌, inl, inr, ℕ, suc, ◌+◌, Bool, not, ◌&&◌, ◌||◌, Option, Some, None, Ok, Err, List, [], ◌∷◌, ◌++◌, map, length, slice_get, refl, sym, ap, ◌∙◌, subst, arith}
-use Rattle.std.specs.List.{flat_map}
-use Rattle.std.proofs.lemmas.Option.{same_Some}
-use Rattle.sm_syntax.specs.claim.Syntax.{Code, End, Skip, Assign, Write, If, While, Hole}
-use Rattle.sm_syntax.specs.claim.ConflictFree.{Copy}
-use Rattle.sm_syntax.specs.text.Parts.{Parts, task_of}
-use Rattle.sm_term.specs.Assertions.{Assertion, conj}
-use Rattle.sm_term.specs.Slots.{all_at_stores}
-use Rattle.sm_term.specs.Symbolic.{SymbolicStore}
-use Rattle.sm_plan.specs.Copies.{Copies, subsets, each, has, is_inhabited, copies, no_copies}
-use Rattle.sm_plan.specs.Limits.{is_kept, is_shallow}
-use Rattle.sm_plan.specs.Nodes.{Node, Step, Abs, Fork, Loop, Block, Ends, Opened, opened_by, rule_of, where_true, after_step, both_ways}
-use Rattle.sm_plan.specs.Plans.{Due, Fault, Wrong, Deep, due, expand, expand_all, size, branches, obligations}
-use Rattle.sm_plan.specs.States.{State, start_state}
-use Rattle.sm_plan.specs.Statements.{is_over, is_long, front, rest_after, is_loop}
+use Rattle.sm_houdini.proofs.Imports.{◌≡◌, ◌⊎◌, inl, inr, ℕ, suc, ◌+◌, Bool, not, ◌&&◌, ◌||◌, List, [], ◌∷◌, ◌++◌, length, refl, sym, ap, ◌∙◌, subst, arith, flat_map, same_Some, Code, End, Skip, Assign, If, While, Hole, Copy, Parts, task_of, Assertion, conj, all_at_stores, SymbolicStore, Copies, subsets, each, has, is_inhabited, copies, no_copies, is_kept, is_shallow, Node, Opened, opened_by, rule_of, where_true, after_step, both_ways, Fault, Wrong, Deep, due, expand, expand_all, size, branches, obligations, State, start_state, is_over, is_long, front, rest_after, is_loop, Each, each_append, each_of_all, Choice, kept_by, SketchNode, BlockSite, sites_of, sites_below, plan_with, plans_with, plan_of, sketch_of, EachNode, EachBelow, HoldsOfNodes, sketch_nodes, owners, owners_below, joined_is, passed, opened_same, get_in_first, get_in_second}
+use Rattle.std.proofs.Common.{Option, Some, None, Ok, Err, map, slice_get}
+use Rattle.sm_syntax.specs.claim.Syntax.{Write}
+use Rattle.sm_plan.specs.Nodes.{Step, Abs, Fork, Loop, Block, Ends}
+use Rattle.sm_plan.specs.Plans.{Due}
 use Rattle.sm_plan.specs.Successors as next
-use Rattle.sm_moves.proofs.SetsLemmas.{Each, each_append, each_of_all}
-use Rattle.sm_sketch.specs.Choices.{Choice, kept_by}
-use Rattle.sm_sketch.specs.Sketches.{SketchNode, Plain, LoopSite, BlockSite, Sketch, Draw, Sketches, Over, More, sites_of, sites_below, plan_with, plans_with}
-use Rattle.sm_product.specs.ProductPlans.{plan_of}
-use Rattle.sm_product.specs.Products.{sketch_of}
-use Rattle.sm_product.proofs.NodesLemmas.{EachNode, EachBelow, HoldsOfNodes, sketch_nodes}
-use Rattle.sm_houdini.specs.Owners.{owners, owners_below}
+use Rattle.sm_sketch.specs.Sketches.{Plain, LoopSite, Sketch, Draw, Sketches, Over, More}
 use Rattle.sm_houdini.proofs.OwnersLemmas.{HasParts, AskParts, parts_asked, KeepParts, parts_split, owners_length, not_ok, chosen_templates, sites_keep}
 use Rattle.sm_houdini.proofs.PlacesLemmas.{IsAt, at_first, at_rest, at_left, at_right, at_start, dues_same, plan_parts}
-use Rattle.sm_plan.proofs.PlanSound.{joined_is, passed}
-use Rattle.sm_plan.proofs.OpenedSame.{opened_same}
-use Rattle.sm_lemmas.proofs.Lists.{get_in_first, get_in_second}
 
 -- a relation of lists of formulas that holds of each list and itself, and stays with what is put behind and at stores
 pub record IsKept (Rel : List Assertion → List Assertion → Type 0) : Type 0 where

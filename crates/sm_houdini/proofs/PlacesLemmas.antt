@@ -1,12 +1,7 @@
 -- A list that stands in a longer one from a place on. A plan that has obligations has a state for each node.
-use Rattle.std.proofs.Common.{◌≡◌, ℕ, suc, ◌+◌, ◌==◌, if◌then◌else◌, Option, Some, Result, Ok, Err, List, [], ◌∷◌, ◌++◌, length, slice_get, refl, ap, ◌∙◌, arith}
-use Rattle.std.proofs.lemmas.List.{length-append}
-use Rattle.sm_plan.specs.Nodes.{Node, Opened, opened_by, rule_of}
-use Rattle.sm_plan.specs.Plans.{Plan, At, Plans, Over, More, size, sizes, count, Due, Fault, Wrong, due, joined, expand, expand_all}
-use Rattle.sm_plan.specs.States.{State}
-use Rattle.sm_write.specs.PlanStates.{states_opened, plan_states, plans_states}
-use Rattle.sm_lemmas.proofs.Lists.{get_in_first, get_in_second}
-use Rattle.sm_plan.proofs.PlanSound.{opened_is, joined_is, passed}
+use Rattle.sm_houdini.proofs.Imports.{◌≡◌, ℕ, suc, ◌+◌, ◌==◌, if◌then◌else◌, List, [], ◌∷◌, ◌++◌, length, refl, ap, ◌∙◌, arith, length-append, Node, Opened, opened_by, rule_of, Plans, size, sizes, count, Fault, Wrong, due, joined, expand, expand_all, State, states_opened, plan_states, plans_states, get_in_first, get_in_second, opened_is, joined_is, passed}
+use Rattle.std.proofs.Common.{Option, Some, Result, Ok, Err, slice_get}
+use Rattle.sm_plan.specs.Plans.{Plan, At, Over, More, Due}
 
 module _ {X : Type 0} (all : List X) where
   -- a list stands in the longer one from a place on

@@ -1,20 +1,9 @@
 -- The plan of a one-sided task keeps no formula, so that each table has what it keeps.
-use Rattle.std.proofs.Common.{◌≡◌, nat_le, Bool, true, false, if◌then◌else◌, List, [], ◌∷◌, ◌++◌, sym, subst}
-use Rattle.std.specs.List.{AllByRecursion}
-use Rattle.sm_syntax.specs.claim.Syntax.{Code}
-use Rattle.sm_syntax.specs.claim.ConflictFree.{Copy, O, A, B, M}
-use Rattle.sm_syntax.specs.text.Sorts.{Sorts}
-use Rattle.sm_term.specs.Terms.{Tree}
-use Rattle.sm_term.specs.Formulas.{assertion_in}
+use Rattle.sm_houdini.proofs.Imports.{◌≡◌, nat_le, Bool, true, false, if◌then◌else◌, List, [], ◌∷◌, ◌++◌, sym, subst, AllByRecursion, Code, Copy, O, A, B, M, Sorts, Tree, assertion_in, Node, nodes_of, all_nodes, is_over, NumberedNode, NumberedPlan, NumberedPlans, plan_over, plans_over, IsKeepReady, IsPlanReady, ArePlansReady, own_statements, summary_before, whole_plan}
 use Rattle.sm_plan.specs.Masks.{set_of}
 use Rattle.sm_plan.specs.Nodes as node
-use Rattle.sm_plan.specs.Nodes.{Node}
 use Rattle.sm_plan.specs.Plans as tree
-use Rattle.sm_plan.specs.Plans.{nodes_of, all_nodes}
-use Rattle.sm_plan.specs.Statements.{is_over}
-use Rattle.sm_expand.specs.NumberedPlans.{NumberedNode, Step, Abs, Fork, Loop, Block, Dead, Ends, NumberedPlan, At, NumberedPlans, Over, More, node_over, plan_over, plans_over, IsKeepReady, IsPlanReady, ArePlansReady}
-use Rattle.sm_moves.specs.CodeShapes.{own_statements}
-use Rattle.sm_sided.specs.WholePlan.{summary_before, whole_plan}
+use Rattle.sm_expand.specs.NumberedPlans.{Step, Abs, Fork, Loop, Block, Dead, Ends, At, Over, More, node_over}
 
 -- nodes that fit a state and keep no formula
 abbrev IsBare : Node → Type 0

@@ -1,12 +1,9 @@
 -- Owners of nodes and rounds of small tasks, worked by hand.
-use Rattle.std.proofs.Common.{◌≡◌, refl, Bool, true, false, None, Some, List, [], ◌∷◌, ◌++◌, replicate}
-use Rattle.sm_term.specs.Assertions.{Assertion, Yes, No, Eq, Ne, Le, Lt, And, Or}
+use Rattle.sm_houdini.proofs.Imports.{◌≡◌, refl, Bool, true, false, List, [], ◌∷◌, ◌++◌, replicate, Assertion, Yes, No, Eq, Ne, Le, Lt, And, Or, sketch_of, owners, kept}
+use Rattle.std.proofs.Common.{None, Some}
 use Rattle.sm_plan.specs.Limits.{is_kept, is_shallow}
-use Rattle.sm_product.specs.Products.{sketch_of}
 use Rattle.sm_product.proofs.BranchExamples.{hole_in_if}
 use Rattle.sm_product.proofs.LoopExamples.{two_edits, unequal_loops}
-use Rattle.sm_houdini.specs.Owners.{owners}
-use Rattle.sm_houdini.specs.Rounds.{kept}
 
 -- four steps before the loop, which asks what it keeps, as do the 111 nodes of its turns; then the end
 two_edits_owners : owners None 0 (sketch_of two_edits) ≡

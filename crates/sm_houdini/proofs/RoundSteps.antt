@@ -1,28 +1,13 @@
 -- Rounds: marks after what the nodes ask, what is next, and what settles.
-use Rattle.std.proofs.Common.{◌≡◌, ℕ, zero, suc, ◌+◌, ◌<◌, ◌≤◌, Bool, true, false, not, ◌&&◌, ◌||◌, if◌then◌else◌, Option, None, List, [], ◌∷◌, map, length, drop, get_or, slice_get, add-one, refl, sym, ap, ◌∙◌, arith}
-use Rattle.std.proofs.Math.Seq.{drop-cons}
-use Rattle.std.proofs.lemmas.List.{drop-map}
-use Rattle.sm_syntax.specs.text.Parts.{Parts, sort_of}
-use Rattle.sm_syntax.specs.text.Sorts.{Sorts}
-use Rattle.sm_term.specs.Assertions.{Assertion}
-use Rattle.sm_term.specs.Tables.{TableValue, trees_in, sorts_in}
-use Rattle.sm_term.specs.TableLaws.{ExtendsTable}
-use Rattle.sm_term.specs.Terms.{Tree}
+use Rattle.sm_houdini.proofs.Imports.{◌≡◌, ℕ, zero, suc, ◌+◌, ◌<◌, ◌≤◌, Bool, true, false, not, ◌&&◌, ◌||◌, if◌then◌else◌, List, [], ◌∷◌, length, drop, get_or, add-one, refl, sym, ap, ◌∙◌, arith, drop-cons, drop-map, Parts, sort_of, Sorts, Assertion, TableValue, trees_in, sorts_in, ExtendsTable, Tree, due_in, AreDuesReady, Choice, sketch_of, Reach, facts_at, closing, stays_at, owner_in, Knows, all_marked, Marked, holds_but, owners, is_site, closes_if, holds_at, next_round, settled, dues_of, same_choice}
+use Rattle.std.proofs.Common.{Option, None, map, slice_get}
 use Rattle.sm_text.specs.declared.task.Task.{Task}
 use Rattle.sm_plan.specs.Plans as plain
-use Rattle.sm_expand.specs.Views.{due_in, dues_in, AreDuesReady}
+use Rattle.sm_expand.specs.Views.{dues_in}
 use Rattle.sm_expand.specs.declared.due.Due.{Due}
-use Rattle.sm_sketch.specs.Choices.{Choice}
 use Rattle.sm_sketch.proofs.SketchesWiden.{sketch_stays, sketch_ready}
-use Rattle.sm_product.specs.Products.{sketch_of}
-use Rattle.sm_solve.specs.declared.reach.Reach.{Reach}
-use Rattle.sm_goals.proofs.NodesLemmas.{facts_at}
 use Rattle.sm_houdini.specs.declared.product.Product.{Product}
-use Rattle.sm_houdini.specs.Closing.{closing, stays_at, owner_in, Knows}
-use Rattle.sm_houdini.specs.Marks.{all_marked, numbers_of, Marked}
-use Rattle.sm_houdini.specs.NodeJobs.{holds_but}
-use Rattle.sm_houdini.specs.Owners.{owners}
-use Rattle.sm_houdini.specs.Rounds.{is_site, closes_if, holds_at, next_round, settled, dues_of, same_choice}
+use Rattle.sm_houdini.specs.Marks.{numbers_of}
 use Rattle.sm_houdini.proofs.MarkedLemmas.{all_same, sites_same}
 use Rattle.sm_houdini.proofs.ClosingLemmas.{due_stays}
 use Rattle.sm_houdini.proofs.NodeLemmas.{with_true}

@@ -1,23 +1,8 @@
 -- The rounds come to an end: one that changes anything drops a template. Under the kept choice each goal that a site asks closes.
-use Rattle.std.proofs.Common.{◌≡◌, ◌⊎◌, inl, inr, ℕ, zero, suc, ◌+◌, ◌==◌, ◌≤◌, ◌<◌, Bool, true, false, not, ◌||◌, if◌then◌else◌, Option, Some, None, Result, Ok, Err, List, [], ◌∷◌, length, slice_get, refl, sym, ap, ◌∙◌, subst, arith}
-use Rattle.std.proofs.Common.{⊎_elim}
-use Rattle.std.specs.Prelude.{option_to_list}
-use Rattle.std.specs.List.{list_all}
-use Rattle.std.proofs.lemmas.List.{length-append, length-map}
-use Rattle.std.proofs.lemmas.Bool.{and_parts, and_from}
-use Rattle.std.proofs.lemmas.Bool.Decides.{nat_tests, Decides-eqb}
-use Rattle.sm_syntax.specs.claim.ConflictFree.{Copy}
-use Rattle.sm_syntax.specs.text.Parts.{Parts, task_of}
-use Rattle.sm_term.specs.Assertions.{Assertion}
-use Rattle.sm_term.specs.Slots.{at_stores, all_at_stores}
-use Rattle.sm_term.specs.Symbolic.{SymbolicStore}
-use Rattle.sm_plan.specs.Plans.{Due, Fault, obligations}
-use Rattle.sm_sketch.specs.Choices.{Choice, chosen_at, picked}
-use Rattle.sm_product.specs.ProductPlans.{templates, plan_of, full_choice}
-use Rattle.sm_houdini.specs.Laws.{AllAskChosen, AllClose, AllOwnedClose, KeptIsInductive}
-use Rattle.sm_houdini.specs.Obligations.{AsksChosen}
-use Rattle.sm_houdini.specs.Owners.{owner_of}
-use Rattle.sm_houdini.specs.Rounds.{dues_in, dues_of, is_site, closes_if, holds_at, numbers_kept, sites_kept, next_round, total, same_numbers, same_choice, settled, kept}
+use Rattle.sm_houdini.proofs.Imports.{◌≡◌, ◌⊎◌, inl, inr, ℕ, zero, suc, ◌+◌, ◌==◌, ◌≤◌, ◌<◌, Bool, true, false, not, ◌||◌, if◌then◌else◌, List, [], ◌∷◌, length, refl, sym, ap, ◌∙◌, subst, arith, ⊎_elim, option_to_list, list_all, length-append, length-map, and_parts, and_from, nat_tests, Decides-eqb, Copy, Parts, task_of, Assertion, at_stores, all_at_stores, SymbolicStore, Fault, obligations, Choice, chosen_at, picked, templates, plan_of, full_choice, AllAskChosen, AllClose, AllOwnedClose, KeptIsInductive, AsksChosen, owner_of, dues_of, is_site, closes_if, holds_at, numbers_kept, sites_kept, next_round, total, same_numbers, same_choice, settled, kept}
+use Rattle.std.proofs.Common.{Option, Some, None, Result, Ok, Err, slice_get}
+use Rattle.sm_plan.specs.Plans.{Due}
+use Rattle.sm_houdini.specs.Rounds.{dues_in}
 use Rattle.sm_houdini.proofs.OwnersLemmas.{owners_ask}
 
 -- lists of numbers that the test finds the same are equal

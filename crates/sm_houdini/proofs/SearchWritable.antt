@@ -1,6 +1,5 @@
 -- The plan of a choice can be written with certificates of all that it asks.
-use Rattle.sm_product.specs.ProductPlans.{plan_of}
-use Rattle.sm_houdini.specs.Laws.{SearchIsWritable}
+use Rattle.sm_houdini.proofs.Imports.{plan_of, SearchIsWritable}
 use Rattle.sm_houdini.proofs.SimpleWritable.{simple_writable}
 use Rattle.sm_houdini.proofs.SortedSites.{product_simple}
 

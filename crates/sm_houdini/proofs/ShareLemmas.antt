@@ -1,15 +1,8 @@
 -- Marks that two become, and those of all shares together.
-use Rattle.std.proofs.Common.{◌≡◌, ℕ, zero, suc, ◌+◌, ◌%◌, ◌==◌, ◌<◌, ◌≤◌, Bool, true, false, ◌&&◌, ◌||◌, List, [], ◌∷◌, ◌++◌, length, take, get_or, slice_get, mod-lt, refl, sym, ap, ◌∙◌, arith}
-use Rattle.std.proofs.lemmas.List.{length-take-le, map-append, take_more}
-use Rattle.std.proofs.lemmas.Bool.Decides.{nat_tests}
-use Rattle.std.specs.Prelude.{Vec}
-use Rattle.std.specs.declared.alloc.Global.{Global}
-use Rattle.sm_sketch.specs.Choices.{Choice}
-use Rattle.sm_houdini.specs.Marks.{marked, all_marked, in_share, is_there, rows, Marked}
+use Rattle.sm_houdini.proofs.Imports.{◌≡◌, ℕ, zero, suc, ◌+◌, ◌%◌, ◌==◌, ◌<◌, ◌≤◌, Bool, true, false, ◌&&◌, ◌||◌, List, [], ◌∷◌, ◌++◌, length, take, get_or, mod-lt, refl, sym, ap, ◌∙◌, arith, length-take-le, map-append, take_more, nat_tests, Vec, Global, Choice, marked, all_marked, in_share, is_there, rows, Marked, or_left, or_true}
+use Rattle.std.proofs.Common.{slice_get}
 use Rattle.sm_houdini.proofs.ClosingLemmas.{marked_length, rows_length}
 use Rattle.sm_houdini.proofs.MarkedLemmas.{all_marked_more, mark_put, all_same}
-use Rattle.std.proofs.lemmas.Bool.{or_left}
-use Rattle.sm_lemmas.proofs.Tests.{or_true}
 
 -- the marks at places
 get_marked : (p : ℕ → Bool) (i : ℕ) (ns : List ℕ) (k : ℕ) (d : Marked) (e : ℕ) → k < length ns →

@@ -1,19 +1,7 @@
 -- Certificates whose lines are short, line by line.
-use Rattle.std.proofs.Common.{◌≡◌, ℕ, ◌+◌, ◌<◌, List, [], ◌∷◌, ◌++◌, length, take, get_or, sym, ap, ◌∙◌, subst, Bool, true, false}
-use Rattle.std.specs.Prelude.{Box}
-use Rattle.std.specs.declared.alloc.Global.{Global}
-use Rattle.std.proofs.lemmas.List.{take_more}
-use Rattle.sm_term.specs.Terms.{Tree}
-use Rattle.sm_theory.specs.Views.{line_in}
-use Rattle.sm_theory.specs.declared.line.CertLine.{CertLine}
+use Rattle.sm_houdini.proofs.Imports.{◌≡◌, ℕ, ◌+◌, ◌<◌, List, [], ◌∷◌, ◌++◌, length, take, get_or, sym, ap, ◌∙◌, subst, Bool, true, false, Box, Global, take_more, Tree, line_in, CertLine, Certificate, Next, Split, certificate_in, lines_before, CertTree, tree_split, IsShortLine, IsShort, never_true}
 use Rattle.sm_cert.specs.declared.tree.CertEnd.TheVariants as ends
-use Rattle.sm_cert.specs.Certificates.{Certificate, Next, Split}
-use Rattle.sm_cert.specs.Views.{certificate_in, lines_before}
-use Rattle.sm_cert.specs.declared.tree.CertTree.{CertTree}
-use Rattle.sm_cert.proofs.CheckLemmas.{tree_split}
-use Rattle.sm_write.specs.Writable.{IsShortLine, IsShort}
 use Rattle.sm_solve.proofs.ReadingLemmas.{before_last}
-use Rattle.sm_lemmas.proofs.Tests.{never_true}
 
 pub lines_short : (trees : List Tree) (ls : List CertLine) (i : ℕ) (l : CertLine) (c : Certificate) →
     ((d : Certificate) → IsShort d → IsShort (lines_before trees (take i ls) d)) → i < length ls → l ≡ get_or ls i l →

@@ -1,49 +1,18 @@
 -- Certificates of what a product asks have no line with many facts.
-use Rattle.std.proofs.Common.{◌≡◌, ◌≤◌, ℕ, ℤ, zero, suc, ◌+◌, nat_lt, Bool, true, false, ◌&&◌, if◌then◌else◌, Option, Some, None, List, [], ◌∷◌, ◌++◌, length, slice_get, refl, ap, subst, arith}
-use Rattle.std.proofs.lemmas.Bool.{and_parts, and_from}
-use Rattle.std.proofs.lemmas.Bool.Decides.{nat_tests}
-use Rattle.std.proofs.lemmas.Option.{same_Some}
-use Rattle.sm_syntax.specs.claim.ConflictFree.{Copy, O, A, B, M}
-use Rattle.sm_syntax.specs.claim.Fill.{fill}
-use Rattle.sm_syntax.specs.claim.Syntax.{Code}
-use Rattle.sm_syntax.specs.text.Conditions.{Refusal, TooMany, over, first_of_all, double_hole, hole_in_filling, unknown_hole, missing_filling, ill_formed, ill_assumed, first_refusal, double_name, first_output_fault, first_sort_fault}
-use Rattle.sm_syntax.specs.text.Conditions.{size_fault, code_nodes, code_depth, program_fault}
-use Rattle.sm_syntax.specs.text.Parts.{Parts, sort_of, task_of}
-use Rattle.sm_syntax.specs.text.Sorts.{Sorts}
-use Rattle.sm_syntax.specs.declared.tree.Sort.{Sort}
-use Rattle.sm_syntax.specs.declared.tree.Sort.TheVariants.{Num, Arr}
+use Rattle.sm_houdini.proofs.Imports.{◌≡◌, ◌≤◌, ℕ, ℤ, zero, suc, ◌+◌, nat_lt, Bool, true, false, ◌&&◌, if◌then◌else◌, List, [], ◌∷◌, ◌++◌, length, refl, ap, subst, arith, and_parts, and_from, nat_tests, same_Some, Copy, O, A, B, M, fill, Code, Refusal, over, first_of_all, double_hole, hole_in_filling, unknown_hole, missing_filling, ill_assumed, double_name, first_output_fault, first_sort_fault, size_fault, code_nodes, code_depth, Parts, sort_of, task_of, Sorts, Sort, Num, Arr, Eq, arguments_of, same_head, IsDeclaredIn, tree_sort, Tree, BranchFact, EachNamed, facts_named, Certificate, Next, Closed, Split, lines_in, splits_above, first_bad, TooManySplits, bad_line, refused, EachTerm, State, start_state, Each, each_take, plan_of, EachInStates, IsClosed, Nameable, NoTerm, plan_states, IsBuilt, IsAtom, Goal, all_goals, states_until, AreShown, IsShort, AreShort, built_more, sides_more, term_more, NamesShort, AllNameShort, CertifiedAreShort, ValidIsSearchable, parts_none}
+use Rattle.std.proofs.Common.{Option, Some, None, slice_get}
+use Rattle.sm_syntax.specs.text.Conditions.{TooMany, ill_formed, first_refusal}
+use Rattle.sm_syntax.specs.text.Conditions.{program_fault}
 use Rattle.sm_syntax.specs.text.Uses.{names_used}
-use Rattle.sm_term.specs.Assertions.{Eq}
-use Rattle.sm_term.specs.Heads.{arguments_of, same_head}
-use Rattle.sm_term.specs.Sorted.{IsDeclaredIn, tree_sort}
-use Rattle.sm_term.specs.Terms.{Tree}
 use Rattle.sm_theory.specs.Equality.{or_other, formula_if, say_equal, is_inhabited_list}
-use Rattle.sm_theory.specs.Facts.{BranchFact}
 use Rattle.sm_theory.specs.Lines as cert
 use Rattle.sm_theory.specs.Lines.{CertificateLine}
-use Rattle.sm_theory.specs.Named.{EachNamed, facts_named}
 use Rattle.sm_theory.specs.Ways.{ways_with, adding, adds}
-use Rattle.sm_cert.specs.Certificates.{Certificate, Next, Closed, Split, lines_in, splits_above, first_bad, TooManySplits, bad_line, refused}
-use Rattle.sm_cert.specs.NamedTerms.{EachTerm}
-use Rattle.sm_plan.specs.States.{State, start_state}
-use Rattle.sm_moves.proofs.SetsLemmas.{Each}
-use Rattle.sm_template.proofs.TemplatesLemmas.{each_take}
-use Rattle.sm_product.specs.ProductPlans.{plan_of}
-use Rattle.sm_write.specs.Nameable.{EachInStates, IsClosed, Nameable}
-use Rattle.sm_write.specs.PlainPlans.{NoTerm}
-use Rattle.sm_write.specs.PlanStates.{plan_states}
-use Rattle.sm_write.specs.Seen.{IsBuilt, IsAtom}
-use Rattle.sm_write.specs.Writable.{Goal, all_goals, states_until, AreShown, IsShort, AreShort}
-use Rattle.sm_write.proofs.BuiltTerms.{built_more, sides_more}
-use Rattle.sm_write.proofs.ReadyPlans.{term_more}
-use Rattle.sm_houdini.specs.Certified.{NamesShort, AllNameShort}
 use Rattle.sm_product.proofs.HolesLemmas.{valid_no_hole}
-use Rattle.sm_houdini.specs.Laws.{CertifiedAreShort, ValidIsSearchable}
 use Rattle.sm_houdini.proofs.LeanStates.{IsLeanState, states_lean}
 use Rattle.sm_houdini.proofs.LeanTerms.{is_lean, Lean, built_lean, arguments_lean, arguments_few}
 use Rattle.sm_houdini.proofs.SimpleWritable.{shown_goals}
 use Rattle.sm_houdini.proofs.SortedSites.{product_simple}
-use Rattle.sm_cert.proofs.CertificateMoves.{parts_none}
 use Rattle.sm_syntax.proofs.Refusals.{neither_refuses}
 use Rattle.sm_cert.proofs.WaysTaken.{two_ways, one_way, no_way}
 

@@ -1,36 +1,15 @@
 -- Where each template of a choice is shown under it, each is shown in every round that has them all as well.
-use Rattle.std.proofs.Common.{◌≡◌, ◌⊎◌, inl, inr, ℕ, zero, suc, ◌+◌, ◌==◌, ◌<◌, Bool, true, false, Option, Some, None, Result, Ok, Err, List, [], ◌∷◌, ◌++◌, length, slice_get, refl, sym, ap, ◌∙◌, subst, arith}
-use Rattle.std.specs.Prelude.{unwrap_or}
-use Rattle.std.proofs.lemmas.Option.{same_Some}
-use Rattle.sm_syntax.specs.claim.ConflictFree.{Copy}
-use Rattle.sm_syntax.specs.text.Conditions.{is_in}
-use Rattle.sm_syntax.specs.text.Parts.{Parts, sort_of, task_of}
-use Rattle.sm_syntax.specs.text.Sorts.{Sorts}
-use Rattle.sm_term.specs.Assertions.{Assertion, negate}
-use Rattle.sm_term.specs.Slots.{at_stores, all_at_stores}
-use Rattle.sm_term.specs.Symbolic.{SymbolicStore}
-use Rattle.sm_theory.specs.Facts.{BranchFact, Formal, as_facts}
+use Rattle.sm_houdini.proofs.Imports.{◌≡◌, ◌⊎◌, inl, inr, ℕ, zero, suc, ◌+◌, ◌==◌, ◌<◌, Bool, true, false, List, [], ◌∷◌, ◌++◌, length, refl, sym, ap, ◌∙◌, subst, arith, unwrap_or, same_Some, Copy, is_in, Parts, sort_of, task_of, Sorts, Assertion, negate, at_stores, all_at_stores, SymbolicStore, BranchFact, Formal, as_facts, moved_names, Fault, obligations, Each, Choice, chosen_at, kept_by, templates, plan_of, sketch_of, HasCertificate, round_at, AskedUnderFewer, ShownInRounds, Obligation, HasTemplates, HasAll, IsShownUnder, is_closing, owners, owner_of, dues_of, holds_at, next_round, or_left, or_right, itself}
+use Rattle.std.proofs.Common.{Option, Some, None, Result, Ok, Err, slice_get}
 use Rattle.sm_theory.specs.Moved.{StandAmong}
 use Rattle.sm_cert.specs.Laws.{ClosesMoved}
-use Rattle.sm_cert.proofs.CertificateMoves.{moved_names}
 use Rattle.sm_cert.specs.MovedTrees.{moved_certificate, moved_past}
-use Rattle.sm_plan.specs.Plans.{Due, Fault, obligations}
-use Rattle.sm_moves.proofs.SetsLemmas.{Each}
-use Rattle.sm_sketch.specs.Choices.{Choice, chosen_at, kept_by}
-use Rattle.sm_product.specs.ProductPlans.{templates, plan_of}
-use Rattle.sm_product.specs.Products.{sketch_of}
-use Rattle.sm_houdini.specs.Certified.{HasCertificate}
-use Rattle.sm_houdini.specs.Laws.{round_at, AskedUnderFewer, ShownInRounds}
-use Rattle.sm_houdini.specs.Obligations.{Obligation, HasTemplates, HasAll, IsShownUnder}
-use Rattle.sm_houdini.specs.Outcomes.{is_closing}
-use Rattle.sm_houdini.specs.Owners.{owners, owner_of}
-use Rattle.sm_houdini.specs.Rounds.{dues_in, dues_of, holds_at, next_round}
+use Rattle.sm_plan.specs.Plans.{Due}
+use Rattle.sm_houdini.specs.Rounds.{dues_in}
 use Rattle.sm_houdini.proofs.DroppedLemmas.{AreBelow, place_in, number_kept, there_is, picked_at, map_at, sites_at, round_below, place_refuted}
 use Rattle.sm_houdini.proofs.OwnersLemmas.{chosen_templates}
 use Rattle.sm_houdini.proofs.AmongLemmas.{Among, among_itself, among_append, among_kept, among_picked, StandFormulas, stand_kept, stand_picked, stand_in_has}
 use Rattle.sm_houdini.proofs.PairedLemmas.{IsKept, Shown, PairedBy, Paired, product_paired}
-use Rattle.std.proofs.lemmas.Bool.{or_left, or_right}
-use Rattle.sm_lemmas.proofs.Tests.{itself}
 
 all_below : (len : ℕ) (ns : List ℕ) → ((n : ℕ) → is_in ns n ≡ true → n < len) → AreBelow len ns
 all_below len [] h = tt

@@ -1,31 +1,11 @@
 -- A plan whose kept formulas are sorted and have no new value and no summary can be written, where each goal is certified.
-use Rattle.std.proofs.Common.{◌≡◌, ℕ, suc, Ok, List, [], ◌∷◌, ◌++◌, map, refl, ap, subst}
-use Rattle.sm_syntax.specs.text.Parts.{Parts, sort_of, task_of}
-use Rattle.sm_syntax.specs.text.Sorts.{Sorts}
-use Rattle.sm_term.specs.Assertions.{Assertion, negate}
-use Rattle.sm_term.specs.Sorted.{IsFormSorted, AreFormsSorted}
-use Rattle.sm_theory.specs.Facts.{BranchFact, Formal, as_facts}
-use Rattle.sm_cert.specs.Certificates.{Certificate, Closes}
-use Rattle.sm_cert.specs.NamedTerms.{EachTerm}
-use Rattle.sm_plan.specs.Limits.{is_shallow}
-use Rattle.sm_plan.specs.Nodes.{Node, Step, Abs, Fork, Loop, Block, Dead, Ends, Unfit}
-use Rattle.sm_plan.specs.Plans.{Plan, At, Plans, Over, More, branches, nodes_of, all_nodes, Due, Deep, expand, obligations}
-use Rattle.sm_plan.specs.SortedStates.{IsTaskSorted}
-use Rattle.sm_plan.specs.States.{State, start_state}
-use Rattle.sm_moves.proofs.SetsLemmas.{Each, each_append}
-use Rattle.sm_solve.specs.Answers.{terms_walked}
-use Rattle.sm_list.specs.Branches.{IsOneOf}
-use Rattle.sm_write.specs.BranchTerms.{IsTermOf}
-use Rattle.sm_write.specs.Nameable.{EachSide, AllSides, Nameable}
-use Rattle.sm_write.specs.PlanStates.{plan_states}
-use Rattle.sm_write.specs.Writable.{Goal, denied, all_goals, states_until, AreShown, EachKept, AreKeptNameable, AreShort, IsWritable}
-use Rattle.sm_write.proofs.BranchNameable.{branches_are_nameable}
-use Rattle.sm_write.proofs.ReadyPlans.{term_more}
-use Rattle.sm_write.proofs.SimpleNameable.{kept_nameable}
-use Rattle.sm_houdini.specs.Certified.{asked, AreCertified}
+use Rattle.sm_houdini.proofs.Imports.{◌≡◌, ℕ, suc, List, [], ◌∷◌, ◌++◌, refl, ap, subst, Parts, sort_of, task_of, Sorts, Assertion, negate, IsFormSorted, AreFormsSorted, BranchFact, Formal, as_facts, Certificate, EachTerm, is_shallow, Node, Unfit, Plans, branches, nodes_of, all_nodes, Deep, expand, obligations, IsTaskSorted, State, start_state, Each, each_append, terms_walked, IsOneOf, IsTermOf, EachSide, AllSides, Nameable, plan_states, Goal, denied, all_goals, states_until, AreShown, EachKept, AreKeptNameable, AreShort, IsWritable, branches_are_nameable, term_more, kept_nameable, asked, AreCertified, passed}
+use Rattle.std.proofs.Common.{Ok, map}
+use Rattle.sm_cert.specs.Certificates.{Closes}
+use Rattle.sm_plan.specs.Nodes.{Step, Abs, Fork, Loop, Block, Dead, Ends}
+use Rattle.sm_plan.specs.Plans.{Plan, At, Over, More, Due}
 use Rattle.sm_houdini.proofs.NamedGoals.{IsSimple, AreSimple, AreAllSimple, IsNamed, asked_named}
 use Rattle.sm_houdini.proofs.WalkedTerms.{walked_terms}
-use Rattle.sm_plan.proofs.PlanSound.{passed}
 
 -- the branch of a goal
 branch_same : (facts : List Assertion) (goal : Assertion) → as_facts (facts ++ negate goal ∷ []) ≡ denied facts goal

@@ -1,34 +1,17 @@
 -- Owners of nodes and templates of sites, by how a sketch ends.
-use Rattle.std.proofs.Common.{◌≡◌, ℕ, suc, ◌+◌, ◌<◌, ◌≤◌, Option, Some, None, List, [], ◌∷◌, ◌++◌, map, length, take, get_or, refl, sym, ap, ◌∙◌, subst, arith}
-use Rattle.std.specs.Prelude.{Vec, Box}
-use Rattle.std.specs.declared.alloc.Global.{Global}
+use Rattle.sm_houdini.proofs.Imports.{◌≡◌, ℕ, suc, ◌+◌, ◌<◌, ◌≤◌, List, [], ◌∷◌, ◌++◌, length, take, get_or, refl, sym, ap, ◌∙◌, subst, arith, Vec, Box, Global, range_with_len, append_assoc, length-append, map-append, take_more, take_all, Sorts, Formula, Assertion, Tree, forms_in, simple_node, TemplateChoice, Choice, all_chosen, sites_of, sites_below, stacked, numbered_sketch, numbered_end, numbered_sketches, sketch_in, rows, owners, owners_below, owners_from, chosen_from, targets, Puts, PutsAll, forms_long}
+use Rattle.std.proofs.Common.{Option, Some, None, map}
 use Rattle.std.specs.declared.rc.Rc.{Rc}
-use Rattle.std.specs.List.{range_with_len}
-use Rattle.std.proofs.lemmas.List.{append_assoc, length-append, map-append, take_more, take_all}
-use Rattle.sm_syntax.specs.text.Sorts.{Sorts}
-use Rattle.sm_term.specs.declared.formula.Formula.{Formula}
-use Rattle.sm_term.specs.Assertions.{Assertion}
-use Rattle.sm_term.specs.Terms.{Tree}
 use Rattle.sm_plan.specs.declared.state.Formulas.{Formulas}
-use Rattle.sm_plan.specs.Views.{forms_in}
-use Rattle.sm_expand.specs.Views.{simple_node}
 use Rattle.sm_expand.specs.declared.plan.Simple.{Simple}
-use Rattle.sm_sketch.specs.declared.kept.TemplateChoice.{TemplateChoice}
 use Rattle.sm_sketch.specs.declared.sketch.SketchEnd.{SketchEnd}
 use Rattle.sm_sketch.specs.declared.sketch.SketchEnd.TheVariants as last
 use Rattle.sm_sketch.specs.declared.sketch.Sketches.{Sketches, out-Sketches}
-use Rattle.sm_sketch.specs.Choices.{Choice, all_chosen}
 use Rattle.sm_sketch.specs.NumberedSketches.{Plain, LoopSite, NumberedSketch, Draw, Over, More, sketch_over, sketches_over, sketches_before}
 use Rattle.sm_sketch.specs.Sketches as tree
-use Rattle.sm_sketch.specs.Sketches.{sites_of, sites_below}
-use Rattle.sm_sketch.specs.SketchViews.{stacked, numbered_sketch, numbered_end, numbered_sketches, sketch_in}
 use Rattle.sm_sketch.specs.declared.sketch.Sketch.{Sketch}
 use Rattle.sm_sketch.proofs.SketchEnds.{sketch_is, sketches_are, fork_end, end_loop, block_end}
 use Rattle.sm_houdini.specs.declared.sites.Sites.{Sites}
-use Rattle.sm_houdini.specs.Marks.{rows}
-use Rattle.sm_houdini.specs.Owners.{owners, owners_below}
-use Rattle.sm_houdini.specs.SitesBelow.{owners_from, chosen_from, targets, Puts, PutsAll}
-use Rattle.sm_expand.proofs.NodeTaken.{forms_long}
 
 append_none : {X : Type 0} (xs : List X) → xs ++ [] ≡ xs
 append_none [] = refl

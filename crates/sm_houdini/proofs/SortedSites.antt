@@ -1,29 +1,10 @@
 -- What each node of a product's plan keeps is sorted and has no new value and no summary, where the task is sorted.
-use Rattle.std.proofs.Common.{ℕ, zero, suc, ◌+◌, Bool, true, false, not, ◌&&◌, ◌||◌, if◌then◌else◌, List, [], ◌∷◌, length}
-use Rattle.std.specs.List.{list_any}
-use Rattle.sm_syntax.specs.claim.Syntax.{Code, End, Skip, Assign, Write, If, While, Hole, append}
-use Rattle.sm_syntax.specs.claim.Fill.{filling, fill}
-use Rattle.sm_syntax.specs.claim.ConflictFree.{Copy}
-use Rattle.sm_syntax.specs.text.Parts.{Parts, sort_of, task_of}
-use Rattle.sm_syntax.specs.text.Sorts.{Sorts, IsWellSorted}
-use Rattle.sm_term.specs.SameTerms.{is_copy}
-use Rattle.sm_plan.specs.Copies.{Copies, has, no_copies, is_inhabited, subsets, with_copy}
-use Rattle.sm_plan.specs.Nodes.{Node, Step, Abs}
-use Rattle.sm_plan.specs.SortedStates.{IsTaskSorted}
-use Rattle.sm_plan.specs.Starts.{AreNumbered}
-use Rattle.sm_plan.specs.Statements.{rest_after, loop_body}
-use Rattle.sm_plan.proofs.SortedCode.{rest_well, guard_well, body_well}
-use Rattle.sm_moves.specs.CodeShapes.{has_hole, has_fork, own_statements, by_first_block, by_second_block}
-use Rattle.sm_moves.specs.CopySets.{all_copies, members, with_member, without, only_in}
+use Rattle.sm_houdini.proofs.Imports.{ℕ, zero, suc, ◌+◌, Bool, true, false, not, ◌&&◌, ◌||◌, if◌then◌else◌, List, [], ◌∷◌, length, list_any, Code, End, Skip, Assign, If, While, Hole, append, filling, fill, Copy, Parts, sort_of, task_of, Sorts, IsWellSorted, is_copy, Copies, has, no_copies, is_inhabited, subsets, with_copy, Node, IsTaskSorted, AreNumbered, rest_after, loop_body, rest_well, guard_well, body_well, has_hole, has_fork, own_statements, by_first_block, by_second_block, all_copies, members, with_member, without, only_in, Each, block_templates, loop_templates, Choice, kept_by, SketchNode, BlockSite, ends, each_of, turns_then, looped, apart, site_at, sites_of, node_with, plan_with, plans_with, plan_of, where_any, forked, branched, product_if, product_while, filled, product, sketch_of, EachNode, EachBelow}
+use Rattle.sm_syntax.specs.claim.Syntax.{Write}
+use Rattle.sm_plan.specs.Nodes.{Step, Abs}
 use Rattle.sm_moves.specs.Moves.{Move, Done, Steps, Summaries, Forks, Loops, is_shared, move_of, moved_on}
-use Rattle.sm_moves.proofs.SetsLemmas.{Each}
-use Rattle.sm_template.specs.Templates.{block_templates, loop_templates}
-use Rattle.sm_sketch.specs.Choices.{Choice, kept_by}
-use Rattle.sm_sketch.specs.Sketches.{SketchNode, Plain, LoopSite, BlockSite, Sketch, Draw, Sketches, Over, More, ends, each_of, turns_then, looped, apart, site_at, sites_of, node_with, plan_with, plans_with}
+use Rattle.sm_sketch.specs.Sketches.{Plain, LoopSite, Sketch, Draw, Sketches, Over, More}
 use Rattle.sm_product.specs.MiniProducts.{drawn, mini_product, statements_left, side_by_side}
-use Rattle.sm_product.specs.ProductPlans.{plan_of}
-use Rattle.sm_product.specs.Products.{where_any, forked, branched, product_if, product_while, filled, product, sketch_of}
-use Rattle.sm_product.proofs.NodesLemmas.{EachNode, EachBelow}
 use Rattle.sm_houdini.proofs.NamedGoals.{IsSimple, AreSimple, AreAllSimple}
 use Rattle.sm_houdini.proofs.SortedTemplates.{IsSimpleForm, AreDeclared, numbered_declared, block_simple, loops_simple, kept_simple}
 use Rattle.sm_product.proofs.BranchesLeft.{first_well, second_well}

@@ -1,39 +1,11 @@
 -- Templates of declared names, and of guards that are well sorted, are sorted and have no new value and no summary.
-use Rattle.std.proofs.Common.{◌≡◌, ℕ, zero, suc, ◌+◌, ◌==◌, ◌/◌, ◌≤◌, ◌<◌, Bool, true, false, if◌then◌else◌, ℤ, Some, List, [], ◌∷◌, ◌++◌, map, take, drop, length, refl, ap, ◌∙◌, arith}
-use Rattle.std.specs.List.{flat_map, range_with_len}
-use Rattle.std.proofs.lemmas.Bool.Decides.{nat_tests}
+use Rattle.sm_houdini.proofs.Imports.{◌≡◌, ℕ, zero, suc, ◌+◌, ◌==◌, ◌/◌, ◌≤◌, ◌<◌, Bool, true, false, if◌then◌else◌, ℤ, List, [], ◌∷◌, ◌++◌, take, drop, length, refl, ap, ◌∙◌, arith, flat_map, range_with_len, nat_tests, Expression, Condition, Code, Cmp, Copy, O, A, B, M, Parts, sort_of, Sorts, IsWellSortedExpression, IsWellSortedCondition, Sort, Num, Arr, Assertion, Eq, HasSort, IsFormSorted, term_of, Tree, Lit, Start, Slot, Add, Copies, copies, AreNumbered, place, keeps_goals, loop_guard, loop_body, place_sorted, sort_is, members, only_in, pairs, Each, each_append, each_filter, each_of_all, slots, next_to, weaker, guard_templates, equal_cells, equal_copies, unchanged, apart_by, shifted, name_templates, written_templates, block_templates, loop_templates, each_distinct, each_take, each_drop, Choice, chosen_at, picked, halved, kept_by, each_picked, EachSide, NoTerm, IsBuilt}
+use Rattle.std.proofs.Common.{Some, map}
 use Rattle.sm_syntax.specs.declared.tree.Cmp.TheVariants as cmp
 use Rattle.sm_syntax.specs.claim.Syntax as syntax
-use Rattle.sm_syntax.specs.claim.Syntax.{Expression, Condition, Code}
-use Rattle.sm_syntax.specs.declared.tree.Cmp.{Cmp}
-use Rattle.sm_syntax.specs.claim.ConflictFree.{Copy, O, A, B, M}
-use Rattle.sm_syntax.specs.text.Parts.{Parts, sort_of}
-use Rattle.sm_syntax.specs.text.Sorts.{Sorts, IsWellSortedExpression, IsWellSortedCondition}
-use Rattle.sm_syntax.specs.declared.tree.Sort.{Sort}
-use Rattle.sm_syntax.specs.declared.tree.Sort.TheVariants.{Num, Arr}
-use Rattle.sm_term.specs.Assertions.{Assertion, Eq}
-use Rattle.sm_term.specs.Sorted.{HasSort, IsFormSorted}
-use Rattle.sm_term.specs.Symbolic.{term_of}
-use Rattle.sm_term.specs.Terms.{Tree, Lit, Start, Slot, Add}
-use Rattle.sm_plan.specs.Copies.{Copies, copies}
-use Rattle.sm_plan.specs.Starts.{AreNumbered}
-use Rattle.sm_plan.specs.States.{place, keeps_goals}
-use Rattle.sm_plan.specs.Statements.{loop_guard, loop_body}
-use Rattle.sm_plan.proofs.SortedStates.{place_sorted}
-use Rattle.sm_plan.proofs.SortedTerms.{sort_is}
-use Rattle.sm_moves.specs.CopySets.{members, only_in, pairs}
-use Rattle.sm_moves.proofs.SetsLemmas.{Each, each_append, each_filter, each_of_all}
-use Rattle.sm_template.specs.Guards.{slots, next_to, weaker, guard_templates}
 use Rattle.sm_template.specs.Literals.{literals_of}
 use Rattle.sm_template.specs.SameFormulas.{same_formula}
-use Rattle.sm_template.specs.Templates.{equal_cells, equal_copies, unchanged, apart_by, shifted, name_templates, written_templates, block_templates, loop_templates}
 use Rattle.sm_template.specs.Written.{is_written, names_written}
-use Rattle.sm_template.proofs.TemplatesLemmas.{each_distinct, each_take, each_drop}
-use Rattle.sm_sketch.specs.Choices.{Choice, chosen_at, picked, halved, kept_by}
-use Rattle.sm_sketch.proofs.PickedLemmas.{each_picked}
-use Rattle.sm_write.specs.Nameable.{EachSide}
-use Rattle.sm_write.specs.PlainPlans.{NoTerm}
-use Rattle.sm_write.specs.Seen.{IsBuilt}
 use Rattle.sm_term.proofs.ExpressionLemmas.{named_declared}
 
 -- a sorted formula with no new value and no summary

@@ -1,15 +1,5 @@
 -- A round drops templates, and drops none exactly where as many are left.
-use Rattle.std.proofs.Common.{◌≡◌, ℕ, suc, ◌+◌, ◌-◌, ◌<◌, ◌≤◌, ◌==◌, Bool, true, false, ◌&&◌, if◌then◌else◌, List, [], ◌∷◌, ◌++◌, length, take, refl, sym, ap, ◌∙◌, arith}
-use Rattle.std.specs.Prelude.{Vec}
-use Rattle.std.specs.declared.alloc.Global.{Global}
-use Rattle.std.proofs.lemmas.Bool.{eq-eqb, eqb-true}
-use Rattle.std.proofs.lemmas.List.{map-append}
-use Rattle.sm_sketch.specs.Choices.{Choice}
-use Rattle.sm_houdini.specs.Marks.{rows}
-use Rattle.sm_syntax.specs.text.Parts.{Parts}
-use Rattle.sm_term.specs.Assertions.{Assertion}
-use Rattle.sm_houdini.specs.Owners.{owner_of}
-use Rattle.sm_houdini.specs.Rounds.{numbers_kept, sites_kept, total, same_numbers, same_choice, holds_at, dues_of, next_round, settled}
+use Rattle.sm_houdini.proofs.Imports.{◌≡◌, ℕ, suc, ◌+◌, ◌-◌, ◌<◌, ◌≤◌, ◌==◌, Bool, true, false, ◌&&◌, if◌then◌else◌, List, [], ◌∷◌, ◌++◌, length, take, refl, sym, ap, ◌∙◌, arith, Vec, Global, eq-eqb, eqb-true, map-append, Choice, rows, Parts, Assertion, owner_of, numbers_kept, sites_kept, total, same_numbers, same_choice, holds_at, dues_of, next_round, settled}
 use Rattle.sm_houdini.proofs.RoundSteps.{settles_now, settles_later}
 use Rattle.sm_houdini.proofs.RoundsLemmas.{same_choices}
 

@@ -1,22 +1,9 @@
 -- Certificates that name no term are within each table.
-use Rattle.std.proofs.Common.{◌≡◌, ◌<◌, ℕ, List, [], ◌∷◌, ◌++◌, subst, sym}
-use Rattle.std.specs.List.{AllByRecursion}
+use Rattle.sm_houdini.proofs.Imports.{◌≡◌, ◌<◌, ℕ, List, [], ◌∷◌, ◌++◌, subst, sym, AllByRecursion, tree_at, Tree, EachNamed, line_in, IsLineWithin, numbered_line, CertLine, Certificate, EachTerm, lines_before, tree_layer, end_layer, certificate_in, end_lines, tree_lines, lines_of, AreLinesWithin, CertTree, CertTree-F, roll-CertTree, map-CertTree, fold-roll-CertTree, ind-CertTree, end_in, lines_of_end, NoTerm, AreTreesWithin}
 use Rattle.std.specs.Prelude.{map}
-use Rattle.sm_term.specs.Tables.{tree_at}
-use Rattle.sm_term.specs.Terms.{Tree}
-use Rattle.sm_theory.specs.Named.{EachNamed}
-use Rattle.sm_theory.specs.Views.{line_in, IsLineWithin, numbered_line}
-use Rattle.sm_theory.specs.declared.line.CertLine.{CertLine}
 use Rattle.sm_theory.proofs.LinesOver.{each_back, each_more}
 use Rattle.sm_cert.specs.declared.tree.CertEnd.TheOpen as layer
-use Rattle.sm_cert.specs.Certificates.{Certificate}
-use Rattle.sm_cert.specs.NamedTerms.{EachTerm}
-use Rattle.sm_cert.specs.Views.{lines_before, tree_layer, end_layer, certificate_in, end_lines, tree_lines, lines_of, AreLinesWithin}
-use Rattle.sm_cert.specs.declared.tree.CertTree.{CertTree, CertTree-F, roll-CertTree, map-CertTree, fold-roll-CertTree, ind-CertTree}
 use Rattle.sm_cert.specs.declared.tree.CertEnd.{CertEnd, CertEnd-F, roll-CertEnd, map-CertEnd, fold-roll-CertEnd}
-use Rattle.sm_cert.proofs.CheckLemmas.{end_in, lines_of_end}
-use Rattle.sm_write.specs.PlainPlans.{NoTerm}
-use Rattle.sm_write.specs.TreesWithin.{AreTreesWithin}
 
 module _ (count : ℕ) (trees : List Tree) where
   line_within : (l : CertLine) → EachNamed NoTerm (line_in trees l) → IsLineWithin count l

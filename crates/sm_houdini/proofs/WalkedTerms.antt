@@ -1,20 +1,10 @@
 -- The terms that a walk has are terms of its branch, where the facts and the goal are sorted.
-use Rattle.std.proofs.Common.{◌≡◌, ℕ, zero, suc, Bool, true, false, ◌||◌, if◌then◌else◌, Option, Some, None, List, [], ◌∷◌, ◌++◌, map, refl, sym, subst}
-use Rattle.std.specs.List.{list_any}
-use Rattle.sm_syntax.specs.text.Sorts.{Sorts}
-use Rattle.sm_term.specs.Terms.{Tree, Lit, Start, Havoc, Slot, Cell, Read, Write, Neg, Add, Sub, Mul, Fun, Arguments, Over, Given}
-use Rattle.sm_term.specs.Assertions.{Assertion, Yes, No, Eq, Ne, Le, Lt, And, Or, negate}
-use Rattle.sm_term.specs.Heads.{terms_given}
-use Rattle.sm_term.specs.SameTerms.{same_tree}
-use Rattle.sm_term.specs.Sorted.{IsSorted, AreArgumentsSorted, IsFormSorted, AreFormsSorted}
+use Rattle.sm_houdini.proofs.Imports.{◌≡◌, ℕ, zero, suc, Bool, true, false, ◌||◌, if◌then◌else◌, List, [], ◌∷◌, ◌++◌, refl, sym, subst, list_any, Sorts, Tree, Lit, Start, Havoc, Slot, Cell, Read, Neg, Add, Sub, Mul, Fun, Arguments, Given, Assertion, Yes, No, Eq, Ne, Le, Lt, And, Or, negate, terms_given, same_tree, IsSorted, AreArgumentsSorted, IsFormSorted, AreFormsSorted, Each, each_append, terms_walked, greatest_of, depth_of, parts_of_all, taken_apart, with_parts, read_before, put_if, with_reads, with_all_reads, writes_on, terms_of, IsOneOf, HasTerms, IsTermOf, EachOf, EachSide, AllSides, PassesTest, sides_append}
+use Rattle.std.proofs.Common.{Option, Some, None, map}
+use Rattle.sm_term.specs.Terms.{Write, Over}
 use Rattle.sm_term.proofs.SameTermsLemmas.{same_tree_is}
-use Rattle.sm_moves.proofs.SetsLemmas.{Each, each_append}
-use Rattle.sm_solve.specs.Answers.{terms_walked}
 use Rattle.sm_theory.specs.TermsOfFormulas.{put, with_term, with_arguments, with_formula, with_formulas}
-use Rattle.sm_list.specs.Branches.{greatest_of, depth_of, parts_of, parts_of_all, taken_apart, with_parts, read_before, put_if, with_reads, with_all_reads, writes_on, terms_of, IsOneOf}
-use Rattle.sm_write.specs.BranchTerms.{HasTerms, IsTermOf}
-use Rattle.sm_write.specs.Nameable.{EachOf, EachSide, AllSides, PassesTest}
-use Rattle.sm_write.proofs.BuiltTerms.{sides_append}
+use Rattle.sm_list.specs.Branches.{parts_of}
 use Rattle.sm_term.proofs.SortedForms.{forms_append, negate_sorted}
 
 -- what holds of each of a list holds of one of them

@@ -1,23 +1,13 @@
 -- The plan of a one-sided task can be written with its certificates.
-use Rattle.std.proofs.Common.{◌≡◌, ℕ, zero, suc, ◌+◌, ◌<◌, ◌≤◌, ◌^◌, List, [], ◌∷◌, ◌++◌, map, length, refl, sym, ap, ◌∙◌, subst, arith}
-use Rattle.std.specs.List.{AllByRecursion, flat_map}
-use Rattle.std.proofs.lemmas.List.{map-append}
-use Rattle.sm_syntax.specs.text.Parts.{Parts, sort_of, task_of}
-use Rattle.sm_syntax.specs.text.Sorts.{Sorts}
-use Rattle.sm_term.specs.Assertions.{Assertion}
-use Rattle.sm_theory.specs.Facts.{BranchFact}
-use Rattle.sm_cert.specs.Certificates.{Certificate}
+use Rattle.sm_houdini.proofs.Imports.{◌≡◌, ℕ, zero, suc, ◌+◌, ◌<◌, ◌≤◌, ◌^◌, List, [], ◌∷◌, ◌++◌, length, refl, sym, ap, ◌∙◌, subst, arith, AllByRecursion, flat_map, map-append, Parts, sort_of, task_of, Sorts, Assertion, BranchFact, Certificate, Node, nodes_of, denied_goals, AreClosed, IsShown, KeepsNone, AreKeptPlain, ArePlainLines, branches_of, CloseEach, Goal, goals_of, all_goals, AreShortNumbers, IsShort, AreShort, IsWritable}
+use Rattle.std.proofs.Common.{map}
 use Rattle.sm_plan.specs.Nodes as node
-use Rattle.sm_plan.specs.Nodes.{Node}
-use Rattle.sm_plan.specs.Plans.{Plan, nodes_of, Due}
+use Rattle.sm_plan.specs.Plans.{Plan, Due}
 use Rattle.sm_sided.specs.WholeCertificates.{by_first, by_second, by_clash, by_turned, certificates_of, whole_certificates, AreWhole, NamesNoTerm}
 use Rattle.sm_sided.specs.declared.sided.Change.{Change}
 use Rattle.sm_sided.specs.declared.sided.Change.TheVariants.{OfA, OfB, OfBoth}
 use Rattle.sm_sided.specs.WholePlan as whole
-use Rattle.sm_sided.specs.WholePlan.{denied_goals, AreClosed, IsShown, KeepsNone}
-use Rattle.sm_write.specs.PlainPlans.{AreKeptPlain, ArePlainLines, branches_of, CloseEach}
 use Rattle.sm_write.specs.Writable as written
-use Rattle.sm_write.specs.Writable.{Goal, goals_of, all_goals, AreShortNumbers, IsShort, AreShort, IsWritable}
 use Rattle.sm_write.proofs.PlainWritable.{plain_plans_are_writable}
 
 -- no line is long

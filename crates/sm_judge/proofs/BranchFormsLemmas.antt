@@ -1,27 +1,8 @@
 -- The forms of the items over a table are those of the branch.
-use Rattle.std.proofs.Common.{◌≡◌, ℕ, suc, pos, negsuc, ◌+◌, ◌<◌, ◌==◌, Bool, true, false, ◌||◌, not, if◌then◌else◌, IsTrue, Option, Some, None, List, [], ◌∷◌, ◌++◌, map, drop, drop-cons, length, refl, sym, ap, subst, ◌∙◌, arith}
-use Rattle.std.specs.List.{find}
-use Rattle.std.proofs.lemmas.List.{map-append}
-use Rattle.sm_syntax.specs.text.Sorts.{Sorts}
+use Rattle.sm_judge.proofs.Imports.{◌≡◌, suc, pos, negsuc, ◌+◌, ◌<◌, ◌==◌, Bool, true, false, ◌||◌, not, if◌then◌else◌, IsTrue, Option, Some, None, List, [], ◌∷◌, ◌++◌, map, drop, length, refl, sym, ap, subst, ◌∙◌, arith, find, map-append, Sorts, Linear, Kind, Outcome, Fits, then_with, combined, Tree, Lit, tree_at, AreApart, same_tree, Assertion, NumberedFormula, numbered, assertion_in, IsFormulaWithin, Formula, is_numeric, one_more, numbers_tell, Pairs, Seen, all_numbered, assertions_in, AreFormulasWithin, seen_in, linear_forms, difference_at, unless_zero, class_form, some_form, comparison_at, class_items, fact_items, Two, first_place, pair_with, pairs_of, places_of, less_by, led_unless_zero, first_like, led_by_class, class_forms, fact_forms, forms_of}
+use Rattle.std.proofs.Common.{ℕ, drop-cons}
 use Rattle.sm_num.specs.declared.kind.Kind.TheVariants as kind
-use Rattle.sm_num.specs.Forms.{Linear}
-use Rattle.sm_num.specs.declared.kind.Kind.{Kind}
-use Rattle.sm_num.specs.Combining.{Outcome, Fits, then_with, combined}
-use Rattle.sm_term.specs.Terms.{Tree, Lit}
-use Rattle.sm_term.specs.Tables.{tree_at}
-use Rattle.sm_term.specs.TableLaws.{AreApart}
-use Rattle.sm_term.specs.SameTerms.{same_tree}
-use Rattle.sm_term.specs.Assertions.{Assertion}
-use Rattle.sm_term.specs.Formulas.{NumberedFormula, Yes, No, Eq, Ne, Le, Lt, And, Or, numbered, assertion_in, IsFormulaWithin}
-use Rattle.sm_term.specs.declared.formula.Formula.{Formula}
-use Rattle.sm_theory.specs.Arithmetic.{is_numeric, one_more}
-use Rattle.sm_theory.proofs.SidesLemmas.{numbers_tell}
-use Rattle.sm_pairs.specs.Pairs.{Pairs}
-use Rattle.sm_judge.specs.Holding.{Seen}
-use Rattle.sm_list.specs.Parts.{all_numbered, assertions_in, AreFormulasWithin}
-use Rattle.sm_judge.specs.Seeing.{seen_in}
-use Rattle.sm_judge.specs.Making.{linear_forms, difference_at, unless_zero, class_form, some_form, comparison_at, class_items, fact_items, Two, first_place, pair_with, pairs_of, places_of}
-use Rattle.sm_judge.specs.Forms.{less_by, led_unless_zero, first_like, led_by_class, class_forms, fact_forms, forms_of}
+use Rattle.sm_term.specs.Formulas.{Yes, No, Eq, Ne, Le, Lt, And, Or}
 use Rattle.sm_judge.proofs.LinearsLemmas.{form_is}
 use Rattle.sm_judge.proofs.MakingLemmas.{MaybeForm, FormList, led_if, all_led, outcomes, led-none, all_led-append, led_is, zero_is}
 

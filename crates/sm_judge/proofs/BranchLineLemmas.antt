@@ -1,23 +1,13 @@
 -- Lines of certificates that make the splits of a branch.
-use Rattle.std.proofs.Common.{◌≡◌, ℕ, zero, suc, Bool, true, false, ◌&&◌, ◌||◌, not, if◌then◌else◌, IsTrue, Option, Some, None, List, [], ◌∷◌, slice_get, refl, sym, ap, subst, ◌∙◌}
-use Rattle.sm_syntax.specs.text.Sorts.{Sorts}
+use Rattle.sm_judge.proofs.Imports.{◌≡◌, zero, suc, Bool, true, false, ◌&&◌, ◌||◌, not, if◌then◌else◌, IsTrue, Option, Some, None, List, [], ◌∷◌, slice_get, refl, sym, ap, subst, ◌∙◌, Sorts, Tree, Lit, Start, Havoc, Slot, Cell, Read, Write, Neg, Add, Sub, Mul, Fun, Assertion, NumberedFormula, numbered, assertion_in, IsFormulaWithin, same_sort, IsSorted, tree_sort, tree_at, same_sort_is, is_numeric, BranchSplit, Seen, Split, is_fact, is_held, part_split, order_split, index_split, split_told, IsToldWithin, SplitsBranch}
+use Rattle.std.proofs.Common.{ℕ}
 use Rattle.sm_syntax.specs.declared.tree.Sort.TheVariants.{Num}
-use Rattle.sm_term.specs.Terms.{Tree, Lit, Start, Havoc, Slot, Cell, Read, Write, Neg, Add, Sub, Mul, Fun}
-use Rattle.sm_term.specs.Assertions.{Assertion, Yes, No, Eq, Ne, Le, Lt, And, Or}
+use Rattle.sm_term.specs.Assertions.{Yes, No, Eq, Ne, Le, Lt, And, Or}
 use Rattle.sm_term.specs.Formulas as plain
-use Rattle.sm_term.specs.Formulas.{NumberedFormula, numbered, assertion_in, IsFormulaWithin}
-use Rattle.sm_term.specs.SameTerms.{same_sort}
-use Rattle.sm_term.specs.Sorted.{IsSorted, tree_sort}
-use Rattle.sm_term.specs.Tables.{tree_at}
-use Rattle.sm_term.proofs.SameTermsLemmas.{same_sort_is}
-use Rattle.sm_theory.specs.Arithmetic.{is_numeric}
 use Rattle.sm_theory.specs.Facts.{as_facts}
 use Rattle.sm_theory.specs.Lines.{Either, Order, Cases, followed, formula_at, unequal_sides}
 use Rattle.sm_theory.specs.Ways.{Ways, ways, splitting, either_part, ordered}
-use Rattle.sm_judge.specs.declared.closing.BranchSplit.{BranchSplit}
 use Rattle.sm_judge.specs.ByCases.{IsByCases}
-use Rattle.sm_judge.specs.Holding.{Seen, Split, is_fact, is_held, part_split, order_split, index_split}
-use Rattle.sm_judge.specs.Splits.{split_told, IsToldWithin, SplitsBranch}
 
 -- a formula at its place among facts
 formula_is : (fs : List Assertion) (n : ℕ) (a : Assertion) → slice_get fs n ≡ Some a → formula_at (as_facts fs) n ≡ Some a

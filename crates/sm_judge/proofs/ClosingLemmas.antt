@@ -1,16 +1,7 @@
 -- Facts of a branch of the program by their places, and those that are refuted.
-use Rattle.std.proofs.Common.{◌≡◌, ℕ, zero, suc, ◌<◌, true, Some, List, [], ◌∷◌, length, get_or, slice_get, refl, sym, ap, subst, ◌∙◌, arith}
-use Rattle.std.specs.List.{list_any}
-use Rattle.std.proofs.lemmas.List.Folds.{list_any_at}
-use Rattle.std.proofs.lemmas.List.{length-map}
-use Rattle.std.proofs.lemmas.Option.{get_or_from_slice_get, slice_get_within}
-use Rattle.sm_syntax.specs.text.Sorts.{Sorts}
-use Rattle.sm_term.specs.Terms.{Tree}
-use Rattle.sm_term.specs.Assertions.{Assertion, Yes}
-use Rattle.sm_term.specs.Formulas.{numbered, assertion_in, IsFormulaWithin}
-use Rattle.sm_term.specs.declared.formula.Formula.{Formula}
-use Rattle.sm_judge.specs.Holding.{Seen, is_refuted}
-use Rattle.sm_list.specs.Parts.{all_numbered, assertions_in, AreFormulasWithin}
+use Rattle.sm_judge.proofs.Imports.{◌≡◌, zero, suc, ◌<◌, true, Some, List, [], ◌∷◌, length, get_or, slice_get, refl, sym, ap, subst, ◌∙◌, arith, list_any, list_any_at, length-map, get_or_from_slice_get, slice_get_within, Sorts, Tree, Assertion, numbered, assertion_in, IsFormulaWithin, Formula, Seen, is_refuted, all_numbered, assertions_in, AreFormulasWithin}
+use Rattle.std.proofs.Common.{ℕ}
+use Rattle.sm_term.specs.Assertions.{Yes}
 
 -- a fact is refuted
 pub some_refuted : (b : Seen) (n : ℕ) (f : Assertion) → slice_get b.facts n ≡ Some f → is_refuted b f ≡ true →

@@ -1,16 +1,7 @@
 -- Each event is counted before it happens.
-use Rattle.std.proofs.Common.{◌≡◌, ℕ, suc, ◌+◌, ◌<◌, nat_lt, Bool, true, false, if◌then◌else◌, List, [], ◌∷◌, ◌++◌, length, Some, slice_get, sym, ap, subst, ◌∙◌, ⊎_elim, add-one, arith}
-use Rattle.std.proofs.lemmas.Bool.{cases_Bool, ltb-false}
-use Rattle.std.proofs.lemmas.List.{length-append}
-use Rattle.sm_num.specs.Forms.{Linear}
-use Rattle.sm_fm.specs.Elimination.{Event, Cancels}
-use Rattle.sm_fm.specs.Taking.{Taking, TakesSum}
-use Rattle.sm_judge.specs.declared.eliminating.ElimLine.{ElimLine}
-use Rattle.sm_judge.specs.Refutations.{Contradict}
-use Rattle.sm_judge.specs.Summing.{AreSums, AreNumbered}
-use Rattle.sm_judge.specs.Forms.{Walked, Closes, TooFar, counted, eliminated_by}
+use Rattle.sm_judge.proofs.Imports.{◌≡◌, suc, ◌+◌, ◌<◌, nat_lt, Bool, true, false, if◌then◌else◌, List, [], ◌∷◌, ◌++◌, length, Some, slice_get, sym, ap, subst, ◌∙◌, ⊎_elim, add-one, arith, cases_Bool, ltb-false, length-append, Linear, Event, Cancels, Taking, TakesSum, ElimLine, Contradict, AreSums, AreNumbered, Walked, Closes, TooFar, counted, eliminated_by, get_last}
+use Rattle.std.proofs.Common.{ℕ}
 use Rattle.sm_judge.proofs.SummingLemmas.{sums_more, sums_if, sums_count, sums_contradict, taken_sum}
-use Rattle.sm_lemmas.proofs.Lists.{get_last}
 
 -- a step is left
 pub counted_on : (steps count : ℕ) (next : ℕ → Walked) → count < steps → counted steps count next ≡ next (count + 1)

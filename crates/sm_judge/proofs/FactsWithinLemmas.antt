@@ -1,8 +1,6 @@
 -- A formula at a place is over the terms of a table.
-use Rattle.std.proofs.Common.{◌≡◌, ℕ, zero, suc, ◌<◌, List, [], ◌∷◌, get_or, length, sym, subst, arith}
-use Rattle.sm_term.specs.Formulas.{numbered, IsFormulaWithin}
-use Rattle.sm_term.specs.declared.formula.Formula.{Formula}
-use Rattle.sm_list.specs.Parts.{all_numbered, AreFormulasWithin}
+use Rattle.sm_judge.proofs.Imports.{◌≡◌, zero, suc, ◌<◌, List, [], ◌∷◌, get_or, length, sym, subst, arith, numbered, IsFormulaWithin, Formula, all_numbered, AreFormulasWithin}
+use Rattle.std.proofs.Common.{ℕ}
 
 -- a formula at a place is within
 pub within_at : (count : ℕ) (facts : List Formula) (i : ℕ) (f : Formula) → AreFormulasWithin count (all_numbered facts) → i < length facts →

@@ -1,17 +1,6 @@
 -- The first of a list that gives a split, found one by one.
-use Rattle.std.proofs.Common.{◌≡◌, ℕ, ◌+◌, ◌<◌, ◌≤◌, Option, Some, None, List, ◌∷◌, length, get_or, drop, refl, sym, ap, ◌∙◌}
-use Rattle.std.proofs.lemmas.List.{drop_more, drop_all}
-use Rattle.sm_syntax.specs.text.Sorts.{Sorts}
-use Rattle.sm_term.specs.Terms.{Tree}
-use Rattle.sm_term.specs.Assertions.{Assertion}
-use Rattle.sm_term.specs.Formulas.{numbered, assertion_in}
-use Rattle.sm_term.specs.declared.formula.Formula.{Formula}
-use Rattle.sm_theory.specs.Equality.{or_other}
-use Rattle.sm_judge.specs.declared.closing.BranchSplit.{BranchSplit}
-use Rattle.sm_judge.specs.Holding.{Split, first_of}
-use Rattle.sm_list.specs.Parts.{all_numbered, assertions_in}
-use Rattle.sm_judge.specs.Seeing.{split_in}
-use Rattle.sm_judge.specs.Splits.{split_told}
+use Rattle.sm_judge.proofs.Imports.{◌≡◌, ◌+◌, ◌<◌, ◌≤◌, Option, Some, None, List, ◌∷◌, length, get_or, drop, refl, sym, ap, ◌∙◌, drop_more, drop_all, Sorts, Tree, Assertion, numbered, assertion_in, Formula, or_other, BranchSplit, Split, first_of, all_numbered, assertions_in, split_in, split_told}
+use Rattle.std.proofs.Common.{ℕ}
 
 -- what isn't there splits nothing
 split_none : (sorts : Sorts) (trees : List Tree) (o : Option (Formula × Formula)) → ((s : Formula × Formula) → o ≡ Some s → ⊥) →

@@ -1,33 +1,13 @@
 -- What the program collects are the forms of the branch, each with its source.
-use Rattle.std.proofs.Common.{◌≡◌, ℕ, zero, suc, pos, ◌+◌, ◌<◌, ◌==◌, Bool, true, false, ◌||◌, not, if◌then◌else◌, IsTrue, Option, Some, None, Result, Err, List, [], ◌∷◌, ◌++◌, map, drop, drop-cons, length, slice_get, get_or, refl, sym, ap}
-use Rattle.std.proofs.Common.{subst, ◌∙◌, rules, arith}
-use Rattle.std.specs.Prelude.{unwrap_or}
-use Rattle.std.specs.List.{find}
-use Rattle.std.proofs.lemmas.Option.{slice_get-get_or}
-use Rattle.sm_syntax.specs.text.Sorts.{Sorts}
+use Rattle.sm_judge.proofs.Imports.{◌≡◌, zero, suc, pos, ◌+◌, ◌<◌, ◌==◌, Bool, true, false, ◌||◌, not, if◌then◌else◌, IsTrue, Option, Some, None, Result, Err, List, [], ◌∷◌, ◌++◌, map, drop, length, slice_get, get_or, refl, sym, ap, subst, ◌∙◌, rules, arith, unwrap_or, find, slice_get-get_or, Sorts, Explains, Linear, Outcome, Fits, Leaves, then_with, Tree, Lit, tree_at, AreApart, Assertion, NumberedFormula, numbered, assertion_in, IsFormulaWithin, Formula, is_numeric, one_more, Pairs, Seen, all_numbered, assertions_in, AreFormulasWithin, AreSources, comparison_by, GivesForms, difference_at, unless_zero, class_form, some_form, comparison_at, Item, Made, collected, class_items, fact_items, Two, first_place, pair_with, pairs_of, places_of, is_zero, forms_of, get_mapped}
+use Rattle.std.proofs.Common.{ℕ, drop-cons}
 use Rattle.sm_num.specs.declared.kind.Kind.TheVariants as kind
-use Rattle.sm_num.specs.Errors.{Explains}
 use Rattle.sm_num.specs.declared.error.NumError.{NumError}
 use Rattle.sm_num.specs.declared.error.NumError.TheVariants.{Beyond, Memory}
-use Rattle.sm_num.specs.Forms.{Linear}
-use Rattle.sm_num.specs.Combining.{Outcome, Fits, Leaves, then_with}
-use Rattle.sm_term.specs.Terms.{Tree, Lit}
-use Rattle.sm_term.specs.Tables.{tree_at}
-use Rattle.sm_term.specs.TableLaws.{AreApart}
-use Rattle.sm_term.specs.Assertions.{Assertion}
-use Rattle.sm_term.specs.Formulas.{NumberedFormula, Yes, No, Eq, Ne, Le, Lt, And, Or, numbered, assertion_in, IsFormulaWithin}
-use Rattle.sm_term.specs.declared.formula.Formula.{Formula}
-use Rattle.sm_theory.specs.Arithmetic.{is_numeric, one_more}
-use Rattle.sm_pairs.specs.Pairs.{Pairs}
-use Rattle.sm_judge.specs.Holding.{Seen}
-use Rattle.sm_list.specs.Parts.{all_numbered, assertions_in, AreFormulasWithin}
+use Rattle.sm_term.specs.Formulas.{Yes, No, Eq, Ne, Le, Lt, And, Or}
 use Rattle.sm_judge.specs.declared.forms.SourcedForms.{SourcedForms}
-use Rattle.sm_judge.specs.Refutations.{AreSources, comparison_by, GivesForms}
-use Rattle.sm_judge.specs.Making.{difference_at, unless_zero, class_form, some_form, comparison_at, Item, Made, collected, class_items, fact_items, Two, first_place, pair_with, pairs_of, places_of}
-use Rattle.sm_judge.specs.Forms.{is_zero, forms_of}
 use Rattle.sm_judge.proofs.MakingLemmas.{MaybeForm, FormList, all_led, outcomes, after, after-none, collected_led, collected_leaves, AreItems, collected_sources}
 use Rattle.sm_judge.proofs.BranchFormsLemmas.{branch, forms, difference_is, IsFirst, first_is, branch_led}
-use Rattle.sm_lemmas.proofs.Lists.{get_mapped}
 
 -- the form, or another
 form_or : Linear ℕ → Outcome MaybeForm → Linear ℕ

@@ -1,8 +1,6 @@
 -- Whether a formula is held, by whether its parts are.
-use Rattle.std.proofs.Common.{◌≡◌, Bool, true, false, ◌&&◌, ◌||◌, sym, ap, ◌∙◌, subst}
-use Rattle.sm_term.specs.declared.formula.Formula.{Formula}
-use Rattle.sm_term.specs.Assertions.{Assertion, And, Or}
-use Rattle.sm_judge.specs.Holding.{Seen, is_fact, is_held}
+use Rattle.sm_judge.proofs.Imports.{◌≡◌, Bool, true, false, ◌&&◌, ◌||◌, sym, ap, ◌∙◌, subst, Formula, Assertion, Seen, is_fact, is_held}
+use Rattle.sm_term.specs.Assertions.{And, Or}
 
 -- a comparison is held where it is a fact
 pub comparison_held : (b : Seen) (says : Formula → Assertion) (f g : Formula) (r : Bool) → f ≡ g → is_fact b (says g) ≡ is_held b (says g) →

@@ -1,16 +1,8 @@
 -- Facts that are found by keys.
-use Rattle.std.proofs.Common.{◌≡◌, ℕ, ◌+◌, ◌==◌, ◌<◌, nat_eq, Bool, true, false, ◌&&◌, Option, Some, None, List, length, get_or, refl, sym, ap, ◌∙◌, is_some, if◌then◌else◌, true≢false, below_more, arith}
-use Rattle.std.specs.List.{list_any}
-use Rattle.std.proofs.lemmas.Bool.Decides.{Decides-and, Decides-eqb}
-use Rattle.std.proofs.lemmas.List.{get_or-map, length-map}
-use Rattle.std.proofs.lemmas.List.Folds.{list_any_at}
-use Rattle.sm_term.specs.Formulas.{NumberedFormula, Yes, No, Eq, Ne, Le, Lt, And, Or, numbered}
-use Rattle.sm_term.specs.declared.formula.Formula.{Formula}
-use Rattle.sm_judge.specs.Keyed.{mixed, key_of, HasKeys, AreKeyed}
-use Rattle.sm_list.specs.Parts.{all_numbered, numbered_at}
-use Rattle.sm_pairs.specs.SameFormulas.{same_numbered}
+use Rattle.sm_judge.proofs.Imports.{◌≡◌, ◌+◌, ◌==◌, ◌<◌, nat_eq, Bool, true, false, ◌&&◌, Option, Some, None, List, length, get_or, refl, sym, ap, ◌∙◌, is_some, if◌then◌else◌, true≢false, below_more, arith, list_any, Decides-and, Decides-eqb, get_or-map, length-map, list_any_at, NumberedFormula, numbered, Formula, mixed, key_of, HasKeys, AreKeyed, all_numbered, numbered_at, same_numbered, both_pass}
+use Rattle.std.proofs.Common.{ℕ}
+use Rattle.sm_term.specs.Formulas.{Yes, No, Eq, Ne, Le, Lt, And, Or}
 use Rattle.sm_judge.proofs.TornLemmas.{none_passes}
-use Rattle.sm_lemmas.proofs.Tests.{both_pass}
 
 -- equal numbers have one key
 two : (kind t u v w : ℕ) → ((t == v) && (u == w)) ≡ true → mixed kind t u ≡ mixed kind v w

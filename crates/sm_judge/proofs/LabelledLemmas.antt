@@ -1,15 +1,8 @@
 -- The first terms of classes are those with the first labels.
-use Rattle.std.proofs.Common.{◌≡◌, ℕ, suc, pos, ◌==◌, ◌<◌, Bool, true, false, if◌then◌else◌, Option, Some, None, List, [], ◌∷◌, ◌++◌, drop, length, get_or, slice_get, refl, sym, ap, subst, ◌∙◌, arith}
+use Rattle.sm_judge.proofs.Imports.{◌≡◌, suc, pos, ◌==◌, ◌<◌, Bool, true, false, if◌then◌else◌, Option, Some, None, List, [], ◌∷◌, ◌++◌, drop, length, get_or, slice_get, refl, sym, ap, subst, ◌∙◌, arith, eq-eqb, slice_get-get_or, Sorts, Tree, Lit, tree_at, Pairs, TellClasses, first_label, noted_or, noted_first, noted_else, first_place, pair_with, pairs_of}
+use Rattle.std.proofs.Common.{ℕ}
 use Rattle.std.proofs.Math.Seq.{drop-cons}
-use Rattle.std.proofs.lemmas.Bool.{eq-eqb}
 use Rattle.std.proofs.lemmas.List.{append_assoc}
-use Rattle.std.proofs.lemmas.Option.{slice_get-get_or}
-use Rattle.sm_syntax.specs.text.Sorts.{Sorts}
-use Rattle.sm_term.specs.Terms.{Tree, Lit}
-use Rattle.sm_term.specs.Tables.{tree_at}
-use Rattle.sm_pairs.specs.Pairs.{Pairs}
-use Rattle.sm_judge.specs.Labelled.{TellClasses, first_label, noted_or, noted_first, noted_else}
-use Rattle.sm_judge.specs.Making.{first_place, pair_with, pairs_of}
 
 -- what is noted next is what is found next
 noted_next : (o : Option ℕ) (b : Bool) (n : ℕ) (rest : Option ℕ) →

@@ -1,3 +1,4 @@
+mod Imports
 pub mod BranchFormsLemmas
 pub mod BranchLineLemmas
 pub mod ClosingLemmas

@@ -1,23 +1,10 @@
 -- The form of each term of a table by the places of terms.
-use Rattle.std.proofs.Common.{◌≡◌, ℕ, pos, ◌<◌, ◌≤◌, slice_get, get_or, Some, None, List, [], ◌∷◌, ◌++◌, take, length, refl, sym, ap, subst, ◌∙◌, ⊎_elim, ◌⊎◌, inl, inr, arith}
-use Rattle.std.proofs.lemmas.Bool.{cases_lt}
-use Rattle.std.proofs.lemmas.List.{ext_get_or, get_or-map, get_or_append_left, get_or_push, length-map, length_push, take-append-le}
-use Rattle.std.proofs.lemmas.Option.{slice_get-get_or, slice_get_within, get_or_from_slice_get}
-use Rattle.sm_num.specs.Forms.{Linear}
-use Rattle.sm_term.specs.Terms.{Tree, Lit}
-use Rattle.sm_term.specs.Tables.{tree_at}
-use Rattle.sm_term.specs.TableLaws.{AreApart}
-use Rattle.sm_theory.specs.LinearTerms.{linear_of, linear_by}
-use Rattle.sm_theory.specs.Standing.{StandsAt, IsKeptFor, AreLinearForms, PlacesStay}
+use Rattle.sm_judge.proofs.Imports.{◌≡◌, pos, ◌<◌, ◌≤◌, slice_get, get_or, Some, None, List, [], ◌∷◌, ◌++◌, take, length, refl, sym, ap, subst, ◌∙◌, ⊎_elim, ◌⊎◌, inl, inr, arith, cases_lt, ext_get_or, get_or-map, get_or_append_left, get_or_push, length-map, length_push, take-append-le, slice_get-get_or, slice_get_within, get_or_from_slice_get, Linear, Tree, Lit, tree_at, AreApart, linear_of, linear_by, StandsAt, IsKeptFor, AreLinearForms, PlacesStay, parts_are_one, stands_later, AreAllForms, linear_forms, form_at, no_form, HavePlaces, place_in}
+use Rattle.std.proofs.Common.{ℕ}
 use Rattle.sm_theory.proofs.FormsOfTermsLemmas.{one_place}
-use Rattle.sm_theory.proofs.LinearLater.{parts_are_one, stands_later}
 use Rattle.sm_theory.proofs.LinearNumbers.{linear_stands}
 use Rattle.sm_theory.proofs.LinearPlaces.{place_or_not}
 use Rattle.sm_pairs.proofs.LongerLemmas.{slice_get-longer}
-use Rattle.sm_judge.specs.AllForms.{AreAllForms}
-use Rattle.sm_judge.specs.Making.{linear_forms, form_at, no_form}
-use Rattle.sm_judge.specs.Places.{HavePlaces}
-use Rattle.sm_judge.specs.Forms.{place_in}
 
 -- two forms that are kept for one are one
 pub kept_once : (trees : List Tree) (f h : Linear ℕ) (g : Linear Tree) → IsKeptFor trees f g → IsKeptFor trees h g → f ≡ h

@@ -1,13 +1,8 @@
 -- Forms that are made one after the other are those that are led by one another.
-use Rattle.std.proofs.Common.{◌≡◌, ℕ, suc, Bool, true, false, if◌then◌else◌, Option, Some, None, List, [], ◌∷◌, ◌++◌, map, length, refl, sym, ap, subst, ◌∙◌, append_assoc}
+use Rattle.sm_judge.proofs.Imports.{◌≡◌, suc, Bool, true, false, if◌then◌else◌, Option, Some, None, List, [], ◌∷◌, ◌++◌, map, length, refl, sym, ap, subst, ◌∙◌, Linear, Outcome, Fits, Leaves, then_with, Seen, IsSource, AreSources, Source, Item, Made, with_form, collected, unless_zero, some_form, is_zero, led, led_unless_zero}
+use Rattle.std.proofs.Common.{ℕ, append_assoc}
 use Rattle.std.specs.Prelude.{ℤ}
-use Rattle.sm_num.specs.Forms.{Linear}
-use Rattle.sm_num.specs.Combining.{Outcome, Fits, Leaves, then_with}
 use Rattle.sm_num.specs.declared.op.Op.{Op}
-use Rattle.sm_judge.specs.Holding.{Seen}
-use Rattle.sm_judge.specs.Refutations.{IsSource, AreSources, Source}
-use Rattle.sm_judge.specs.Making.{Item, Made, with_form, collected, unless_zero, some_form}
-use Rattle.sm_judge.specs.Forms.{is_zero, led, led_unless_zero}
 
 -- a form or none, for short
 abbrev pub MaybeForm : Type 0

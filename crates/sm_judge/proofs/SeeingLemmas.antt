@@ -1,18 +1,7 @@
 -- Formulas over a table are the same exactly where their numbers are.
-use Rattle.std.proofs.Common.{◌≡◌, ℕ, ◌==◌, ◌<◌, Bool, true, false, ◌&&◌, ◌||◌, List, [], ◌∷◌, length, refl, sym, ap, ◌∙◌}
-use Rattle.std.specs.List.{list_any}
-use Rattle.sm_syntax.specs.text.Sorts.{Sorts}
-use Rattle.sm_term.specs.Terms.{Tree}
-use Rattle.sm_term.specs.Tables.{tree_at}
-use Rattle.sm_term.specs.TableLaws.{AreApart}
-use Rattle.sm_term.specs.SameTerms.{same_tree, same_sort}
-use Rattle.sm_term.specs.Sorted.{tree_sort}
-use Rattle.sm_term.specs.Formulas.{NumberedFormula, Yes, No, Eq, Ne, Le, Lt, And, Or, assertion_in, IsFormulaWithin}
-use Rattle.sm_term.proofs.SameTermsLemmas.{same_tree_is, same_sort_is}
-use Rattle.sm_theory.proofs.SidesLemmas.{numbers_tell}
-use Rattle.sm_judge.specs.Holding.{same_formula}
-use Rattle.sm_list.specs.Parts.{assertions_in, AreFormulasWithin}
-use Rattle.sm_pairs.specs.SameFormulas.{same_numbered}
+use Rattle.sm_judge.proofs.Imports.{◌≡◌, ◌==◌, ◌<◌, Bool, true, false, ◌&&◌, ◌||◌, List, [], ◌∷◌, length, refl, sym, ap, ◌∙◌, list_any, Sorts, Tree, tree_at, AreApart, same_tree, same_sort, tree_sort, NumberedFormula, assertion_in, IsFormulaWithin, same_tree_is, same_sort_is, numbers_tell, same_formula, assertions_in, AreFormulasWithin, same_numbered}
+use Rattle.std.proofs.Common.{ℕ}
+use Rattle.sm_term.specs.Formulas.{Yes, No, Eq, Ne, Le, Lt, And, Or}
 
 module _ (sorts : Sorts) (trees : List Tree) (apart : AreApart trees) where
   -- two terms

@@ -1,13 +1,6 @@
 -- Splits of the program stand for those of the branch.
-use Rattle.std.proofs.Common.{◌≡◌, Bool, true, false, ◌||◌, not, if◌then◌else◌, Option, Some, None, List, refl, sym, ap, ◌∙◌}
-use Rattle.sm_syntax.specs.text.Sorts.{Sorts}
-use Rattle.sm_term.specs.Terms.{Tree}
-use Rattle.sm_term.specs.Assertions.{Assertion}
-use Rattle.sm_term.specs.Formulas.{NumberedFormula, Yes, No, Eq, Ne, Le, Lt, And, Or, numbered, assertion_in}
-use Rattle.sm_term.specs.declared.formula.Formula.{Formula}
-use Rattle.sm_judge.specs.Holding.{Seen, Split, is_held, part_split, order_split, index_split}
-use Rattle.sm_list.specs.Parts.{pair_numbered}
-use Rattle.sm_judge.specs.Seeing.{split_in, is_disjunction, disjuncts_of}
+use Rattle.sm_judge.proofs.Imports.{◌≡◌, Bool, true, false, ◌||◌, not, if◌then◌else◌, Option, Some, None, List, refl, sym, ap, ◌∙◌, Sorts, Tree, Assertion, NumberedFormula, numbered, assertion_in, Formula, Seen, Split, is_held, part_split, order_split, index_split, pair_numbered, split_in, is_disjunction, disjuncts_of}
+use Rattle.sm_term.specs.Formulas.{Yes, No, Eq, Ne, Le, Lt, And, Or}
 
 -- of two tests one is passed
 pub known_none : {T : Type 0} (number first second : Bool) (s : Option T) → (first || second) ≡ true →

@@ -1,14 +1,6 @@
 -- Sums that are kept go behind the forms, and the last one can't hold.
-use Rattle.std.proofs.Common.{◌≡◌, ℕ, zero, suc, ◌+◌, Bool, true, false, if◌then◌else◌, IsTrue, Option, Some, slice_get, List, [], ◌∷◌, ◌++◌, length, refl, sym, ap, subst, ◌∙◌, rules, arith}
-use Rattle.std.specs.Prelude.{unwrap_or}
-use Rattle.std.proofs.lemmas.List.{length-append}
-use Rattle.sm_num.specs.Forms.{Linear}
-use Rattle.sm_num.specs.Tightening.{is_contradictory}
-use Rattle.sm_term.specs.declared.term.TermId.{TermId}
-use Rattle.sm_fm.specs.Taking.{Taking, TakesSum}
-use Rattle.sm_judge.specs.declared.eliminating.ElimLine.{ElimLine}
-use Rattle.sm_judge.specs.Refutations.{Contradict}
-use Rattle.sm_judge.specs.Summing.{IsSum, AreSums, AreNumbered}
+use Rattle.sm_judge.proofs.Imports.{◌≡◌, zero, suc, ◌+◌, Bool, true, false, if◌then◌else◌, IsTrue, Option, Some, slice_get, List, [], ◌∷◌, ◌++◌, length, refl, sym, ap, subst, ◌∙◌, rules, arith, unwrap_or, length-append, Linear, is_contradictory, TermId, Taking, TakesSum, ElimLine, Contradict, IsSum, AreSums, AreNumbered}
+use Rattle.std.proofs.Common.{ℕ}
 
 -- one sum more
 pub sums_more : (forms : List (Linear ℕ)) (es : List ElimLine) (all : List (Linear ℕ)) (e : ElimLine) (h : Linear ℕ) →

@@ -1,19 +1,9 @@
 -- The terms of a table stand at their places, and so do the operands of their operations.
-use Rattle.std.proofs.Common.{◌≡◌, ℕ, zero, suc, ◌<◌, ◌+◌, Bool, true, false, if◌then◌else◌, List, [], ◌∷◌, length, refl, sym, ap, ◌∙◌, subst, Some, arith, ◌⊎◌, inl, inr, ◌≤◌}
-use Rattle.std.proofs.lemmas.Bool.{cases_lt}
-use Rattle.std.proofs.lemmas.Option.{slice_get-get_or}
+use Rattle.sm_judge.proofs.Imports.{◌≡◌, zero, suc, ◌<◌, ◌+◌, Bool, true, false, if◌then◌else◌, List, [], ◌∷◌, length, refl, sym, ap, ◌∙◌, subst, Some, arith, ◌⊎◌, inl, inr, ◌≤◌, cases_lt, slice_get-get_or, Sorts, Tree, same_tree, tree_at, tree_in, IsTermWithin, Term, same_tree_is, StandsAt, HasPlaces, HavePlacesBelow, place_in}
+use Rattle.std.proofs.Common.{ℕ}
 use Rattle.sm_num.proofs.SameAtomLemmas.{not_both}
 use Rattle.sm_syntax.specs.claim.Syntax.{Code}
-use Rattle.sm_syntax.specs.text.Sorts.{Sorts}
 use Rattle.sm_term.specs.declared.term.Term.TheVariants as row
-use Rattle.sm_term.specs.Terms.{Tree}
-use Rattle.sm_term.specs.SameTerms.{same_tree}
-use Rattle.sm_term.specs.Tables.{tree_at, tree_in, IsTermWithin}
-use Rattle.sm_term.specs.declared.term.Term.{Term}
-use Rattle.sm_term.proofs.SameTermsLemmas.{same_tree_is}
-use Rattle.sm_theory.specs.Standing.{StandsAt, HasPlaces}
-use Rattle.sm_judge.specs.Places.{HavePlacesBelow}
-use Rattle.sm_judge.specs.Forms.{place_in}
 
 -- a term that is there stands at its place
 pub place_there : (trees : List Tree) (i : ℕ) (t : Tree) → StandsAt trees i t → StandsAt trees (place_in trees t) t

@@ -1,26 +1,8 @@
 -- Pairs of terms that are torn are told by the linear forms of their numbers, and found by chains of places with one label.
-use Rattle.std.proofs.Common.{◌≡◌, ◌↔◌, ◌⊎◌, inl, inr, ⊎_elim, ℕ, ℤ, pos, zero, suc, ◌<◌, ◌≤◌, Bool, true, false, ◌&&◌, ◌||◌, not, Option, Some, None, IfSome, List, [], ◌∷◌, length, get_or, slice_index, ◌==◌, refl, sym, ap, subst, ◌∙◌}
-use Rattle.std.proofs.Common.{arith}
-use Rattle.std.specs.List.{list_any}
+use Rattle.sm_judge.proofs.Imports.{◌≡◌, ◌↔◌, ◌⊎◌, inl, inr, ⊎_elim, pos, zero, suc, ◌<◌, ◌≤◌, Bool, true, false, ◌&&◌, ◌||◌, not, Option, Some, None, IfSome, List, [], ◌∷◌, length, get_or, slice_index, ◌==◌, refl, sym, ap, subst, ◌∙◌, arith, list_any, eqb-true, eq-eqb, Decides-int_eq, slice_get-get_or, Sorts, Linear, Tree, Lit, tree_at, TermId, linear_of, is_numeric, agree_with, same_parts, IsKeptFor, same_parts_stand, Pairs, AreAllForms, TellClasses, differ, torn_by, any_torn, behind, IsLastWith, IsPartnerIf, int_eq_sym, same_tests}
+use Rattle.std.proofs.Common.{ℕ, ℤ}
 use Rattle.std.specs.Ordering.{int_eq}
 use Rattle.std.specs.Bool.{Decides}
-use Rattle.std.proofs.lemmas.Bool.{eqb-true, eq-eqb}
-use Rattle.std.proofs.lemmas.Bool.Decides.{Decides-int_eq}
-use Rattle.std.proofs.lemmas.Option.{slice_get-get_or}
-use Rattle.sm_syntax.specs.text.Sorts.{Sorts}
-use Rattle.sm_num.specs.Forms.{Linear}
-use Rattle.sm_term.specs.Terms.{Tree, Lit}
-use Rattle.sm_term.specs.Tables.{tree_at}
-use Rattle.sm_term.specs.declared.term.TermId.{TermId}
-use Rattle.sm_theory.specs.LinearTerms.{linear_of}
-use Rattle.sm_theory.specs.Arithmetic.{is_numeric, agree_with, same_parts}
-use Rattle.sm_theory.specs.Standing.{IsKeptFor}
-use Rattle.sm_theory.proofs.LinearLater.{same_parts_stand}
-use Rattle.sm_pairs.specs.Pairs.{Pairs}
-use Rattle.sm_judge.specs.AllForms.{AreAllForms}
-use Rattle.sm_judge.specs.Labelled.{TellClasses}
-use Rattle.sm_judge.specs.Torn.{differ, torn_by, any_torn, behind, IsLastWith, IsPartnerIf}
-use Rattle.sm_lemmas.proofs.Tests.{int_eq_sym, same_tests}
 
 -- of a list none passes where none at a place does
 pub none_passes : {X : Type 0} (p : X → Bool) (d : X) (xs : List X) → ((m : ℕ) → m < length xs → p (get_or xs m d) ≡ false) →

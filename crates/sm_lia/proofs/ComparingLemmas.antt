@@ -1,5 +1,5 @@
 -- What the comparison of two terms' forms makes of them.
-use Rattle.std.proofs.Common.{◌≡◌, ◌<◌, ℕ, ℤ, Bool, true, false, ◌&&◌, not, if◌then◌else◌, List, length, Some, None, refl, sym, ap, subst, ◌∙◌, ⊎_elim}
+use Rattle.sm_lia.proofs.Imports.{◌≡◌, ◌<◌, ℕ, ℤ, Bool, true, false, ◌&&◌, not, if◌then◌else◌, List, length, Some, None, refl, sym, ap, subst, ◌∙◌, ⊎_elim, Linear, Tree, tree_at, linear_of, is_numeric, same_parts, compared_forms, IsKeptFor, StandsIf, same_parts_stand}
 use Rattle.std.specs.Ordering.{int_eq}
 use Rattle.std.specs.Bool.{Decides}
 use Rattle.std.proofs.lemmas.Bool.{cases_Bool}
@@ -7,19 +7,11 @@ use Rattle.std.proofs.lemmas.Bool.Decides.{Decides-int_eq}
 use Rattle.sm_syntax.specs.text.Sorts.{Sorts}
 use Rattle.sm_syntax.specs.declared.tree.Sort.TheVariants.{Num}
 use Rattle.sm_syntax.specs.declared.tree.Sort.{Sort}
-use Rattle.sm_num.specs.Forms.{Linear}
-use Rattle.sm_term.specs.Terms.{Tree}
 use Rattle.sm_term.specs.declared.formula.Formula.TheVariants as formula
 use Rattle.sm_term.specs.Assertions.{Eq, Ne}
-use Rattle.sm_term.specs.Tables.{tree_at}
 use Rattle.sm_term.specs.declared.term.TermId.{TermId}
 use Rattle.sm_theory.specs.declared.fact.Fact.TheVariants as fact
-use Rattle.sm_theory.specs.LinearTerms.{linear_of}
 use Rattle.sm_theory.specs.Equality.{formula_if}
-use Rattle.sm_theory.specs.Arithmetic.{is_numeric, same_parts, compared_forms}
-use Rattle.sm_theory.specs.Standing.{IsKeptFor}
-use Rattle.sm_theory.specs.Views.{StandsIf}
-use Rattle.sm_theory.proofs.LinearLater.{same_parts_stand}
 use Rattle.sm_theory.proofs.ArithmeticKept.{number_is}
 use Rattle.sm_lia.specs.declared.comparing.Comparison.{Comparison}
 use Rattle.sm_lia.specs.declared.comparing.Comparison.TheVariants.{Equal, Unequal, Other}

@@ -1,19 +1,8 @@
 -- Forms that are computed over numbers, by the forms over terms.
-use Rattle.std.proofs.Common.{ℕ, Option, Some, None, List, [], Result, Ok, Err, ap, subst}
+use Rattle.sm_lia.proofs.Imports.{ℕ, Option, Some, None, List, [], Result, Ok, Err, ap, subst, Linear, IsKept, Outcome, Fits, Leaves, then_with, computed, Returns, NumError, Tree, one_more, IsKeptFor, IsOutcomeFor, BranchFact, followed, one_more_stands, ReturnsFor}
 use Rattle.sm_num.specs.declared.op.Op.TheVariants as op
-use Rattle.sm_num.specs.Forms.{Linear, IsKept}
-use Rattle.sm_num.specs.Combining.{Outcome, Fits, Leaves, then_with, computed}
-use Rattle.sm_num.specs.Errors.{Returns}
-use Rattle.sm_num.specs.declared.error.NumError.{NumError}
 use Rattle.sm_num.specs.declared.error.NumError.TheVariants.{Beyond, Memory}
-use Rattle.sm_term.specs.Terms.{Tree}
-use Rattle.sm_theory.specs.Arithmetic.{one_more}
-use Rattle.sm_theory.specs.Standing.{IsKeptFor, IsOutcomeFor}
-use Rattle.sm_theory.specs.Facts.{BranchFact}
-use Rattle.sm_theory.specs.Lines.{followed}
 use Rattle.sm_theory.specs.Sides.{OptionStands}
-use Rattle.sm_theory.proofs.LinearLater.{one_more_stands}
-use Rattle.sm_lia.specs.Computing.{ReturnsFor}
 
 -- the form that fits, or another where none does
 form_or : Linear ℕ → Outcome (Linear ℕ) → Linear ℕ

@@ -1,2 +1,3 @@
+mod Imports
 pub mod ComputingLemmas
 pub mod ComparingLemmas

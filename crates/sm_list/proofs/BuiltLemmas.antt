@@ -1,15 +1,8 @@
 -- The terms of formulas stand once and after their arguments, and the terms of each formula are among
 -- them.
-use Rattle.std.proofs.Common.{◌≡◌, ℕ, zero, suc, ◌<◌, Bool, true, false, Option, Some, None, List, [], ◌∷◌, ◌++◌, map, length, take, get_or, refl, sym, subst, arith}
-use Rattle.std.proofs.lemmas.List.{append-nil, append_assoc}
-use Rattle.sm_term.specs.Terms.{Tree, Read, Write}
-use Rattle.sm_term.specs.Heads.{arguments_of}
-use Rattle.sm_term.specs.Assertions.{Assertion, Yes, No, Eq, Ne, Le, Lt, And, Or}
-use Rattle.sm_theory.specs.TermsOfFormulas.{put, with_term, with_formula, with_formulas, is_among}
-use Rattle.sm_list.specs.Branches.{greatest_of, writes_on, put_if, read_before, with_reads, with_all_reads, terms_of}
-use Rattle.sm_terms.specs.Listing.{AllAmong, IsClosed}
-use Rattle.sm_list.specs.Own.{AreBuilt}
-use Rattle.sm_terms.proofs.WithTermLemmas.{AllOf, by_arguments, with_terms, with_term_is, put_there, put_new, all_kept, closed_put, among_with_terms, kept_with_term, among_with_term, closed_none, closed_with_formulas}
+use Rattle.sm_list.proofs.Imports.{◌≡◌, ℕ, zero, suc, ◌<◌, Bool, true, false, Option, Some, None, List, [], ◌∷◌, ◌++◌, map, length, take, get_or, refl, sym, subst, arith, append-nil, append_assoc, Tree, Read, Write, arguments_of, Assertion, put, with_term, with_formula, with_formulas, is_among, greatest_of, writes_on, put_if, read_before, with_reads, with_all_reads, terms_of, AllAmong, IsClosed, AreBuilt, AllOf, by_arguments, with_term_is, put_there, put_new, all_kept, closed_put, among_with_terms, kept_with_term, among_with_term, closed_none, closed_with_formulas}
+use Rattle.sm_term.specs.Assertions.{Yes, No, Eq, Ne, Le, Lt, And, Or}
+use Rattle.sm_terms.proofs.WithTermLemmas.{with_terms}
 use Rattle.sm_list.proofs.ReadsLemmas.{kept_put_if, kept_with_reads, all_themselves}
 
 -- one more term goes last

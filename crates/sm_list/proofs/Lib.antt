@@ -1,3 +1,4 @@
+mod Imports
 pub mod BuiltLemmas
 pub mod NamedTermsLemmas
 pub mod OwnLemmas

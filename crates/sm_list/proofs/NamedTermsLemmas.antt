@@ -1,23 +1,8 @@
 -- A certificate whose lines are within a table names only terms of the table.
-use Rattle.std.proofs.Common.{◌≡◌, ◌<◌, ℕ, List, [], ◌∷◌, length, sym, subst}
-use Rattle.std.proofs.lemmas.Option.{slice_get-get_or}
-use Rattle.std.specs.Prelude.{Box}
-use Rattle.std.specs.declared.alloc.Global.{Global}
-use Rattle.sm_term.specs.Terms.{Tree}
-use Rattle.sm_term.specs.Tables.{tree_at}
-use Rattle.sm_theory.specs.Named.{EachNamed}
-use Rattle.sm_theory.specs.Views.{line_in, numbered_line, IsLineWithin}
-use Rattle.sm_theory.specs.declared.line.CertLine.{CertLine}
-use Rattle.sm_theory.proofs.LinesOver.{each_with, each_more}
+use Rattle.sm_list.proofs.Imports.{◌≡◌, ◌<◌, ℕ, List, [], ◌∷◌, length, sym, subst, slice_get-get_or, Box, Global, Tree, tree_at, EachNamed, line_in, numbered_line, IsLineWithin, CertLine, each_with, each_more, Certificate, Closed, Split, EachTerm, lines_before, certificate_in, lines_of, AreLinesWithin, CertTree, tree_closed, tree_split, lines_closed, within_parts, IsOneOf}
 use Rattle.sm_cert.specs.declared.tree.CertEnd.TheVariants as ends
-use Rattle.sm_cert.specs.Certificates.{Certificate, Closed, Split}
-use Rattle.sm_cert.specs.NamedTerms.{EachTerm}
-use Rattle.sm_cert.specs.Views.{lines_before, certificate_in, lines_of, AreLinesWithin}
-use Rattle.sm_cert.specs.declared.tree.CertTree.{CertTree}
-use Rattle.sm_cert.proofs.CheckLemmas.{tree_closed, tree_split, lines_closed, within_parts}
 use Rattle.sm_cert.proofs.TreeLemmas.{own_within, split_within}
 use Rattle.sm_pairs.proofs.AmongLemmas.{there_among}
-use Rattle.sm_list.specs.Branches.{IsOneOf}
 
 -- the term with a number is one of them
 one_at : (trees : List Tree) (n : ℕ) → n < length trees → IsOneOf trees (tree_at trees n)

@@ -1,33 +1,7 @@
 -- A term that is put into a table of its own, after its arguments, stands for the same there.
-use Rattle.std.proofs.Common.{◌≡◌, ◌⊎◌, inl, inr, ℕ, zero, suc, ◌+◌, ◌<◌, ◌==◌, pos, Bool, true, false, Some, slice_get, slice_set, List, [], ◌∷◌, ◌++◌, length, take, get_or, refl, sym, ap, ◌∙◌, subst, arith}
-use Rattle.std.proofs.lemmas.List.{length-append, length-map, take_more, get_or-set_same, get_or-set_other, map-set}
-use Rattle.std.proofs.lemmas.Option.{slice_get_within, get_or_from_slice_get}
-use Rattle.std.proofs.lemmas.Bool.{eqb-true, eqb-false}
-use Rattle.sm_syntax.specs.claim.Syntax.{Code}
-use Rattle.sm_syntax.specs.text.Sorts.{Sorts}
-use Rattle.sm_term.specs.Terms.{Tree, Lit}
-use Rattle.sm_term.specs.RowLaws.{contents_of}
-use Rattle.sm_term.specs.Moves.{moved_contents}
-use Rattle.sm_term.specs.Heads.{arguments_of}
-use Rattle.sm_term.specs.Assertions.{Assertion}
-use Rattle.sm_term.specs.Tables.{TableValue, trees_in, sorts_in, tree_at, tree_in, IsTermWithin, AreBefore}
-use Rattle.sm_term.specs.declared.term.TermId.{TermId}
-use Rattle.sm_term.specs.declared.term.Term.{Term}
-use Rattle.sm_term.specs.Fitting.{term_fits}
-use Rattle.sm_term.specs.TableLaws.{AreApart, with_tree, AddsTerms}
-use Rattle.sm_term.specs.Formulas.{NumberedFormula, Yes, No, Eq, Ne, Le, Lt, And, Or, assertion_in, IsFormulaWithin}
-use Rattle.sm_term.proofs.FormsLemmas.{assertion-more, form_kept}
-use Rattle.sm_term.proofs.TreesLemmas.{tree_at-more}
-use Rattle.sm_term.proofs.TablesLemmas.{grown-with_tree}
-use Rattle.sm_euf.specs.Arguments.{argument_numbers, trees_of}
+use Rattle.sm_list.proofs.Imports.{◌≡◌, ◌⊎◌, inl, inr, ℕ, zero, suc, ◌+◌, ◌<◌, ◌==◌, pos, Bool, true, false, Some, slice_get, slice_set, List, [], ◌∷◌, ◌++◌, length, take, get_or, refl, sym, ap, ◌∙◌, subst, arith, length-append, length-map, take_more, get_or-set_same, get_or-set_other, map-set, slice_get_within, get_or_from_slice_get, eqb-true, eqb-false, Code, Sorts, Tree, Lit, contents_of, moved_contents, arguments_of, Assertion, TableValue, trees_in, sorts_in, tree_at, tree_in, IsTermWithin, AreBefore, TermId, Term, term_fits, AreApart, with_tree, AddsTerms, NumberedFormula, assertion_in, IsFormulaWithin, assertion-more, form_kept, tree_at-more, grown-with_tree, argument_numbers, trees_of, is_among, number_under, trees_at, numbers_of, AreBelow, AllAmong, AreBuilt, ArePlaced, assertions_in, AreFormulasWithin, among_put_cases, put_new, below_at, tree_of_place}
+use Rattle.sm_term.specs.Formulas.{Yes, No, Eq, Ne, Le, Lt, And, Or}
 use Rattle.sm_euf.proofs.ArgumentsLemmas.{arguments_are, parts_before}
-use Rattle.sm_theory.specs.TermsOfFormulas.{is_among}
-use Rattle.sm_theory.specs.Views.{number_under}
-use Rattle.sm_terms.specs.Listing.{trees_at, numbers_of, AreBelow, AllAmong}
-use Rattle.sm_list.specs.Own.{AreBuilt, ArePlaced}
-use Rattle.sm_list.specs.Parts.{assertions_in, AreFormulasWithin}
-use Rattle.sm_terms.proofs.WithTermLemmas.{among_put_cases, put_new}
-use Rattle.sm_terms.proofs.ListingLemmas.{below_at, tree_of_place}
 use Rattle.sm_list.proofs.RenumberLemmas.{Stands, FormulaStands, FormulasStand}
 use Rattle.sm_list.proofs.RenumberTermLemmas.{AllStand, renumbered_tree, renumbered_within, renumbered_fits}
 use Rattle.sm_list.proofs.BuiltLemmas.{FormulaAmong, FormulasAmong, built_at}

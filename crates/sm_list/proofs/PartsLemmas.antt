@@ -1,13 +1,7 @@
 -- Formulas taken apart level by level stand in the order of a queue.
-use Rattle.std.proofs.Common.{◌≡◌, ℕ, zero, suc, ◌+◌, ◌<◌, ◌≤◌, List, [], ◌∷◌, ◌++◌, map, length, take, drop, get_or, refl, sym, ap, ◌∙◌, arith}
-use Rattle.std.proofs.lemmas.List.{append-nil, append_assoc, map-append, length-append}
-use Rattle.sm_syntax.specs.text.Sorts.{Sorts}
-use Rattle.sm_term.specs.Terms.{Tree}
-use Rattle.sm_term.specs.Assertions.{Assertion, Yes, No, Eq, Ne, Le, Lt, And, Or}
+use Rattle.sm_list.proofs.Imports.{◌≡◌, ℕ, zero, suc, ◌+◌, ◌<◌, ◌≤◌, List, [], ◌∷◌, ◌++◌, map, length, take, drop, get_or, refl, sym, ap, ◌∙◌, arith, append-nil, append_assoc, map-append, length-append, Sorts, Tree, Assertion, NumberedFormula, assertion_in, IsFormulaWithin, greatest_of, parts_of, parts_of_all, depth_of, taken_apart, with_parts, numbered_parts, assertions_in, AreFormulasWithin}
+use Rattle.sm_term.specs.Assertions.{Yes, No, Eq, Ne, Le, Lt, And, Or}
 use Rattle.sm_term.specs.Formulas as number
-use Rattle.sm_term.specs.Formulas.{NumberedFormula, assertion_in, IsFormulaWithin}
-use Rattle.sm_list.specs.Branches.{greatest_of, parts_of, parts_of_all, depth_of, taken_apart, with_parts}
-use Rattle.sm_list.specs.Parts.{numbered_parts, assertions_in, AreFormulasWithin}
 
 -- conjunctions stand in one another no deeper than so
 abbrev pub AreShallow : ℕ → List Assertion → Type 0

@@ -1,16 +1,6 @@
 -- What elements that are read were before: round after round fewer writes stand under what is read, so
 -- the rounds come to an end, and more of them change nothing.
-use Rattle.std.proofs.Common.{◌≡◌, ℕ, zero, suc, ◌+◌, ◌-◌, ◌<◌, ◌≤◌, max, Bool, true, false, ◌||◌, Option, Some, None, List, [], ◌∷◌, ◌++◌, map, length, take, drop, refl, sym, ap, ◌∙◌, subst, arith}
-use Rattle.std.specs.List.{list_any}
-use Rattle.std.proofs.lemmas.List.{append-nil, append_assoc, length-append, take-append-drop}
-use Rattle.std.proofs.Math.Seq.{take-append_seam, drop-append_seam}
-use Rattle.sm_term.specs.Terms.{Tree, Lit, Start, Havoc, Slot, Cell, Read, Write, Neg, Add, Sub, Mul, Fun}
-use Rattle.sm_term.specs.SameTerms.{same_tree}
-use Rattle.sm_term.proofs.SameTermsLemmas.{same_tree_is}
-use Rattle.sm_theory.specs.TermsOfFormulas.{put, is_among}
-use Rattle.sm_list.specs.Branches.{greatest_of, writes_on, put_if, read_before, with_reads, with_all_reads}
-use Rattle.sm_terms.specs.Listing.{AllAmong, IsClosed}
-use Rattle.sm_terms.proofs.WithTermLemmas.{AllOf, same_itself, among-right, put_there, put_new, among_put, kept_put}
+use Rattle.sm_list.proofs.Imports.{◌≡◌, ℕ, zero, suc, ◌+◌, ◌-◌, ◌<◌, ◌≤◌, max, Bool, true, false, ◌||◌, Option, Some, None, List, [], ◌∷◌, ◌++◌, map, length, take, drop, refl, sym, ap, ◌∙◌, subst, arith, list_any, append-nil, append_assoc, length-append, take-append-drop, take-append_seam, drop-append_seam, Tree, Lit, Start, Havoc, Slot, Cell, Read, Write, Neg, Add, Sub, Mul, Fun, same_tree, same_tree_is, put, is_among, greatest_of, writes_on, put_if, read_before, with_reads, with_all_reads, AllAmong, IsClosed, AllOf, same_itself, among-right, put_there, put_new, among_put, kept_put}
 
 -- how many writes stand on one another in the array of which an element is read
 abbrev pub reads_on : Tree → ℕ

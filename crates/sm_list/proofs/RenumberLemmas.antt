@@ -1,25 +1,9 @@
 -- Formulas and lines under other numbers stand for the same over the other table.
-use Rattle.std.proofs.Common.{◌≡◌, ℕ, zero, suc, ◌<◌, ◌+◌, pos, List, [], ◌∷◌, ◌++◌, length, map, take, get_or, refl, sym, ap, ◌∙◌, subst, arith}
-use Rattle.std.proofs.lemmas.List.{length-map, map-append, take_more}
-use Rattle.sm_syntax.specs.text.Sorts.{Sorts}
-use Rattle.sm_term.specs.Terms.{Tree, Lit}
-use Rattle.sm_term.specs.Tables.{tree_at}
-use Rattle.sm_term.specs.declared.term.TermId.{TermId}
-use Rattle.sm_term.specs.Sorted.{tree_sort}
+use Rattle.sm_list.proofs.Imports.{◌≡◌, ℕ, zero, suc, ◌<◌, ◌+◌, pos, List, [], ◌∷◌, ◌++◌, length, map, take, get_or, refl, sym, ap, ◌∙◌, subst, arith, length-map, map-append, take_more, Sorts, Tree, Lit, tree_at, TermId, tree_sort, NumberedFormula, assertion_in, IsFormulaWithin, EachNamed, line_in, numbered_line, IsLineWithin, number_under, CertLine, with_twice, with_same, each_with, each_more, AreLinesWithin, within_parts, trees_at, numbers_of, AreBelow, assertions_in, AreFormulasWithin, formula_under, IsLineUnder, AreLinesUnder, AreTermsOf, below_at, tree_of_place}
 use Rattle.sm_term.specs.Assertions as plain
-use Rattle.sm_term.specs.Formulas.{NumberedFormula, Yes, No, Eq, Ne, Le, Lt, And, Or, assertion_in, IsFormulaWithin}
+use Rattle.sm_term.specs.Formulas.{Yes, No, Eq, Ne, Le, Lt, And, Or}
 use Rattle.sm_theory.specs.Lines as told
-use Rattle.sm_theory.specs.Named.{with_terms, EachNamed}
-use Rattle.sm_theory.specs.Views.{line_in, numbered_line, IsLineWithin, number_under}
-use Rattle.sm_theory.specs.declared.line.CertLine.{CertLine}
-use Rattle.sm_theory.proofs.LinesOver.{with_twice, with_same, each_with, each_more}
-use Rattle.sm_cert.specs.Views.{AreLinesWithin}
-use Rattle.sm_cert.proofs.CheckLemmas.{within_parts}
-use Rattle.sm_terms.specs.Listing.{trees_at, numbers_of, AreBelow}
-use Rattle.sm_list.specs.Parts.{assertions_in, AreFormulasWithin}
-use Rattle.sm_list.specs.Renumber.{formula_under, IsLineUnder, AreLinesUnder}
-use Rattle.sm_list.specs.Renumbered.{AreTermsOf}
-use Rattle.sm_terms.proofs.ListingLemmas.{below_at, tree_of_place}
+use Rattle.sm_theory.specs.Named.{with_terms}
 
 -- the number of the term at a place, whatever is said past the end
 pub at_number : (numbers : List TermId) (n : ℕ) (d : TermId) (e : ℕ) → n < length numbers →

@@ -1,25 +1,13 @@
 -- A term under other numbers of its arguments stands for the same tree in the table where these have
 -- the same trees, and fits there alike.
-use Rattle.std.proofs.Common.{◌≡◌, ℕ, ◌<◌, Bool, ◌&&◌, List, [], ◌∷◌, length, map, refl, sym, ap, ◌∙◌, subst, arith}
+use Rattle.sm_list.proofs.Imports.{◌≡◌, ℕ, ◌<◌, Bool, ◌&&◌, List, [], ◌∷◌, length, map, refl, sym, ap, ◌∙◌, subst, arith, Code, Sorts, Tree, term_numbers, names_of_term, parts_of_term, names_in_list, parts_in_list, Contents, contents_of, IsDeclaredIn, tree_at, code_at, arguments_in, tree_in, IsTermWithin, AreBefore, TermId, Term, has_sort, arguments_fit, term_fits, moved_numbers, moved_contents, argument_numbers}
 use Rattle.sm_syntax.specs.declared.tree.Name.{Name}
-use Rattle.sm_syntax.specs.claim.Syntax.{Code}
 use Rattle.sm_syntax.specs.claim.ConflictFree.{copy_of}
-use Rattle.sm_syntax.specs.text.Sorts.{Sorts}
 use Rattle.sm_syntax.specs.declared.tree.Sort.{Sort}
 use Rattle.sm_syntax.specs.declared.tree.Sort.TheVariants.{Num, Arr}
 use Rattle.sm_term.specs.declared.term.Term.TheVariants as row
-use Rattle.sm_term.specs.Terms.{Tree}
 use Rattle.sm_term.specs.Terms as tree
-use Rattle.sm_term.specs.Rows.{term_numbers, names_of_term, parts_of_term, names_in_list, parts_in_list}
-use Rattle.sm_term.specs.RowLaws.{Contents, contents_of}
-use Rattle.sm_term.specs.Sorted.{IsDeclaredIn}
-use Rattle.sm_term.specs.Tables.{tree_at, code_at, arguments_in, tree_in, IsTermWithin, AreBefore}
-use Rattle.sm_term.specs.declared.term.TermId.{TermId}
-use Rattle.sm_term.specs.declared.term.Term.{Term}
-use Rattle.sm_term.specs.Fitting.{has_sort, arguments_fit, term_fits}
-use Rattle.sm_term.specs.Moves.{moved_numbers, moved_contents}
 use Rattle.sm_term.proofs.TermsLemmas.{declared_alike}
-use Rattle.sm_euf.specs.Arguments.{argument_numbers}
 use Rattle.sm_list.proofs.RenumberLemmas.{Stands}
 
 -- bodies keep their numbers

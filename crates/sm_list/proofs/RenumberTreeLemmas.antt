@@ -1,21 +1,7 @@
 -- A certificate under other numbers of terms is the same certificate.
-use Rattle.std.proofs.Common.{◌≡◌, List, [], ◌∷◌, ◌++◌, length, map, refl, sym, ap, ◌∙◌, subst}
-use Rattle.std.specs.Prelude.{Box}
-use Rattle.std.specs.declared.alloc.Global.{Global}
-use Rattle.sm_term.specs.declared.term.TermId.{TermId}
-use Rattle.sm_term.specs.Terms.{Tree}
+use Rattle.sm_list.proofs.Imports.{◌≡◌, List, [], ◌∷◌, ◌++◌, length, map, refl, sym, ap, ◌∙◌, subst, Box, Global, TermId, Tree, line_in, CertLine, Certificate, Next, Closed, Split, EachTerm, lines_before, certificate_in, lines_of, AreLinesWithin, CertTree, tree_closed, tree_split, lines_closed, lines_split, within_parts, IsOneOf, IsLineUnder, AreLinesUnder, AreTermsOf}
 use Rattle.sm_theory.specs.Lines.{CertificateLine}
-use Rattle.sm_theory.specs.Views.{line_in}
-use Rattle.sm_theory.specs.declared.line.CertLine.{CertLine}
 use Rattle.sm_cert.specs.declared.tree.CertEnd.TheVariants as ends
-use Rattle.sm_cert.specs.Certificates.{Certificate, Next, Closed, Split}
-use Rattle.sm_cert.specs.NamedTerms.{EachTerm}
-use Rattle.sm_cert.specs.Views.{lines_before, certificate_in, lines_of, AreLinesWithin}
-use Rattle.sm_cert.specs.declared.tree.CertTree.{CertTree}
-use Rattle.sm_cert.proofs.CheckLemmas.{tree_closed, tree_split, lines_closed, lines_split, within_parts}
-use Rattle.sm_list.specs.Branches.{IsOneOf}
-use Rattle.sm_list.specs.Renumber.{IsLineUnder, AreLinesUnder}
-use Rattle.sm_list.specs.Renumbered.{AreTermsOf}
 use Rattle.sm_list.proofs.NamedTermsLemmas.{closed_names, split_names}
 use Rattle.sm_list.proofs.RenumberLemmas.{line_stands, within-append}
 

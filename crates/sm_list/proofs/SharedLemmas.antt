@@ -1,34 +1,10 @@
 -- Terms that go behind others into a table of their own: the first stay, and a term's number there
 -- doesn't change.
-use Rattle.std.proofs.Common.{◌≡◌, ◌⊎◌, inl, inr, ℕ, zero, suc, ◌+◌, ◌-◌, ◌<◌, ◌≤◌, pos, Bool, true, false, ◌||◌, Option, Some, None, List, [], ◌∷◌, ◌++◌, map, length, take, get_or, refl, sym, ap, ◌∙◌, subst, arith}
-use Rattle.std.specs.List.{list_any}
-use Rattle.std.proofs.lemmas.List.{append-nil, append_assoc, length-append, length-map, take_more, take-map}
-use Rattle.std.proofs.lemmas.Bool.{cases_lt}
-use Rattle.std.proofs.Math.Seq.{take-append_seam, take-append-add}
-use Rattle.sm_syntax.specs.text.Sorts.{Sorts}
-use Rattle.sm_term.specs.Terms.{Tree, Lit, Read, Write}
-use Rattle.sm_term.specs.Heads.{arguments_of}
-use Rattle.sm_term.specs.Assertions.{Assertion, Yes, No, Eq, Ne, Le, Lt, And, Or}
-use Rattle.sm_term.specs.SameTerms.{same_tree}
-use Rattle.sm_term.specs.Tables.{TableValue, trees_in, sorts_in, codes_in, tree_at}
-use Rattle.sm_term.specs.declared.term.TermId.{TermId}
-use Rattle.sm_term.specs.TableLaws.{AreApart, with_tree, AddsTerms}
-use Rattle.sm_term.specs.Formulas.{NumberedFormula, assertion_in, IsFormulaWithin}
-use Rattle.sm_term.proofs.FormsLemmas.{assertion-more, form_kept}
-use Rattle.sm_term.proofs.SameTermsLemmas.{same_tree_is}
-use Rattle.sm_term.proofs.TreesLemmas.{tree_at-more}
-use Rattle.sm_theory.specs.TermsOfFormulas.{put, with_term, with_formula, with_formulas, is_among}
-use Rattle.sm_theory.specs.Views.{number_under}
+use Rattle.sm_list.proofs.Imports.{◌≡◌, ◌⊎◌, inl, inr, ℕ, zero, suc, ◌+◌, ◌-◌, ◌<◌, ◌≤◌, pos, Bool, true, false, ◌||◌, Option, Some, None, List, [], ◌∷◌, ◌++◌, map, length, take, get_or, refl, sym, ap, ◌∙◌, subst, arith, list_any, append-nil, append_assoc, length-append, length-map, take_more, take-map, cases_lt, take-append_seam, take-append-add, Sorts, Tree, Lit, Read, Write, arguments_of, Assertion, same_tree, TableValue, trees_in, sorts_in, codes_in, tree_at, TermId, AreApart, with_tree, AddsTerms, NumberedFormula, assertion_in, IsFormulaWithin, assertion-more, form_kept, same_tree_is, tree_at-more, put, with_term, with_formula, with_formulas, is_among, number_under, greatest_of, writes_on, put_if, read_before, with_reads, with_all_reads, terms_of, trees_at, AreBelow, AllAmong, IsClosed, AreBuilt, ArePlaced, assertions_in, AreFormulasWithin, formula_under, AreShared, with_those_before, AllOf, by_arguments, with_term_is, put_there, put_new, all_kept, closed_put, among_with_terms, among-left, kept_with_term, among_with_term, closed_none, below_at, tree_of_place}
+use Rattle.sm_term.specs.Assertions.{Yes, No, Eq, Ne, Le, Lt, And, Or}
 use Rattle.sm_list.specs.declared.shared.SharedTerms.{SharedTerms}
-use Rattle.sm_list.specs.Branches.{greatest_of, writes_on, put_if, read_before, with_reads, with_all_reads, terms_of}
-use Rattle.sm_terms.specs.Listing.{trees_at, AreBelow, AllAmong, IsClosed}
-use Rattle.sm_list.specs.Own.{AreBuilt, ArePlaced}
-use Rattle.sm_list.specs.Parts.{assertions_in, AreFormulasWithin}
-use Rattle.sm_list.specs.Renumber.{formula_under}
-use Rattle.sm_list.specs.Shared.{AreShared, with_those_before}
-use Rattle.sm_terms.proofs.WithTermLemmas.{AllOf, by_arguments, with_terms, with_term_is, put_there, put_new, all_kept, closed_put, among_with_terms, among-left, kept_with_term, among_with_term, closed_none}
+use Rattle.sm_terms.proofs.WithTermLemmas.{with_terms}
 use Rattle.sm_list.proofs.ReadsLemmas.{kept_put_if, all_themselves}
-use Rattle.sm_terms.proofs.ListingLemmas.{below_at, tree_of_place}
 use Rattle.sm_list.proofs.BuiltLemmas.{FormulaAmong, FormulasAmong, terms_among, built_at, built-append}
 use Rattle.sm_list.proofs.RenumberLemmas.{formula_same, formula_there, formulas_same, formulas_there}
 use Rattle.sm_list.proofs.OwnLemmas.{formulas_placed}

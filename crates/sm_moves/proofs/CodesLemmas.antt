@@ -1,10 +1,5 @@
 -- What code is left where more code stands behind it.
-use Rattle.std.proofs.Common.{◌≡◌, ◌+◌, ◌<◌, true, false, ◌||◌, refl, ap, sym, arith}
-use Rattle.sm_syntax.specs.claim.Syntax.{Code, End, Skip, Assign, Write, If, While, Hole, append}
-use Rattle.sm_syntax.proofs.Appends.{append_assoc}
-use Rattle.sm_plan.specs.Statements.{is_over, is_long, front, rest_after, is_loop, loop_body}
-use Rattle.sm_moves.specs.CodeShapes.{is_simple, is_fork, by_first_block, by_second_block, has_hole, own_statements, statements_in}
-use Rattle.std.proofs.lemmas.Bool.{or_parts}
+use Rattle.sm_moves.proofs.Imports.{◌≡◌, ◌+◌, ◌<◌, true, false, ◌||◌, refl, ap, sym, arith, Code, End, Skip, Assign, Write, If, While, Hole, append, append_assoc, is_over, is_long, front, rest_after, is_loop, loop_body, is_simple, is_fork, by_first_block, by_second_block, has_hole, own_statements, statements_in, or_parts}
 
 -- code that has a statement, and more behind it
 pub long_append : (c k : Code) → is_over c ≡ false → is_long 1 (append c k) ≡ true

@@ -1,9 +1,5 @@
 -- What holds of the four copies, one by one.
-use Rattle.std.proofs.Common.{◌≡◌, ℕ, if◌then◌else◌, refl, ap, ◌∙◌}
-use Rattle.sm_syntax.specs.claim.Syntax.{Code}
-use Rattle.sm_syntax.specs.claim.ConflictFree.{Copy, O, A, B, M}
-use Rattle.sm_plan.specs.Copies.{has, with_copy}
-use Rattle.sm_plan.specs.Masks.{bit_of, set_of}
+use Rattle.sm_moves.proofs.Imports.{◌≡◌, ℕ, if◌then◌else◌, refl, ap, ◌∙◌, Code, Copy, O, A, B, M, has, with_copy, bit_of, set_of}
 
 -- the block of a copy, where those of a set of one copy go on by their blocks
 pub forked_at : (c : Copy) (n : ℕ) → n ≡ bit_of c → (old new block : Copy → Code) →

@@ -1,3 +1,4 @@
+mod Imports
 pub mod CodesLemmas
 pub mod MovesLemmas
 mod MovesMade

@@ -1,10 +1,5 @@
 -- Masks of four bits, one by one.
-use Rattle.std.proofs.Common.{◌≡◌, ℕ, zero, suc, ◌+◌, ◌-◌, ◌==◌, ◌<◌, ◌≤◌, bit_and, Bool, true, false, not, ◌&&◌, ◌||◌, refl, ap, ◌∙◌, arith}
-use Rattle.std.proofs.lemmas.Bool.{and_parts}
-use Rattle.sm_syntax.specs.claim.ConflictFree.{Copy}
-use Rattle.sm_plan.specs.Copies.{Copies, each, has, is_inhabited}
-use Rattle.sm_plan.specs.Masks.{set_of}
-use Rattle.sm_plan.proofs.CopiesLemmas.{each_true}
+use Rattle.sm_moves.proofs.Imports.{◌≡◌, ℕ, zero, suc, ◌+◌, ◌-◌, ◌==◌, ◌<◌, ◌≤◌, bit_and, Bool, true, false, not, ◌&&◌, ◌||◌, refl, ap, ◌∙◌, arith, and_parts, Copy, Copies, each, has, is_inhabited, set_of, each_true}
 use Rattle.sm_moves.proofs.SetsLemmas.{IsWithin}
 
 -- a test holds of all numbers below one

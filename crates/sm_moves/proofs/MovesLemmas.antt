@@ -1,15 +1,6 @@
 -- What each move says of the code that is left.
-use Rattle.std.proofs.Common.{◌≡◌, Bool, true, false, not, ◌&&◌, if◌then◌else◌, Option, Some, None, List, [], ◌∷◌, cond, refl, ap, sym, ◌∙◌, subst}
-use Rattle.std.specs.Prelude.{find, filter}
-use Rattle.std.proofs.lemmas.Bool.{and_parts}
-use Rattle.std.proofs.lemmas.Option.{same_Some}
-use Rattle.sm_syntax.specs.claim.Syntax.{Code, End}
-use Rattle.sm_syntax.specs.claim.ConflictFree.{Copy, O, A, B, M}
-use Rattle.sm_plan.specs.Copies.{Copies, copies, has, is_inhabited}
-use Rattle.sm_plan.specs.Statements.{is_over, is_loop}
-use Rattle.sm_plan.proofs.CopiesLemmas.{has_that, inhabited_by}
-use Rattle.sm_moves.specs.CodeShapes.{is_simple, is_fork, has_hole}
-use Rattle.sm_moves.specs.Moves.{Move, Done, Steps, Summaries, Forks, Loops, left_in, first_in, are_alike, move_or, next_move, move_of}
+use Rattle.sm_moves.proofs.Imports.{◌≡◌, Bool, true, false, not, ◌&&◌, if◌then◌else◌, Option, Some, None, List, [], ◌∷◌, cond, refl, ap, sym, ◌∙◌, subst, find, and_parts, same_Some, Code, End, Copy, O, A, B, M, Copies, copies, has, is_inhabited, is_over, is_loop, has_that, inhabited_by, is_simple, is_fork, has_hole, Move, Done, Steps, Summaries, Forks, Loops, left_in, first_in, are_alike, move_or, next_move, move_of}
+use Rattle.std.specs.Prelude.{filter}
 use Rattle.sm_moves.proofs.CodesLemmas.{loop_or_else}
 use Rattle.sm_moves.proofs.SetsLemmas.{Each}
 

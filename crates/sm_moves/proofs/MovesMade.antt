@@ -1,21 +1,7 @@
 -- Copies begin with the same statement where each begins with that of the least.
-use Rattle.std.proofs.Common.{◌≡◌, ◌↔◌, IsTrue, Bool, true, false, not, ◌&&◌, ◌||◌, cond, Some, List, [], ◌∷◌, map, refl, ap, sym, ◌∙◌, subst}
-use Rattle.std.specs.Prelude.{find, filter}
-use Rattle.std.specs.List.{list_all}
-use Rattle.std.proofs.lemmas.Option.{same_Some}
-use Rattle.sm_syntax.specs.claim.Syntax.{Code, End}
-use Rattle.sm_syntax.specs.claim.ConflictFree.{Copy, O, A, B, M}
-use Rattle.sm_syntax.specs.trees.Views.{statement_of}
-use Rattle.sm_syntax.specs.declared.tree.Stmt.{Stmt}
-use Rattle.sm_term.specs.SameTerms.{same_code}
-use Rattle.sm_term.specs.SameCodeLaws.{same_code_is, code_itself}
-use Rattle.sm_plan.specs.Copies.{Copies, copies, each, has}
-use Rattle.sm_plan.specs.Statements.{Statement, by_first, front, put_before, rest_after}
-use Rattle.sm_plan.proofs.RestsLemmas.{stands, put_first}
-use Rattle.sm_moves.specs.CodeShapes.{are_same}
-use Rattle.sm_moves.specs.Moves.{is_shared}
+use Rattle.sm_moves.proofs.Imports.{◌≡◌, ◌↔◌, IsTrue, Bool, true, false, not, ◌&&◌, ◌||◌, cond, Some, List, [], ◌∷◌, map, refl, ap, sym, ◌∙◌, subst, find, list_all, same_Some, Code, End, Copy, O, A, B, M, statement_of, Stmt, same_code, same_code_is, code_itself, Copies, copies, each, has, Statement, by_first, front, put_before, rest_after, stands, put_first, are_same, is_shared, same_tests}
+use Rattle.std.specs.Prelude.{filter}
 use Rattle.sm_moves.proofs.SharedLemmas.{and_true}
-use Rattle.sm_lemmas.proofs.Tests.{same_tests}
 
 -- whether all that pass a test have this code, one after the other
 abbrev agree : (Copy → Bool) → (Copy → Code) → Code → List Copy → Bool

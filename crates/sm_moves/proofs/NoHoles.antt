@@ -1,10 +1,7 @@
 -- Code and fillings without holes.
-use Rattle.std.proofs.Common.{◌≡◌, false, [], ◌++◌, refl, ℕ, None, List, ◌∷◌, ◌==◌, Bool, true, if◌then◌else◌}
-use Rattle.sm_syntax.specs.claim.Syntax.{Code, End, Skip, Assign, Write, If, While, Hole}
+use Rattle.sm_moves.proofs.Imports.{◌≡◌, false, [], ◌++◌, refl, ℕ, None, List, ◌∷◌, ◌==◌, Bool, true, if◌then◌else◌, Code, End, Skip, Assign, Write, If, While, Hole, has_hole, Fillings, filling}
 use Rattle.sm_syntax.specs.text.Conditions.{holes_of, first_outside, holes_inside}
-use Rattle.sm_moves.specs.CodeShapes.{has_hole}
 use Rattle.sm_lemmas.proofs.Lists.{neither_has_items}
-use Rattle.sm_syntax.specs.claim.Fill.{Fillings, filling}
 
 -- code without the number of a hole has no hole
 pub no_number : (c : Code) → holes_of c ≡ [] → has_hole c ≡ false

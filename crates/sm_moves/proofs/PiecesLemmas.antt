@@ -1,21 +1,7 @@
 -- What is left of filled code where its last statement is taken away.
-use Rattle.std.proofs.Common.{◌≡◌, ℕ, suc, ◌+◌, ◌-◌, ◌≤◌, List, [], ◌∷◌, length, vec_len, take, drop, refl, sym, ap, ◌∙◌, arith}
-use Rattle.sm_syntax.specs.claim.ConflictFree.{Copy, O, A, B, M}
-use Rattle.sm_syntax.specs.claim.Fill.{Fillings, filling, fill}
-use Rattle.sm_syntax.specs.claim.Syntax.{Code, End, Skip, Assign, Write, If, While, Hole, append}
+use Rattle.sm_moves.proofs.Imports.{◌≡◌, ℕ, suc, ◌+◌, ◌-◌, ◌≤◌, List, [], ◌∷◌, length, vec_len, take, drop, refl, sym, ap, ◌∙◌, arith, Copy, O, A, B, M, Fillings, filling, fill, Code, End, Skip, Assign, Write, If, While, Hole, append, of_copy, statement_of, code_of, Stmt, Block, append-End, fill-append, block_is, statement_of-Hole, front, rest_after, Statement, put_before, code_before, stands, front_within, after_within, own_statements}
 use Rattle.sm_syntax.specs.declared.tree.Stmt.TheVariants as tree
-use Rattle.sm_syntax.specs.trees.Copies.{of_copy}
 use Rattle.sm_syntax.specs.declared.copies.PerCopy.{PerCopy}
-use Rattle.sm_syntax.specs.trees.Views.{statement_of, code_of}
-use Rattle.sm_syntax.specs.declared.tree.Stmt.{Stmt}
-use Rattle.sm_syntax.specs.declared.tree.Block.{Block}
-use Rattle.sm_syntax.proofs.Appends.{append-End, fill-append}
-use Rattle.sm_syntax.proofs.Blocks.{block_is}
-use Rattle.sm_syntax.proofs.Statements.{statement_of-Hole}
-use Rattle.sm_plan.specs.Statements.{front, rest_after, Statement, put_before}
-use Rattle.sm_plan.specs.Views.{code_before}
-use Rattle.sm_plan.proofs.RestsLemmas.{stands, front_within, after_within}
-use Rattle.sm_moves.specs.CodeShapes.{own_statements}
 use Rattle.sm_moves.specs.FilledCode.{block_codes}
 use Rattle.sm_moves.proofs.CodesLemmas.{own_front, own_rest}
 use Rattle.sm_plan.specs.Statements as plain

@@ -1,13 +1,7 @@
 -- The copies of a set, one after the other.
-use Rattle.std.proofs.Common.{◌≡◌, Bool, true, false, cond, List, [], ◌∷◌, ◌++◌, map, refl}
-use Rattle.std.specs.List.{filter, flat_map, list_any}
-use Rattle.sm_syntax.specs.claim.Syntax.{Code}
-use Rattle.sm_syntax.specs.claim.ConflictFree.{Copy, O, A, B, M}
-use Rattle.sm_term.specs.SameTerms.{is_copy}
-use Rattle.sm_plan.specs.Copies.{Copies, has, is_inhabited, choices, all_subsets, subsets, with_copy, no_copies}
-use Rattle.sm_plan.specs.Statements.{rest_after}
+use Rattle.sm_moves.proofs.Imports.{◌≡◌, Bool, true, false, cond, List, [], ◌∷◌, ◌++◌, map, refl, flat_map, list_any, Code, Copy, O, A, B, M, is_copy, Copies, has, is_inhabited, choices, all_subsets, subsets, with_copy, no_copies, rest_after, moved_on}
+use Rattle.std.specs.List.{filter}
 use Rattle.sm_moves.specs.CopySets.{members}
-use Rattle.sm_moves.specs.Moves.{moved_on}
 
 -- the first statement of each copy of a list is done, one after the other
 abbrev pub each_moved : List Copy → (Copy → Code) → Copy → Code

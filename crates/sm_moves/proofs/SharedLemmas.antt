@@ -1,14 +1,6 @@
 -- Tests of the copies of a set, as the program asks them copy by copy.
-use Rattle.std.proofs.Common.{◌≡◌, Bool, true, false, not, ◌&&◌, ◌||◌, cond, Some, List, [], ◌∷◌, map, refl, sym, ap, ◌∙◌}
-use Rattle.std.specs.Prelude.{find, filter}
-use Rattle.std.specs.List.{list_all}
-use Rattle.sm_syntax.specs.claim.Syntax.{Code}
-use Rattle.sm_syntax.specs.claim.ConflictFree.{Copy, O, A, B, M}
-use Rattle.sm_term.specs.SameTerms.{same_code}
-use Rattle.sm_term.specs.SameCodeLaws.{code_itself}
-use Rattle.sm_plan.specs.Copies.{Copies, copies, each, has}
-use Rattle.sm_moves.specs.CodeShapes.{are_same}
-use Rattle.sm_moves.specs.Moves.{is_shared}
+use Rattle.sm_moves.proofs.Imports.{◌≡◌, Bool, true, false, not, ◌&&◌, ◌||◌, cond, Some, List, [], ◌∷◌, map, refl, sym, ap, ◌∙◌, find, list_all, Code, Copy, O, A, B, M, same_code, code_itself, Copies, copies, each, has, are_same, is_shared}
+use Rattle.std.specs.Prelude.{filter}
 
 -- all of those that pass one test pass another
 all_filtered : (f g : Copy → Bool) (cs : List Copy) → list_all f (filter g cs) ≡ list_all (λ (c : Copy). not (g c) || f c) cs

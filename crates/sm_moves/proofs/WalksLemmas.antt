@@ -1,20 +1,10 @@
 -- Walks over statements: what a test says of code where it passes one of two parts, and the shapes of statements.
-use Rattle.std.proofs.Common.{◌≡◌, ◌≤◌, ◌<◌, ◌+◌, ℕ, zero, suc, Bool, true, false, ◌||◌, List, [], ◌∷◌, length, drop, get_or, refl, sym, ap, ◌∙◌, arith}
-use Rattle.sm_syntax.specs.claim.Fill.{Fillings, fill}
-use Rattle.sm_syntax.specs.claim.Syntax.{Code, End, Skip, Assign, Write, If, While, Hole, append}
+use Rattle.sm_moves.proofs.Imports.{◌≡◌, ◌≤◌, ◌<◌, ◌+◌, ℕ, zero, suc, Bool, true, false, ◌||◌, List, [], ◌∷◌, length, drop, get_or, refl, sym, ap, ◌∙◌, arith, Fillings, fill, Code, End, Skip, Assign, Write, If, While, Hole, append, statement_of, code_of, Stmt, Block, block_is, statement_is, sequence-drop, sequence-drop-end, statement_of-Skip, statement_of-Assign, statement_of-Store, statement_of-If, statement_of-While, statement_of-Hole, code_before, has_hole, has_fork, own_statements, statements_in, or_false, or_assoc}
 use Rattle.sm_syntax.specs.declared.tree.Expr.{Expr}
 use Rattle.sm_syntax.specs.declared.tree.Name.{Name}
 use Rattle.sm_syntax.specs.declared.tree.Stmt.TheVariants as tree
-use Rattle.sm_syntax.specs.trees.Views.{statement_of, code_of}
-use Rattle.sm_syntax.specs.declared.tree.Stmt.{Stmt}
-use Rattle.sm_syntax.specs.declared.tree.Block.{Block}
 use Rattle.sm_syntax.specs.declared.tree.Cond.{Cond}
-use Rattle.sm_syntax.proofs.Blocks.{block_is, statement_is, sequence-drop, sequence-drop-end}
-use Rattle.sm_syntax.proofs.Statements.{statement_of-Skip, statement_of-Assign, statement_of-Store, statement_of-If, statement_of-While, statement_of-Hole}
-use Rattle.sm_plan.specs.Views.{code_before}
-use Rattle.sm_moves.specs.CodeShapes.{has_hole, has_fork, own_statements, statements_in}
 use Rattle.sm_moves.proofs.CodesLemmas.{statements_append}
-use Rattle.sm_lemmas.proofs.Tests.{or_false, or_assoc}
 
 -- code after code has a hole where one of the two has
 pub hole-append : (c k : Code) → has_hole (append c k) ≡ (has_hole c || has_hole k)

@@ -1,14 +1,7 @@
 -- Forms that are alike are divided and made tight alike.
-use Rattle.std.proofs.Common.{◌≡◌, ℕ, ◌==◌, ◌%◌, ◌/◌, ℤ, pos, nat_abs, ◌+ℤ◌, Bool, true, false, ◌&&◌, if◌then◌else◌, List, [], ◌∷◌, refl, sym, ap, subst, ◌∙◌, ⊎_elim, arith}
-use Rattle.std.proofs.lemmas.Bool.{cases_Bool}
-use Rattle.std.proofs.lemmas.Nat.Gcd.{dvd-zero, dvd_antisymm, dvd_refl}
+use Rattle.sm_num.proofs.Imports.{◌≡◌, ℕ, ◌==◌, ◌%◌, ◌/◌, ℤ, pos, nat_abs, ◌+ℤ◌, Bool, true, false, ◌&&◌, if◌then◌else◌, List, [], ◌∷◌, refl, sym, ap, subst, ◌∙◌, ⊎_elim, arith, cases_Bool, dvd-zero, dvd_antisymm, dvd_refl, Linear, coefficient, Kind, Le, Eq, Outcome, Fits, Leaves, gcd, floor_of, ceiling_of, divisor_of_parts, divided_parts, divided, then_divided, has_no_part, one_is_zero, tightened_by, tightened, fails, is_contradictory, AreAlike, ComeOutAlike}
 use Prim.Native.Nat.{◌∣◌}
 use native.Mathlib.Nat.{zero-div}
-use Rattle.sm_num.specs.Forms.{Linear, coefficient, Kind, Le, Eq}
-use Rattle.sm_num.specs.Combining.{Outcome, Fits, Leaves}
-use Rattle.sm_num.specs.Eliminating.{gcd, floor_of, ceiling_of, divisor_of_parts, divided_parts, divided, then_divided}
-use Rattle.sm_num.specs.Tightening.{has_no_part, one_is_zero, tightened_by, tightened, fails, is_contradictory}
-use Rattle.sm_num.specs.FormLaws.{AreAlike, ComeOutAlike}
 use Rattle.sm_num.proofs.RingLemmas.{sums}
 use Rattle.sm_num.proofs.OutcomeLemmas.{Gives}
 use Rattle.sm_num.proofs.SameAtomLemmas.{IsSound, IsReflexive, AreReduced, coefficient_here, coefficient_past, coefficient_one, apart_zero}

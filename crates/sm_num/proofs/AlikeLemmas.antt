@@ -1,12 +1,5 @@
 -- Sums of forms that are alike come out alike, whatever the order of their parts.
-use Rattle.std.proofs.Common.{◌≡◌, ℤ, pos, ◌+ℤ◌, ◌*ℤ◌, Bool, true, false, if◌then◌else◌, IsTrue, List, [], ◌∷◌, filter, refl, sym, ap, subst, ◌∙◌, ⊎_elim, arith}
-use Rattle.std.proofs.lemmas.Bool.{cases_Bool}
-use Rattle.std.specs.Ordering.{int_eq}
-use Rattle.std.proofs.lemmas.Bool.Decides.{Decides-int_eq}
-use Rattle.sm_num.specs.Range.{exact, fits_form}
-use Rattle.sm_num.specs.Forms.{coefficient, Kind}
-use Rattle.sm_num.specs.Combining.{Outcome, Fits, Leaves, then_with, computed, combined_number, with_part, led_by, scaled, formed, met_part, joined_parts, Op, Add, Mul}
-use Rattle.sm_num.specs.FormLaws.{ComeOutAlike}
+use Rattle.sm_num.proofs.Imports.{◌≡◌, ℤ, pos, ◌+ℤ◌, ◌*ℤ◌, Bool, true, false, if◌then◌else◌, IsTrue, List, [], ◌∷◌, filter, refl, sym, ap, subst, ◌∙◌, ⊎_elim, arith, cases_Bool, int_eq, Decides-int_eq, exact, fits_form, coefficient, Kind, Outcome, Fits, Leaves, then_with, computed, combined_number, with_part, led_by, scaled, formed, met_part, joined_parts, Op, Add, Mul, ComeOutAlike}
 use Rattle.sm_num.proofs.RingLemmas.{sums, mul_zero}
 use Rattle.sm_num.proofs.OutcomeLemmas.{with_part_has}
 use Rattle.sm_num.proofs.SameAtomLemmas.{IsSound, IsReflexive, AreReduced, zero_test, other_test, coefficient_past, coefficient_one, coefficient_filter, apart_zero, reduced_filter}

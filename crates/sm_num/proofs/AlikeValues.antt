@@ -1,9 +1,5 @@
 -- Forms that are alike have one value, and being alike goes on.
-use Rattle.std.proofs.Common.{◌≡◌, ℤ, pos, ◌+ℤ◌, ◌*ℤ◌, Bool, true, false, not, if◌then◌else◌, List, [], ◌∷◌, refl, sym, ap, subst, ◌∙◌, ⊎_elim}
-use Rattle.std.proofs.lemmas.Bool.{cases_Bool}
-use Rattle.sm_num.specs.Forms.{Linear, sum_of_parts, coefficient, parts_without}
-use Rattle.sm_num.specs.Combining.{Outcome, Fits, Leaves}
-use Rattle.sm_num.specs.FormLaws.{AreAlike, ComeOutAlike, value_of_form}
+use Rattle.sm_num.proofs.Imports.{◌≡◌, ℤ, pos, ◌+ℤ◌, ◌*ℤ◌, Bool, true, false, not, if◌then◌else◌, List, [], ◌∷◌, refl, sym, ap, subst, ◌∙◌, ⊎_elim, cases_Bool, Linear, sum_of_parts, coefficient, parts_without, Outcome, Fits, Leaves, AreAlike, ComeOutAlike, value_of_form}
 use Rattle.sm_num.proofs.SameAtomLemmas.{IsSound, IsReflexive, AreReduced, same_turned, apart_turned, coefficient_past, coefficient_one, coefficient_filter, apart_zero, reduced_filter}
 use Rattle.sm_num.proofs.FormValues.{sum_without}
 

@@ -1,15 +1,9 @@
 -- Greatest common divisors, and numbers divided by them and rounded.
-use Rattle.std.proofs.Common.{◌≡◌, ◌↔◌, ℕ, zero, suc, ◌+◌, ◌-◌, ◌*◌, ◌/◌, ◌%◌, ◌<◌, ◌≤◌, ℤ, pos, negsuc, neg_ℤ, nat_abs, ◌+ℤ◌, ◌*ℤ◌, ◌≤ℤ◌, ◌<ℤ◌, Bool, if◌then◌else◌, List, [], ◌∷◌, refl, sym, ap, subst, ◌∙◌, ⊎_elim, arith, mod-lt}
-use Rattle.std.proofs.Common.{div-add-mod', div-lt_iff_lt-mul, le-div_iff_mul-le, mul-le-mul_left, mul-le-mul_right, eq-zero-or-pos}
-use Rattle.std.proofs.lemmas.Bool.{ne_eqb}
-use Rattle.std.proofs.lemmas.Nat.Gcd.{IsGcd-from_zero, IsGcd-from_mod, dvd_trans, dvd-zero}
-use Rattle.std.specs.Int.{IsGcd}
+use Rattle.sm_num.proofs.Imports.{◌≡◌, ◌↔◌, ℕ, zero, suc, ◌+◌, ◌-◌, ◌*◌, ◌/◌, ◌%◌, ◌<◌, ◌≤◌, ℤ, pos, negsuc, neg_ℤ, nat_abs, ◌+ℤ◌, ◌*ℤ◌, ◌≤ℤ◌, ◌<ℤ◌, Bool, if◌then◌else◌, List, [], ◌∷◌, refl, sym, ap, subst, ◌∙◌, ⊎_elim, arith, mod-lt, div-add-mod', div-lt_iff_lt-mul, le-div_iff_mul-le, mul-le-mul_left, mul-le-mul_right, eq-zero-or-pos, ne_eqb, IsGcd-from_zero, IsGcd-from_mod, dvd_trans, dvd-zero, IsGcd, Satisfies, sum_of_parts, Kind, Le, Eq, gcd_within, floor_of, divisor_of_parts, divided_parts, by_lt_z, unsigned_abs-mul}
 use native.Mathlib.Nat.{div-mul_cancel, mul-div_cancel', eq-zero_of_zero-dvd}
 use Prim.Native.Nat.{◌∣◌}
-use Rattle.sm_num.specs.Forms.{Satisfies, sum_of_parts, Kind, Le, Eq}
-use Rattle.sm_num.specs.Eliminating.{gcd_within, gcd, floor_of, divisor_of_parts, divided_parts}
+use Rattle.sm_num.specs.Eliminating.{gcd}
 use borrow.Author.Differences.{up, down, le_out, product_is}
-use Rattle.std.proofs.lemmas.Int.{by_lt_z, unsigned_abs-mul}
 use Rattle.sm_num.proofs.RingLemmas.{sums, mul-add_right, mul_assoc, mul_one, mul_zero, zero_mul}
 use Rattle.sm_num.proofs.OutcomeLemmas.{Each}
 

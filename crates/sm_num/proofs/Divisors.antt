@@ -1,8 +1,6 @@
 -- Greatest common divisors: one step and the end of Euclid's algorithm, and bounds.
-use Rattle.std.proofs.Common.{◌≡◌, ℕ, zero, suc, ◌<◌, ◌≤◌, ◌%◌, refl, arith}
+use Rattle.sm_num.proofs.Imports.{◌≡◌, ℕ, zero, suc, ◌<◌, ◌≤◌, ◌%◌, refl, arith, IsGcd-from_zero, IsGcd-from_mod, same_from_IsGcd, le_of_dvd, gcd}
 use Rattle.std.proofs.Math.Nat.{pos_of_dvd_of_pos}
-use Rattle.std.proofs.lemmas.Nat.Gcd.{IsGcd-from_zero, IsGcd-from_mod, same_from_IsGcd, le_of_dvd}
-use Rattle.sm_num.specs.Eliminating.{gcd}
 use Rattle.sm_num.proofs.DivisionLemmas.{gcd_is}
 
 -- one step

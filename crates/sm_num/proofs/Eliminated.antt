@@ -1,10 +1,5 @@
 -- What elimination computes, from its pieces.
-use Rattle.std.proofs.Common.{◌≡◌, ℕ, ℤ, refl, sym, subst}
-use Rattle.sm_num.specs.Forms.{Linear, coefficient, without, Kind}
-use Rattle.sm_num.specs.FormLaws.{same_atom}
-use Rattle.sm_num.specs.Combining.{Outcome, Fits, combined}
-use Rattle.sm_num.specs.Eliminating.{multipliers, kind_of_sum, divided, then_divided, eliminated}
-use Rattle.sm_num.specs.Errors.{Explains, NumError}
+use Rattle.sm_num.proofs.Imports.{◌≡◌, ℕ, ℤ, refl, sym, subst, Linear, coefficient, without, Kind, same_atom, Outcome, Fits, combined, multipliers, kind_of_sum, divided, then_divided, eliminated, Explains, NumError}
 use Rattle.sm_num.proofs.Merges.{explains_then}
 
 -- the sum of two forms without an atom, divided

@@ -1,16 +1,8 @@
 -- What is computed of two forms, its parts and its constant apart, and its multipliers: for the
 -- theory of elimination, where atoms have values over a common denominator.
-use Rattle.std.proofs.Common.{◌≡◌, ℕ, ◌/◌, ◌*◌, ◌<◌, ◌≤◌, ℤ, pos, negsuc, neg_ℤ, nat_abs, ◌+ℤ◌, ◌*ℤ◌, ◌<ℤ◌, Bool, true, false, not, ◌&&◌, ◌||◌, if◌then◌else◌, IsTrue, List, refl, sym, ap, ◌∙◌, ⊎_elim, arith, eq-zero-or-pos}
-use Rattle.std.proofs.Common.{le-div_iff_mul-le, mul-pos}
-use Rattle.std.proofs.lemmas.Bool.{and_parts}
-use Rattle.std.proofs.lemmas.Nat.Gcd.{le_of_dvd}
+use Rattle.sm_num.proofs.Imports.{◌≡◌, ℕ, ◌/◌, ◌*◌, ◌<◌, ◌≤◌, ℤ, pos, negsuc, neg_ℤ, nat_abs, ◌+ℤ◌, ◌*ℤ◌, ◌<ℤ◌, Bool, true, false, not, ◌&&◌, ◌||◌, if◌then◌else◌, IsTrue, List, refl, sym, ap, ◌∙◌, ⊎_elim, arith, eq-zero-or-pos, le-div_iff_mul-le, mul-pos, and_parts, le_of_dvd, int_eq, Linear, sum_of_parts, coefficient, without, Kind, Le, Eq, Outcome, Fits, Leaves, formed, merged, combined_number, combined, gcd, is_equation, signs_alike, can_cancel, multipliers, kind_of_sum, floor_of, divisor_of_parts, divided_parts, divided, eliminated, same_atom}
 use native.Mathlib.Nat.{pos_of_dvd_of_pos}
-use Rattle.std.specs.Ordering.{int_eq}
 use Prim.Native.Nat.{◌∣◌}
-use Rattle.sm_num.specs.Forms.{Linear, sum_of_parts, coefficient, without, Kind, Le, Eq}
-use Rattle.sm_num.specs.Combining.{Outcome, Fits, Leaves, formed, merged, combined_number, combined}
-use Rattle.sm_num.specs.Eliminating.{gcd, is_equation, signs_alike, can_cancel, multipliers, kind_of_sum, floor_of, divisor_of_parts, divided_parts, divided, eliminated}
-use Rattle.sm_num.specs.FormLaws.{same_atom}
 use Rattle.sm_num.proofs.RingLemmas.{sums, one_mul, mul_assoc}
 use Rattle.sm_num.proofs.OutcomeLemmas.{Gives, then_gives, formed_gives, IsSum, combined_number_gives}
 use Rattle.sm_num.proofs.SameAtomLemmas.{zero_test}

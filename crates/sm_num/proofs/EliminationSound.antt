@@ -1,12 +1,6 @@
 -- Where two forms hold and an atom cancels, the sum in which it cancels holds.
-use Rattle.std.proofs.Common.{◌≡◌, ◌↔◌, ℕ, suc, ◌/◌, ◌<◌, ℤ, pos, negsuc, neg_ℤ, nat_abs, ◌+ℤ◌, ◌*ℤ◌, ◌≤ℤ◌, Bool, true, false, not, ◌&&◌, ◌||◌, if◌then◌else◌, IsTrue, List, refl, sym, ap, subst, ◌∙◌, ⊎_elim, arith, eq-zero-or-pos}
-use Rattle.std.proofs.lemmas.Bool.{and_parts}
-use Rattle.std.specs.Ordering.{int_eq}
+use Rattle.sm_num.proofs.Imports.{◌≡◌, ◌↔◌, ℕ, suc, ◌/◌, ◌<◌, ℤ, pos, negsuc, neg_ℤ, nat_abs, ◌+ℤ◌, ◌*ℤ◌, ◌≤ℤ◌, Bool, true, false, not, ◌&&◌, ◌||◌, if◌then◌else◌, IsTrue, List, refl, sym, ap, subst, ◌∙◌, ⊎_elim, arith, eq-zero-or-pos, and_parts, int_eq, Linear, Satisfies, HoldsAt, sum_of_parts, coefficient, parts_without, without, Kind, Le, Eq, Outcome, Fits, Leaves, formed, combined, combination, gcd, is_equation, signs_alike, can_cancel, multipliers, kind_of_sum, floor_of, divisor_of_parts, divided_parts, divided, eliminated, elimination, same_atom, value_of_form}
 use Prim.Native.Nat.{◌∣◌}
-use Rattle.sm_num.specs.Forms.{Linear, Satisfies, HoldsAt, sum_of_parts, coefficient, parts_without, without, Kind, Le, Eq}
-use Rattle.sm_num.specs.Combining.{Outcome, Fits, Leaves, formed, combined, combination}
-use Rattle.sm_num.specs.Eliminating.{gcd, is_equation, signs_alike, can_cancel, multipliers, kind_of_sum, floor_of, divisor_of_parts, divided_parts, divided, eliminated, elimination}
-use Rattle.sm_num.specs.FormLaws.{same_atom, value_of_form}
 use Rattle.sm_num.proofs.RingLemmas.{sums, ring, mul-neg_left, mul-add_right, mul_zero, zero_mul}
 use Rattle.sm_num.proofs.OutcomeLemmas.{Gives, gives_fits, gives_both, then_gives}
 use Rattle.sm_num.proofs.SameAtomLemmas.{IsSound, AreReduced, reduced_filter, same_atom_sound}

@@ -1,11 +1,6 @@
 -- Forms computed by hand and by the definitions.
-use Rattle.std.proofs.Common.{◌≡◌, ◌^◌, ◌-◌, ℕ, ℤ, pos, negsuc, true, false, List, [], ◌∷◌, refl}
-use Rattle.sm_num.specs.Range.{fits, fits_form}
-use Rattle.sm_num.specs.Forms.{Linear, Kind, Le, Eq}
-use Rattle.sm_num.specs.Combining.{Fits, Leaves, combined, combined_number, Add, Mul}
-use Rattle.sm_num.specs.Eliminating.{gcd, eliminated, elimination, floor_of, ceiling_of, can_cancel}
-use Rattle.sm_num.specs.Tightening.{tightened, is_contradictory}
-use Rattle.sm_num.specs.FormLaws.{same_atom}
+use Rattle.sm_num.proofs.Imports.{◌≡◌, ◌^◌, ◌-◌, ℕ, ℤ, pos, negsuc, true, false, List, [], ◌∷◌, refl, fits, fits_form, Linear, Kind, Le, Eq, Fits, Leaves, combined, combined_number, Add, Mul, eliminated, elimination, floor_of, ceiling_of, can_cancel, tightened, is_contradictory, same_atom}
+use Rattle.sm_num.specs.Eliminating.{gcd}
 
 -- a form
 abbrev form : List (ℕ × ℤ) → ℤ → Kind → Linear ℕ

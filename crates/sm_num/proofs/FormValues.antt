@@ -1,11 +1,5 @@
 -- The values of sums of forms.
-use Rattle.std.proofs.Common.{◌≡◌, ℕ, ◌==◌, nat_lt, ℤ, pos, ◌+ℤ◌, ◌*ℤ◌, Bool, true, false, not, if◌then◌else◌, List, [], ◌∷◌, filter, refl, sym, ap, subst, ◌∙◌, ⊎_elim, arith}
-use Rattle.std.proofs.lemmas.Bool.{cases_Bool, eqb-true}
-use Rattle.std.specs.Ordering.{int_eq}
-use Rattle.std.proofs.lemmas.Bool.Decides.{Decides-int_eq}
-use Rattle.sm_num.specs.Forms.{Linear, sum_of_parts, coefficient, parts_without, Kind}
-use Rattle.sm_num.specs.Combining.{Fits, computed, combined_number, with_part, led_by, scaled, merged, merged_part, combined, met_part, joined_parts, combination, Mul}
-use Rattle.sm_num.specs.FormLaws.{value_of_form}
+use Rattle.sm_num.proofs.Imports.{◌≡◌, ℕ, ◌==◌, nat_lt, ℤ, pos, ◌+ℤ◌, ◌*ℤ◌, Bool, true, false, not, if◌then◌else◌, List, [], ◌∷◌, filter, refl, sym, ap, subst, ◌∙◌, ⊎_elim, arith, cases_Bool, eqb-true, int_eq, Decides-int_eq, Linear, sum_of_parts, coefficient, parts_without, Kind, Fits, computed, combined_number, with_part, led_by, scaled, merged, merged_part, combined, met_part, joined_parts, combination, Mul, value_of_form}
 use Rattle.sm_num.proofs.RingLemmas.{zero_mul, sums, ring}
 use Rattle.sm_num.proofs.OutcomeLemmas.{Gives, gives_fits, gives_more, IsSum, combined_number_gives, product_gives, other_product_gives, led_gives, met_part_gives, formed_gives, with_part_has}
 use Rattle.sm_num.proofs.SameAtomLemmas.{IsSound, IsApart, AreReduced, same_turned, apart_turned, coefficient_past, zero_apart, other_tested}

@@ -1,12 +1,5 @@
 -- Numbers and coefficients of kept forms, and their divisors.
-use Rattle.std.proofs.Common.{◌≡◌, ◌≢◌, ◌<◌, ◌≤◌, ◌^◌, ◌==◌, ℕ, zero, suc, ℤ, pos, negsuc, ◌+ℤ◌, nat_abs, Bool, true, false, if◌then◌else◌, IsTrue, List, [], ◌∷◌, length, get_or, drop, take, refl, sym, ap, subst, ◌∙◌, arith}
-use Rattle.std.proofs.lemmas.Bool.Decides.{Decides-eqb, Decides-ltb}
-use Rattle.std.proofs.lemmas.Int.{ints}
-use Rattle.std.proofs.Math.Seq.{drop-cons, take-nil}
-use Rattle.sm_num.specs.Range.{fits_form}
-use Rattle.sm_num.specs.Forms.{coefficient, AreParts}
-use Rattle.sm_num.specs.FormLaws.{same_atom}
-use Rattle.sm_num.specs.Eliminating.{gcd, divisor_of_parts, divided_parts}
+use Rattle.sm_num.proofs.Imports.{◌≡◌, ◌≢◌, ◌<◌, ◌≤◌, ◌^◌, ◌==◌, ℕ, zero, suc, ℤ, pos, negsuc, ◌+ℤ◌, nat_abs, Bool, true, false, if◌then◌else◌, IsTrue, List, [], ◌∷◌, length, get_or, drop, take, refl, sym, ap, subst, ◌∙◌, arith, Decides-eqb, Decides-ltb, ints, drop-cons, take-nil, fits_form, coefficient, AreParts, same_atom, gcd, divisor_of_parts, divided_parts}
 use Rattle.sm_num.proofs.DivisionLemmas.{DividesEach}
 use Rattle.sm_num.proofs.KeptLemmas.{parts_from, divided_are_parts}
 use Rattle.sm_num.proofs.Divisors.{gcd_below, gcd_is_some}

@@ -1,13 +1,5 @@
 -- What is computed of kept forms is kept, and which atoms stand in it.
-use Rattle.std.proofs.Common.{◌≡◌, ◌≤◌, ◌<◌, ℕ, suc, ◌%◌, ◌==◌, nat_lt, ℤ, pos, nat_abs, ◌*ℤ◌, Bool, true, false, not, if◌then◌else◌, IsTrue, List, [], ◌∷◌, filter, refl, subst, arith}
-use Rattle.std.proofs.lemmas.Bool.{ltb-true, ltb-false, eqb-true, eqb-false, ne_eqb}
-use Rattle.std.proofs.lemmas.Nat.Gcd.{dvd_refl}
-use Rattle.sm_num.specs.Range.{fits_form}
-use Rattle.sm_num.specs.Forms.{Linear, coefficient, without, AreParts, IsKept, Kind, Le, Eq}
-use Rattle.sm_num.specs.Combining.{Fits, computed, combined_number, with_part, led_by, scaled, merged, merged_part, combined, Mul}
-use Rattle.sm_num.specs.Eliminating.{gcd, multipliers, kind_of_sum, floor_of, divisor_of_parts, divided_parts, divided, eliminated}
-use Rattle.sm_num.specs.Tightening.{has_no_part, one_is_zero, tightened_by, tightened}
-use Rattle.sm_num.specs.FormLaws.{same_atom}
+use Rattle.sm_num.proofs.Imports.{◌≡◌, ◌≤◌, ◌<◌, ℕ, suc, ◌%◌, ◌==◌, nat_lt, ℤ, pos, nat_abs, ◌*ℤ◌, Bool, true, false, not, if◌then◌else◌, IsTrue, List, [], ◌∷◌, filter, refl, subst, arith, ltb-true, ltb-false, eqb-true, eqb-false, ne_eqb, dvd_refl, fits_form, Linear, coefficient, without, AreParts, IsKept, Kind, Le, Eq, Fits, computed, combined_number, with_part, led_by, scaled, merged, merged_part, combined, Mul, gcd, multipliers, kind_of_sum, floor_of, divisor_of_parts, divided_parts, divided, eliminated, has_no_part, one_is_zero, tightened_by, tightened, same_atom}
 use Rattle.sm_num.proofs.OutcomeLemmas.{Gives, gives_fits, then_gives, IsSum, computed_gives, combined_number_gives, product_gives, led_gives, formed_gives, with_part_has}
 use Rattle.sm_num.proofs.SameAtomLemmas.{IsApart, AreReduced, same_atom_sound, each_filter, without_apart, apart_zero, zero_apart}
 use Rattle.sm_num.proofs.DivisionLemmas.{gcd_is, DividesEach, divisor_divides}

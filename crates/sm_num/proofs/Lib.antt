@@ -1,3 +1,4 @@
+mod Imports
 pub mod RingLemmas
 pub mod FormExamples
 pub mod OutcomeLemmas

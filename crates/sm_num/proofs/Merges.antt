@@ -1,9 +1,6 @@
 -- The sum of two lists of parts where one of them has ended.
-use Rattle.std.proofs.Common.{◌≡◌, ◌-◌, ◌⊎◌, inl, inr, ℕ, ℤ, List, [], ◌∷◌, ◌++◌, length, drop, take, refl, sym, ap, subst, ◌∙◌, arith}
+use Rattle.sm_num.proofs.Imports.{◌≡◌, ◌-◌, ◌⊎◌, inl, inr, ℕ, ℤ, List, [], ◌∷◌, ◌++◌, length, drop, take, refl, sym, ap, subst, ◌∙◌, arith, Outcome, Fits, Leaves, then_with, computed, led_by, scaled, merged, Mul, Explains, NumError, Beyond, Memory, behind}
 use Rattle.std.proofs.lemmas.List.{append_assoc, append-nil, length-drop}
-use Rattle.sm_num.specs.Combining.{Outcome, Fits, Leaves, then_with, computed, led_by, scaled, merged, Mul}
-use Rattle.sm_num.specs.Errors.{Explains, NumError, Beyond, Memory}
-use Rattle.sm_num.specs.Merging.{behind}
 use Rattle.sm_num.proofs.KeptForms.{take_all}
 
 -- after nothing

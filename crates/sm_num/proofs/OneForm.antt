@@ -1,16 +1,7 @@
 -- A list of parts counted once, coefficients past those of a form, and what tests of signs and kinds say.
-use Rattle.std.proofs.Common.{◌≡◌, ◌<◌, ℕ, suc, ℤ, pos, List, ◌∷◌, length, get_or, drop, ap, subst, ◌∙◌, arith, if◌then◌else◌, IsTrue, negsuc, ◌<ℤ◌, true, refl, false, [], ⊎_elim}
-use Rattle.std.proofs.Math.Seq.{drop-cons}
-use Rattle.sm_num.specs.Forms.{coefficient, AreParts, Kind, Le, Eq}
-use Rattle.sm_num.specs.FormLaws.{same_atom}
+use Rattle.sm_num.proofs.Imports.{◌≡◌, ◌<◌, ℕ, suc, ℤ, pos, List, ◌∷◌, length, get_or, drop, ap, subst, ◌∙◌, arith, if◌then◌else◌, IsTrue, negsuc, ◌<ℤ◌, true, refl, false, [], ⊎_elim, drop-cons, coefficient, AreParts, Kind, Le, Eq, same_atom, fits_form, Fits, Leaves, computed, Outcome, led_by, merged, is_negative, is_equation, int_eq, cases_Bool, Decides-int_eq}
 use Rattle.sm_num.proofs.KeptForms.{coefficient_below, dropped}
-use Rattle.sm_num.specs.Range.{fits_form}
-use Rattle.sm_num.specs.Combining.{Fits, Leaves, computed, Outcome, led_by, merged}
 use Rattle.sm_num.proofs.RingLemmas.{one_mul, sums}
-use Rattle.sm_num.specs.Eliminating.{is_negative, is_equation}
-use Rattle.std.specs.Ordering.{int_eq}
-use Rattle.std.proofs.lemmas.Bool.{cases_Bool}
-use Rattle.std.proofs.lemmas.Bool.Decides.{Decides-int_eq}
 use Rattle.sm_num.specs.declared.op.Op.TheVariants as op
 
 -- where the part at a place has a later atom, none from there on has the atom

@@ -1,11 +1,5 @@
 -- By ascending atoms and over any atoms, and of forms that are alike, sums come out alike.
-use Rattle.std.proofs.Common.{◌≡◌, ◌≤◌, ℕ, suc, ◌==◌, nat_lt, ℤ, pos, Bool, true, false, not, if◌then◌else◌, List, [], ◌∷◌, filter, refl, sym, ap, subst, ◌∙◌, arith}
-use Rattle.std.proofs.lemmas.Bool.{ltb-true, ltb-false, eqb-true, eqb-false}
-use Rattle.std.specs.Ordering.{int_eq}
-use Rattle.sm_num.specs.Forms.{Linear, coefficient, parts_without, without, AreParts, IsKept, Kind}
-use Rattle.sm_num.specs.Combining.{Outcome, computed, combined_number, led_by, merged, merged_part, formed, joined_parts, combined, combination, Mul}
-use Rattle.sm_num.specs.Eliminating.{multipliers, kind_of_sum, then_divided, eliminated, elimination}
-use Rattle.sm_num.specs.FormLaws.{same_atom, AreAlike, ComeOutAlike}
+use Rattle.sm_num.proofs.Imports.{◌≡◌, ◌≤◌, ℕ, suc, ◌==◌, nat_lt, ℤ, pos, Bool, true, false, not, if◌then◌else◌, List, [], ◌∷◌, filter, refl, sym, ap, subst, ◌∙◌, arith, ltb-true, ltb-false, eqb-true, eqb-false, int_eq, Linear, coefficient, parts_without, without, AreParts, IsKept, Kind, Outcome, computed, combined_number, led_by, merged, merged_part, formed, joined_parts, combined, combination, Mul, multipliers, kind_of_sum, then_divided, eliminated, elimination, same_atom, AreAlike, ComeOutAlike}
 use Rattle.sm_num.proofs.OutcomeLemmas.{Gives, gives_more}
 use Rattle.sm_num.proofs.SameAtomLemmas.{IsSound, IsReflexive, AreReduced, same_atom_sound, same_atom_reflexive, coefficient_past, coefficient_filter}
 use Rattle.sm_num.proofs.ResultsReduced.{IsReduced, without_reduced, combination_reduced}

@@ -1,10 +1,5 @@
 -- What is true of a result, if there is one, through each step that computes forms.
-use Rattle.std.proofs.Common.{◌≡◌, ℤ, pos, ◌+ℤ◌, ◌*ℤ◌, Bool, true, false, if◌then◌else◌, IsTrue, List, [], ◌∷◌, refl, sym, ap, subst, ◌∙◌, arith}
-use Rattle.std.specs.Ordering.{int_eq}
-use Rattle.std.proofs.lemmas.Bool.Decides.{Decides-int_eq}
-use Rattle.sm_num.specs.Range.{exact, fits_form}
-use Rattle.sm_num.specs.Forms.{Linear, coefficient, Kind}
-use Rattle.sm_num.specs.Combining.{Outcome, Fits, Leaves, then_with, computed, combined_number, with_part, led_by, formed, met_part, Op, Add, Mul}
+use Rattle.sm_num.proofs.Imports.{◌≡◌, ℤ, pos, ◌+ℤ◌, ◌*ℤ◌, Bool, true, false, if◌then◌else◌, IsTrue, List, [], ◌∷◌, refl, sym, ap, subst, ◌∙◌, arith, int_eq, Decides-int_eq, exact, fits_form, Linear, coefficient, Kind, Outcome, Fits, Leaves, then_with, computed, combined_number, with_part, led_by, formed, met_part, Op, Add, Mul}
 use Rattle.sm_num.proofs.RingLemmas.{mul_zero, sums}
 
 -- a fact holds of the result, where there is one

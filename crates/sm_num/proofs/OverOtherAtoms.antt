@@ -1,12 +1,6 @@
 -- Sums of kept forms, put over other atoms, come out alike with sums of forms over these that the
 -- forms are alike with.
-use Rattle.std.proofs.Common.{◌≡◌, ◌⊎◌, ℕ, ℤ, pos, ◌&&◌, Bool, true, false, List, [], ◌∷◌, refl, sym, ap, subst, ◌∙◌, inl, inr, ⊎_elim}
-use Rattle.std.proofs.lemmas.Bool.{cases_Bool}
-use Rattle.sm_num.specs.Forms.{Linear, coefficient, renamed_form, IsKept, Kind}
-use Rattle.sm_num.specs.Combining.{Outcome, Fits, Leaves, combined, combination}
-use Rattle.sm_num.specs.Eliminating.{eliminated, elimination}
-use Rattle.sm_num.specs.Tightening.{has_no_part, fails, tightened, is_contradictory}
-use Rattle.sm_num.specs.FormLaws.{same_atom, AreAlike, ComeOutAlike, renamed_outcome}
+use Rattle.sm_num.proofs.Imports.{◌≡◌, ◌⊎◌, ℕ, ℤ, pos, ◌&&◌, Bool, true, false, List, [], ◌∷◌, refl, sym, ap, subst, ◌∙◌, inl, inr, ⊎_elim, cases_Bool, Linear, coefficient, renamed_form, IsKept, Kind, Outcome, Fits, Leaves, combined, combination, eliminated, elimination, has_no_part, fails, tightened, is_contradictory, same_atom, AreAlike, ComeOutAlike, renamed_outcome}
 use Rattle.sm_num.proofs.OutcomeLemmas.{Gives, gives_fits}
 use Rattle.sm_num.proofs.SameAtomLemmas.{IsSound, IsReflexive, IsApart, AreReduced, coefficient_past}
 use Rattle.sm_num.proofs.ResultsReduced.{AreAmong, IsReduced, combination_among, elimination_among, combination_reduced, elimination_reduced, tightened_reduced, tightened_among}

@@ -1,14 +1,8 @@
 -- Sums of forms over other atoms: computed there, or here and then put over the other atoms, they
 -- are one.
-use Rattle.std.proofs.Common.{◌≡◌, ℕ, ◌%◌, ◌==◌, ℤ, pos, nat_abs, Bool, true, false, not, if◌then◌else◌, List, [], ◌∷◌, map, filter, refl, ap, ◌∙◌}
-use Rattle.std.specs.Ordering.{int_eq}
-use Rattle.sm_num.specs.Forms.{Linear, coefficient, without, renamed_form, Kind, Le, Eq}
-use Rattle.sm_num.specs.Combining.{Outcome, Fits, Leaves, then_with, computed, combined_number, with_part, led_by, scaled, formed, met_part, joined_parts, combination, Mul}
-use Rattle.sm_num.specs.Eliminating.{gcd, multipliers, kind_of_sum, floor_of, divisor_of_parts, divided_parts, divided, then_divided, elimination}
-use Rattle.sm_num.specs.FormLaws.{IsRenaming, renamed_outcome}
+use Rattle.sm_num.proofs.Imports.{◌≡◌, ℕ, ◌%◌, ◌==◌, ℤ, pos, nat_abs, Bool, true, false, not, if◌then◌else◌, List, [], ◌∷◌, map, filter, refl, ap, ◌∙◌, int_eq, Linear, coefficient, without, renamed_form, Kind, Le, Eq, Outcome, Fits, Leaves, then_with, computed, combined_number, with_part, led_by, scaled, formed, met_part, joined_parts, combination, Mul, gcd, multipliers, kind_of_sum, floor_of, divisor_of_parts, divided_parts, divided, then_divided, elimination, IsRenaming, renamed_outcome, has_no_part, one_is_zero, tightened_by, tightened}
 use Rattle.sm_num.proofs.SameAtomLemmas.{each_filter}
 use Rattle.sm_num.proofs.ResultsReduced.{AreAmong}
-use Rattle.sm_num.specs.Tightening.{has_no_part, one_is_zero, tightened_by, tightened}
 
 module _ {A B : Type 0} (rename : A → B) where
   -- parts over other atoms

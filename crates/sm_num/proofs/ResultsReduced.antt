@@ -1,16 +1,7 @@
 -- What is computed of forms has each atom once, no coefficient that is 0, numbers in the range, and
 -- atoms of the forms that it is computed of.
-use Rattle.std.proofs.Common.{◌≡◌, ℕ, ◌<◌, ◌%◌, ◌==◌, ℤ, pos, negsuc, nat_abs, ◌*ℤ◌, Bool, true, false, not, if◌then◌else◌, IsTrue, ◌^◌, ◌/◌, suc, zero, neg_ℤ, List, [], ◌∷◌, filter, refl, sym, ap, subst, ◌∙◌, ⊎_elim, arith, eq-zero-or-pos}
-use Rattle.std.proofs.Common.{div-le_self}
-use Rattle.std.proofs.lemmas.Bool.{ltb-true, lt-ltb}
-use Rattle.std.specs.Ordering.{int_eq}
+use Rattle.sm_num.proofs.Imports.{◌≡◌, ℕ, ◌<◌, ◌%◌, ◌==◌, ℤ, pos, negsuc, nat_abs, ◌*ℤ◌, Bool, true, false, not, if◌then◌else◌, IsTrue, ◌^◌, ◌/◌, suc, zero, neg_ℤ, List, [], ◌∷◌, filter, refl, sym, ap, subst, ◌∙◌, ⊎_elim, arith, eq-zero-or-pos, div-le_self, ltb-true, lt-ltb, int_eq, dvd_refl, fits_form, Linear, coefficient, parts_without, without, Kind, Le, Eq, Fits, computed, combined_number, scaled, met_part, joined_parts, combination, Mul, gcd, multipliers, kind_of_sum, floor_of, ceiling_of, divisor_of_parts, divided_parts, divided, elimination, has_no_part, one_is_zero, tightened_by, tightened}
 use Prim.Native.Nat.{◌∣◌}
-use Rattle.std.proofs.lemmas.Nat.Gcd.{dvd_refl}
-use Rattle.sm_num.specs.Range.{fits_form}
-use Rattle.sm_num.specs.Forms.{Linear, coefficient, parts_without, without, Kind, Le, Eq}
-use Rattle.sm_num.specs.Combining.{Fits, computed, combined_number, scaled, met_part, joined_parts, combination, Mul}
-use Rattle.sm_num.specs.Eliminating.{gcd, multipliers, kind_of_sum, floor_of, ceiling_of, divisor_of_parts, divided_parts, divided, elimination}
-use Rattle.sm_num.specs.Tightening.{has_no_part, one_is_zero, tightened_by, tightened}
 use Rattle.sm_num.proofs.RingLemmas.{mul_zero}
 use Rattle.sm_num.proofs.OutcomeLemmas.{Gives, gives_both, then_gives, Each, IsSum, computed_gives, combined_number_gives, led_gives, met_part_gives, formed_gives, with_part_has}
 use Rattle.sm_num.proofs.SameAtomLemmas.{IsSound, IsApart, AreReduced, each_filter, reduced_filter, zero_apart, coefficient_filter, other_test, IsReflexive, coefficient_one, coefficient_past, apart_turned}

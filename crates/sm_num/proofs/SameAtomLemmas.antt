@@ -1,10 +1,5 @@
 -- Tests of atoms: what one that tells apart gives, and coefficients by it.
-use Rattle.std.proofs.Common.{◌≡◌, ℤ, pos, ◌+ℤ◌, Bool, true, false, not, if◌then◌else◌, IsTrue, List, [], ◌∷◌, filter, refl, sym, ap, subst, ◌∙◌, ⊎_elim, arith}
-use Rattle.std.proofs.lemmas.Bool.{cases_Bool, eqb-true, eq-eqb}
-use Rattle.std.specs.Ordering.{int_eq}
-use Rattle.std.proofs.lemmas.Bool.Decides.{Decides-int_eq}
-use Rattle.sm_num.specs.Forms.{coefficient, parts_without}
-use Rattle.sm_num.specs.FormLaws.{same_atom}
+use Rattle.sm_num.proofs.Imports.{◌≡◌, ℤ, pos, ◌+ℤ◌, Bool, true, false, not, if◌then◌else◌, IsTrue, List, [], ◌∷◌, filter, refl, sym, ap, subst, ◌∙◌, ⊎_elim, arith, cases_Bool, eqb-true, eq-eqb, int_eq, Decides-int_eq, coefficient, parts_without, same_atom}
 use Rattle.sm_num.proofs.RingLemmas.{sums}
 use Rattle.sm_num.proofs.OutcomeLemmas.{Each}
 

@@ -1,16 +1,8 @@
 -- A form and its tight form say the same of whole numbers, and a contradiction says nothing true.
-use Rattle.std.proofs.Common.{◌≡◌, ◌↔◌, ℕ, zero, suc, ◌%◌, ◌*◌, ◌<◌, ◌==◌, ℤ, pos, negsuc, neg_ℤ, nat_abs, ◌+ℤ◌, ◌*ℤ◌, ◌≤ℤ◌, Bool, true, false, not, if◌then◌else◌, IsTrue, List, [], ◌∷◌, refl, sym, ap, subst, ◌∙◌, ⊎_elim, arith}
-use Rattle.std.proofs.Common.{eq-zero-or-pos}
-use Rattle.std.proofs.lemmas.Bool.{eqb-true, eq-eqb, and_parts, ltb-true}
-use Rattle.std.specs.Ordering.{int_eq}
-use Rattle.std.proofs.lemmas.Bool.Decides.{Decides-int_eq}
-use Rattle.std.proofs.lemmas.Int.{unsigned_abs-mul}
+use Rattle.sm_num.proofs.Imports.{◌≡◌, ◌↔◌, ℕ, zero, suc, ◌%◌, ◌*◌, ◌<◌, ◌==◌, ℤ, pos, negsuc, neg_ℤ, nat_abs, ◌+ℤ◌, ◌*ℤ◌, ◌≤ℤ◌, Bool, true, false, not, if◌then◌else◌, IsTrue, List, [], ◌∷◌, refl, sym, ap, subst, ◌∙◌, ⊎_elim, arith, eq-zero-or-pos, eqb-true, eq-eqb, and_parts, ltb-true, int_eq, Decides-int_eq, unsigned_abs-mul, Linear, Satisfies, HoldsAt, sum_of_parts, Kind, Le, Eq, floor_of, ceiling_of, divisor_of_parts, divided_parts, has_no_part, one_is_zero, tightened_by, tightened, fails, is_contradictory}
 use Prim.Native.Nat.{◌∣◌}
 use native.Mathlib.Nat.{dvd_of_mod-eq-zero, mod-eq-zero_of_dvd, dvd-mul_right, dvd_refl}
 use lib.IntN.{neg_ℤ-neg_ℤ}
-use Rattle.sm_num.specs.Forms.{Linear, Satisfies, HoldsAt, sum_of_parts, Kind, Le, Eq}
-use Rattle.sm_num.specs.Eliminating.{floor_of, ceiling_of, divisor_of_parts, divided_parts}
-use Rattle.sm_num.specs.Tightening.{has_no_part, one_is_zero, tightened_by, tightened, fails, is_contradictory}
 use Rattle.sm_num.proofs.RingLemmas.{sums}
 use Rattle.sm_num.proofs.SameAtomLemmas.{not_both}
 use Rattle.sm_num.proofs.DivisionLemmas.{floor_galois, floor_by_zero, DividesEach, divisor_divides, divided_sum, undivided, sum_divides}

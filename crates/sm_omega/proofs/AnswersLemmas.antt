@@ -1,10 +1,6 @@
 -- What answers say as they go from rule to rule: of what values there are none, and what those that
 -- are given meet.
-use Rattle.std.proofs.Common.{◌≡◌, ℕ, ℤ, Some, None, refl}
-use Rattle.sm_num.specs.Combining.{Outcome, Fits, Leaves}
-use Rattle.sm_omega.specs.Counting.{Done, Passed, Outside, Shallow, with_result}
-use Rattle.sm_omega.specs.Solving.{Values, put}
-use Rattle.sm_omega.specs.Rules.{Answer, giving}
+use Rattle.sm_omega.proofs.Imports.{◌≡◌, ℕ, ℤ, Some, None, refl, Outcome, Fits, Leaves, Done, Passed, Outside, Shallow, with_result, Values, put, Answer, giving}
 use Rattle.sm_omega.proofs.Predicates.{Decides}
 
 -- where there is no solution, nothing can meet the one fact; a solution meets the other

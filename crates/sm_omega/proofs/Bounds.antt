@@ -1,23 +1,10 @@
 -- The bounds that forms give for a variable: with the greatest of the lower bounds, or the least of the
 -- upper bounds, as its value those forms hold.
-use Rattle.std.proofs.Common.{◌≡◌, ℕ, ℤ, pos, ◌+ℤ◌, ◌*ℤ◌, ◌≤ℤ◌, Bool, true, false, ◌&&◌, not, if◌then◌else◌, Option, Some, None, List, [], ◌∷◌, map, refl, sym, ap, subst, ◌∙◌}
-use Rattle.sm_num.specs.Forms.{Linear, Satisfies, HoldsAt, without}
-use Rattle.sm_num.specs.declared.kind.Kind.{Kind}
-use Rattle.sm_num.specs.declared.kind.Kind.TheVariants.{Le, Eq}
-use Rattle.sm_num.specs.FormLaws.{same_atom, value_of_form}
-use Rattle.sm_num.specs.Combining.{Fits}
-use Rattle.sm_num.specs.Eliminating.{is_equation}
-use Rattle.sm_num.specs.Tightening.{has_no_part}
-use Rattle.sm_num.proofs.OutcomeLemmas.{Gives, gives_fits, then_gives}
-use Rattle.sm_omega.specs.Solving.{Values, at, has, bounds_below, bounds_above, lower_bounds, upper_bounds, others, put, rest_of, bound_from, bounds_of, greatest, least}
-use Rattle.sm_omega.specs.Equalities.{first_equation, beside}
-use Rattle.sm_omega.specs.Inequalities.{greatest_bound, least_bound}
-use Rattle.sm_omega.specs.ExactLaws.{AllHold}
+use Rattle.sm_omega.proofs.Imports.{◌≡◌, ℕ, ℤ, pos, ◌+ℤ◌, ◌*ℤ◌, ◌≤ℤ◌, Bool, true, false, ◌&&◌, not, if◌then◌else◌, Option, Some, None, List, [], ◌∷◌, map, refl, sym, ap, subst, ◌∙◌, Linear, Satisfies, HoldsAt, without, Kind, Le, Eq, same_atom, value_of_form, Fits, is_equation, has_no_part, Gives, gives_fits, then_gives, Values, at, has, bounds_below, bounds_above, lower_bounds, upper_bounds, others, put, rest_of, bound_from, bounds_of, greatest, least, first_equation, beside, greatest_bound, least_bound, AllHold, not_true}
 use Rattle.sm_omega.proofs.Predicates.{EachOf, AreListed}
 use Rattle.sm_omega.proofs.OmegaNumbers.{lower_met, upper_met, other_above, greatest_above, least_below}
 use Rattle.sm_omega.proofs.ValueLemmas.{rest_gives, value_put, holds_put}
 use Rattle.sm_omega.proofs.EachLemmas.{each_two, each_three, each_filter, filter_passes, each_unmap, all_each, each_all}
-use Rattle.sm_lemmas.proofs.Tests.{not_true}
 
 -- no form is an equation
 abbrev pub NoEquations : List (Linear ℕ) → Type 0

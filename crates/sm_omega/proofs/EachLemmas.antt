@@ -1,8 +1,5 @@
 -- Facts of each element of a list.
-use Rattle.std.proofs.Common.{◌≡◌, ℕ, Bool, true, false, if◌then◌else◌, List, [], ◌∷◌, ◌++◌, map, filter, refl}
-use Rattle.sm_num.specs.Forms.{Linear, HoldsAt}
-use Rattle.sm_omega.specs.Solving.{Values}
-use Rattle.sm_omega.specs.ExactLaws.{AllHold}
+use Rattle.sm_omega.proofs.Imports.{◌≡◌, ℕ, Bool, true, false, if◌then◌else◌, List, [], ◌∷◌, ◌++◌, map, filter, refl, Linear, HoldsAt, Values, AllHold}
 use Rattle.sm_omega.proofs.Predicates.{EachOf}
 
 module _ {A : Type 0} where

@@ -1,11 +1,6 @@
 -- Decisions computed by hand and by the definition.
-use Rattle.std.proofs.Common.{◌≡◌, ℕ, ℤ, pos, negsuc, Option, Some, None, List, [], ◌∷◌, refl}
-use Rattle.sm_num.specs.Forms.{Linear}
-use Rattle.sm_num.specs.declared.kind.Kind.{Kind}
-use Rattle.sm_num.specs.declared.kind.Kind.TheVariants.{Le, Eq}
+use Rattle.sm_omega.proofs.Imports.{◌≡◌, ℕ, ℤ, pos, negsuc, Option, Some, None, List, [], ◌∷◌, refl, Linear, Kind, Le, Eq, Decision, Done, Passed, Outside, Shallow, Values}
 use Rattle.sm_num.specs.Eliminating.{gcd}
-use Rattle.sm_omega.specs.Counting.{Decision, Done, Passed, Outside, Shallow}
-use Rattle.sm_omega.specs.Solving.{Values}
 use Rattle.sm_omega.specs.Exact.{exact}
 
 -- a form

@@ -1,14 +1,6 @@
 -- The answers of the exact decision are right: each rule's, where those of what it goes on with are.
-use Rattle.std.proofs.Common.{◌≡◌, ◌<◌, ◌==◌, ℕ, zero, suc, ℤ, pos, nat_abs, Bool, true, false, if◌then◌else◌, Option, Some, None, List, [], ◌∷◌, ◌++◌, map, refl, sym, ap, subst, ◌∙◌}
-use Rattle.std.proofs.lemmas.Bool.{eqb-true}
-use Rattle.sm_num.specs.Forms.{Linear}
-use Rattle.sm_omega.specs.Counting.{Done, Passed, Outside, Shallow, Item, Enter, Count, Entered, entered, go_on}
-use Rattle.sm_omega.specs.Solving.{Values, at, has, lower_bounds, upper_bounds, others, least_variable}
-use Rattle.sm_omega.specs.Rules.{Answer, Solver, solved, or_refuted, giving}
-use Rattle.sm_omega.specs.Equalities.{first_equation, least_part, eliminated_item, modular, modular_item, by_equation, value_by}
-use Rattle.sm_omega.specs.Inequalities.{standing, splinter, greatest_bound, least_bound, by_bounds, by_variable, shadows}
-use Rattle.sm_omega.specs.Exact.{by_rule, by_first, by_least, solved_within, enough, above_all, exact}
-use Rattle.sm_omega.specs.ExactLaws.{AllHold, IsRightFor, ExactIsRight}
+use Rattle.sm_omega.proofs.Imports.{◌≡◌, ◌<◌, ◌==◌, ℕ, zero, suc, ℤ, pos, nat_abs, Bool, true, false, if◌then◌else◌, Option, Some, None, List, [], ◌∷◌, ◌++◌, map, refl, sym, ap, subst, ◌∙◌, eqb-true, Linear, Done, Passed, Outside, Shallow, Item, Enter, Count, Entered, entered, go_on, Values, at, has, lower_bounds, upper_bounds, others, least_variable, Answer, Solver, solved, or_refuted, giving, first_equation, least_part, eliminated_item, modular, modular_item, by_equation, value_by, standing, splinter, greatest_bound, least_bound, by_bounds, by_variable, shadows, by_rule, by_first, by_least, solved_within, enough, above_all, AllHold, IsRightFor, ExactIsRight}
+use Rattle.sm_omega.specs.Exact.{exact}
 use Rattle.sm_omega.proofs.Predicates.{Fitting, EachOf, IsListed, AreListed, IsGoodItem, AreGoodItems, ItemsHold, Decides, Serves}
 use Rattle.sm_omega.proofs.AnswersLemmas.{Answers, answers_less, answers_decide, decides_answers, giving_answers}
 use Rattle.sm_omega.proofs.EachLemmas.{each_append, each_weaker}

@@ -1,19 +1,6 @@
 -- What a list says that entered: all that was computed for it fits, and it says what the items said.
-use Rattle.std.proofs.Common.{◌≡◌, ◌↔◌, nat_lt, ℕ, suc, ℤ, pos, negsuc, ◌+ℤ◌, Bool, true, false, not, ◌&&◌, if◌then◌else◌, Some, None, List, [], ◌∷◌, refl, subst, arith}
-use Rattle.std.specs.Ordering.{int_eq}
-use Rattle.std.proofs.lemmas.Bool.{ltb-false}
-use Rattle.std.proofs.lemmas.Bool.Decides.{Decides-int_eq}
-use Rattle.sm_num.specs.Forms.{Linear, Satisfies, sum_of_parts, HoldsAt}
-use Rattle.sm_num.specs.declared.kind.Kind.{Kind}
-use Rattle.sm_num.specs.declared.kind.Kind.TheVariants.{Le, Eq}
-use Rattle.sm_num.specs.Combining.{Outcome, Fits, Leaves}
-use Rattle.sm_num.specs.Tightening.{has_no_part, tightened, fails, is_contradictory}
-use Rattle.sm_num.proofs.RingLemmas.{sums}
-use Rattle.sm_num.proofs.OutcomeLemmas.{Gives}
+use Rattle.sm_omega.proofs.Imports.{◌≡◌, ◌↔◌, nat_lt, ℕ, suc, ℤ, pos, negsuc, ◌+ℤ◌, Bool, true, false, not, ◌&&◌, if◌then◌else◌, Some, None, List, [], ◌∷◌, refl, subst, arith, int_eq, ltb-false, Decides-int_eq, Linear, Satisfies, sum_of_parts, HoldsAt, Kind, Le, Eq, Outcome, Fits, Leaves, has_no_part, tightened, fails, is_contradictory, sums, Gives, Done, Passed, Outside, Shallow, with_result, Item, Stay, Enter, Count, Entered, led, entering, entered, Values, AllHold}
 use Rattle.sm_num.proofs.TighteningSound.{tighten_means, contradictory_never}
-use Rattle.sm_omega.specs.Counting.{Done, Passed, Outside, Shallow, with_result, Item, Stay, Enter, Count, Entered, led, entering, entered}
-use Rattle.sm_omega.specs.Solving.{Values}
-use Rattle.sm_omega.specs.ExactLaws.{AllHold}
 use Rattle.sm_omega.proofs.Predicates.{EachOf, Fitting, ItemsHold}
 use Rattle.sm_omega.proofs.ListedLemmas.{ListHas}
 

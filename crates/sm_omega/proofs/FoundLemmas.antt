@@ -1,22 +1,6 @@
 -- What the rules take from a list: its first equation, the part of that with the least coefficient, and the least variable.
-use Rattle.std.proofs.Common.{◌≡◌, ◌≢◌, ◌<◌, ◌≤◌, nat_lt, ℕ, suc, ℤ, pos, nat_abs, Bool, true, false, not, ◌&&◌, ◌||◌, if◌then◌else◌, Option, Some, None, List, [], ◌∷◌, length, refl, sym, ap, subst, ◌∙◌, arith}
-use Rattle.std.specs.List.{list_any}
-use Rattle.std.proofs.lemmas.Bool.{and_parts, ne_eqb}
-use Rattle.sm_num.specs.Forms.{Linear, coefficient, AreParts}
-use Rattle.sm_num.specs.declared.kind.Kind.{Kind}
-use Rattle.sm_num.specs.declared.kind.Kind.TheVariants.{Le, Eq}
-use Rattle.sm_num.specs.Eliminating.{is_equation}
-use Rattle.sm_num.specs.Tightening.{has_no_part}
-use Rattle.sm_num.specs.FormLaws.{same_atom}
-use Rattle.sm_num.proofs.OutcomeLemmas.{Each}
-use Rattle.sm_num.proofs.SameAtomLemmas.{same_atom_sound, same_atom_reflexive, coefficient_one, coefficient_past, other_test}
-use Rattle.sm_num.proofs.ResultsReduced.{AreAmong}
-use Rattle.sm_num.proofs.KeptLemmas.{parts_apart}
-use Rattle.sm_omega.specs.Solving.{at, has, others, lesser, lesser_first, least_variable}
-use Rattle.sm_omega.specs.Equalities.{beside, first_equation, least_part_of, least_part}
+use Rattle.sm_omega.proofs.Imports.{◌≡◌, ◌≢◌, ◌<◌, ◌≤◌, nat_lt, ℕ, suc, ℤ, pos, nat_abs, Bool, true, false, not, ◌&&◌, ◌||◌, if◌then◌else◌, Option, Some, None, List, [], ◌∷◌, length, refl, sym, ap, subst, ◌∙◌, arith, list_any, and_parts, ne_eqb, Linear, coefficient, AreParts, Kind, Le, Eq, is_equation, has_no_part, same_atom, Each, same_atom_sound, same_atom_reflexive, coefficient_one, coefficient_past, other_test, AreAmong, parts_apart, at, has, others, lesser, lesser_first, least_variable, beside, first_equation, least_part_of, least_part, not_true, or_true, equation_is}
 use Rattle.sm_omega.proofs.Predicates.{EachOf, IsListed, AreListed}
-use Rattle.sm_lemmas.proofs.Tests.{not_true, or_true}
-use Rattle.sm_num.proofs.OneForm.{equation_is}
 
 -- equations
 

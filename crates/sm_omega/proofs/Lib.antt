@@ -1,3 +1,4 @@
+mod Imports
 pub mod ExactExamples
 pub mod Predicates
 pub mod EachLemmas

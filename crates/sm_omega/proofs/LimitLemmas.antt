@@ -1,11 +1,6 @@
 -- The depth is enough, a count is within its limit, and each limit that isn't below the count gives the answer.
-use Rattle.std.proofs.Common.{◌≡◌, ◌<◌, ◌≤◌, ℕ, zero, suc, Option, Some, None, List, map, refl, sym, subst, arith}
-use Rattle.sm_num.specs.Forms.{Linear}
-use Rattle.sm_omega.specs.Counting.{Done, Passed, Outside, Shallow, Enter, entered}
-use Rattle.sm_omega.specs.Solving.{Values}
-use Rattle.sm_omega.specs.Rules.{Answer, Solver, or_refuted}
-use Rattle.sm_omega.specs.Exact.{by_rule, solved_within, above_all, enough, exact}
-use Rattle.sm_omega.specs.ExactLaws.{AllKept}
+use Rattle.sm_omega.proofs.Imports.{◌≡◌, ◌<◌, ◌≤◌, ℕ, zero, suc, Option, Some, None, List, map, refl, sym, subst, arith, Linear, Done, Passed, Outside, Shallow, Enter, entered, Values, Answer, Solver, or_refuted, by_rule, solved_within, above_all, enough, AllKept}
+use Rattle.sm_omega.specs.Exact.{exact}
 use Rattle.sm_omega.proofs.Predicates.{AreListed}
 use Rattle.sm_omega.proofs.ListedLemmas.{entered_listed, given_good}
 use Rattle.sm_omega.proofs.Progress.{left, forms_given, entered_left}

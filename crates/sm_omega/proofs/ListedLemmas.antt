@@ -1,25 +1,6 @@
 -- What enters a list is good: forms as the program keeps them, with parts, over variables below a number.
-use Rattle.std.proofs.Common.{◌≡◌, ◌<◌, ◌≤◌, ◌==◌, nat_lt, ℕ, suc, ℤ, pos, negsuc, neg_ℤ, nat_abs, ◌-ℤ◌, Bool, true, false, not, if◌then◌else◌, IsTrue, Some, None, List, [], ◌∷◌, map, refl, subst, arith}
-use Rattle.std.proofs.lemmas.Bool.{eqb-true, ltb-true, ltb-false}
-use Rattle.sm_num.specs.Range.{exact, fits_form}
-use Rattle.sm_num.specs.Forms.{Linear, AreParts, IsKept}
-use Rattle.sm_num.specs.declared.kind.Kind.{Kind}
-use Rattle.sm_num.specs.declared.kind.Kind.TheVariants.{Le}
-use Rattle.sm_num.specs.Combining.{Outcome, Fits, Leaves, computed, with_part, combined}
-use Rattle.sm_num.specs.declared.op.Op.TheVariants.{Add, Mul}
-use Rattle.sm_num.specs.Eliminating.{is_negative, eliminated}
-use Rattle.sm_num.specs.Tightening.{has_no_part, tightened, is_contradictory}
-use Rattle.sm_num.proofs.OutcomeLemmas.{Gives, gives_both, gives_more, then_gives, computed_gives, with_part_has}
-use Rattle.sm_num.proofs.SameAtomLemmas.{each_more}
-use Rattle.sm_num.proofs.ResultsReduced.{AreAmong, floor_fits, neg_fits, tightened_among}
-use Rattle.sm_num.proofs.KeptLemmas.{parts_from, combined_kept, combined_among, eliminated_kept, eliminated_among, tightened_kept}
-use Rattle.sm_num.specs.FormLaws.{same_atom}
-use Rattle.sm_omega.specs.Counting.{Done, Passed, Outside, Shallow, with_result, Item, Stay, Enter, Count, Entered, led, entering, entered}
-use Rattle.sm_omega.specs.Solving.{at, has, others, lower_bounds, upper_bounds, bounds_below, bounds_above}
-use Rattle.sm_omega.specs.Equalities.{eliminated_item, quotient, modular_parts, modular, modular_item}
-use Rattle.sm_omega.specs.Inequalities.{shadow, shadows, standing, splinter}
-use Rattle.sm_omega.specs.Exact.{above_parts, above_all}
-use Rattle.sm_omega.specs.ExactLaws.{AllKept}
+use Rattle.sm_omega.proofs.Imports.{◌≡◌, ◌<◌, ◌≤◌, ◌==◌, nat_lt, ℕ, suc, ℤ, pos, negsuc, neg_ℤ, nat_abs, ◌-ℤ◌, Bool, true, false, not, if◌then◌else◌, IsTrue, Some, None, List, [], ◌∷◌, map, refl, subst, arith, eqb-true, ltb-true, ltb-false, fits_form, Linear, AreParts, IsKept, Kind, Le, Outcome, Fits, Leaves, computed, with_part, combined, Add, Mul, is_negative, eliminated, has_no_part, tightened, is_contradictory, Gives, gives_both, gives_more, then_gives, computed_gives, with_part_has, each_more, AreAmong, floor_fits, neg_fits, tightened_among, parts_from, combined_kept, combined_among, eliminated_kept, eliminated_among, tightened_kept, same_atom, Done, Passed, Outside, Shallow, with_result, Item, Stay, Enter, Count, Entered, led, entering, entered, at, has, others, lower_bounds, upper_bounds, bounds_below, bounds_above, eliminated_item, quotient, modular_parts, modular, modular_item, shadow, shadows, standing, splinter, above_parts, above_all, AllKept}
+use Rattle.sm_num.specs.Range.{exact}
 use Rattle.sm_omega.proofs.EachLemmas.{each_append, each_made, each_filter}
 use Rattle.sm_omega.proofs.Predicates.{EachOf, IsGood, IsListed, AreListed, IsGoodItem, AreGoodItems}
 

@@ -1,12 +1,5 @@
 -- How decisions with two limits, or to two depths, match: an answer of the first is one of the second, where the second's limit allows it.
-use Rattle.std.proofs.Common.{◌≡◌, ◌<◌, ◌≤◌, nat_lt, ℕ, suc, ℤ, Bool, true, false, if◌then◌else◌, Option, Some, None, List, [], ◌∷◌, refl, sym, ap, subst, ◌∙◌, arith}
-use Rattle.std.proofs.lemmas.Bool.{ltb-true, lt-ltb}
-use Rattle.sm_num.specs.Forms.{Linear}
-use Rattle.sm_num.specs.Combining.{Outcome, Fits, Leaves}
-use Rattle.sm_num.specs.Tightening.{has_no_part, tightened, is_contradictory}
-use Rattle.sm_omega.specs.Counting.{Decision, Done, Passed, Outside, Shallow, go_on, with_result, counted, Item, Stay, Enter, Count, Entered, led, entering, entered}
-use Rattle.sm_omega.specs.Solving.{Values, put}
-use Rattle.sm_omega.specs.Rules.{Answer, giving, with_value, or_else, or_next}
+use Rattle.sm_omega.proofs.Imports.{◌≡◌, ◌<◌, ◌≤◌, nat_lt, ℕ, suc, ℤ, Bool, true, false, if◌then◌else◌, Option, Some, None, List, [], ◌∷◌, refl, sym, ap, subst, ◌∙◌, arith, ltb-true, lt-ltb, Linear, Outcome, Fits, Leaves, has_no_part, tightened, is_contradictory, Decision, Done, Passed, Outside, Shallow, go_on, with_result, counted, Item, Stay, Enter, Count, Entered, led, entering, entered, Values, put, Answer, giving, with_value, or_else, or_next}
 
 module _ (limit other : ℕ) where
   -- From a count on, with a limit: the first one's count doesn't go down, nor past the limit. The second, with another limit, gives the

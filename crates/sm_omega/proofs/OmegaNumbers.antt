@@ -1,14 +1,9 @@
 -- Whole numbers: both lemmas of the Omega test, bounds that are rounded, and the greatest and the
 -- least of numbers.
-use Rattle.std.proofs.Common.{◌≡◌, ◌⊎◌, inl, inr, ℕ, zero, suc, ◌<◌, ℤ, pos, negsuc, neg_ℤ, ◌+ℤ◌, ◌-ℤ◌, ◌*ℤ◌, ◌≤ℤ◌, ◌<ℤ◌, Bool, true, false, not, ◌&&◌, if◌then◌else◌, List, [], ◌∷◌, refl, ⊎_elim, arith}
+use Rattle.sm_omega.proofs.Imports.{◌≡◌, ◌⊎◌, inl, inr, ℕ, zero, suc, ◌<◌, ℤ, pos, negsuc, neg_ℤ, ◌+ℤ◌, ◌-ℤ◌, ◌*ℤ◌, ◌≤ℤ◌, ◌<ℤ◌, Bool, true, false, not, ◌&&◌, if◌then◌else◌, List, [], ◌∷◌, refl, ⊎_elim, arith, int_eq, is_negative, floor_of, ceiling_of, sums, ring, mul_zero, mul-neg_right, mul_mono, floor_galois, floor_bounds, bound_from, greatest_of, greatest, least_of, least}
 use Rattle.std.specs.Prelude.{int_lt}
-use Rattle.std.specs.Ordering.{int_eq}
 use lib.IntN.{*ℤ_comm}
 use Rattle.std.proofs.lemmas.Int.{by_lt_z, ints}
-use Rattle.sm_num.specs.Eliminating.{is_negative, floor_of, ceiling_of}
-use Rattle.sm_num.proofs.RingLemmas.{sums, ring, mul_zero, mul-neg_right}
-use Rattle.sm_num.proofs.DivisionLemmas.{mul_mono, floor_galois, floor_bounds}
-use Rattle.sm_omega.specs.Solving.{bound_from, greatest_of, greatest, least_of, least}
 use Rattle.sm_omega.proofs.Predicates.{EachOf}
 
 -- products by a number that isn't below 0 are ordered as the numbers are

@@ -1,14 +1,5 @@
 -- What forms and items are on their way through a decision, and what they say of values.
-use Rattle.std.proofs.Common.{◌≡◌, ◌<◌, ℕ, false, Some, None, List, [], ◌∷◌}
-use Rattle.sm_num.specs.Forms.{Linear, HoldsAt, IsKept}
-use Rattle.sm_num.specs.Combining.{Fits}
-use Rattle.sm_num.specs.Tightening.{has_no_part}
-use Rattle.sm_num.proofs.ResultsReduced.{AreAmong}
-use Rattle.sm_num.proofs.OutcomeLemmas.{Gives}
-use Rattle.sm_omega.specs.Counting.{Done, Passed, Outside, Shallow, Item, Stay, Enter, Count}
-use Rattle.sm_omega.specs.Solving.{Values}
-use Rattle.sm_omega.specs.Rules.{Answer, Solver}
-use Rattle.sm_omega.specs.ExactLaws.{AllHold}
+use Rattle.sm_omega.proofs.Imports.{◌≡◌, ◌<◌, ℕ, false, Some, None, List, [], ◌∷◌, Linear, HoldsAt, IsKept, Fits, has_no_part, AreAmong, Gives, Done, Passed, Outside, Shallow, Item, Stay, Enter, Count, Values, Answer, Solver, AllHold}
 
 -- something is so of each
 abbrev pub EachOf : {A : Type 0} → (A → Type 0) → List A → Type 0

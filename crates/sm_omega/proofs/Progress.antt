@@ -1,19 +1,5 @@
 -- Each rule makes progress: what counts and forms are left gets less. Where a list of any forms would stay as it is, the depth ends.
-use Rattle.std.proofs.Common.{◌≡◌, ◌<◌, ◌≤◌, ◌==◌, nat_lt, ℕ, zero, suc, ◌+◌, ◌-◌, ℤ, pos, nat_abs, Bool, true, false, not, ◌&&◌, ◌||◌, if◌then◌else◌, Some, None, List, [], ◌∷◌, ◌++◌, map, length, refl, ap, subst, ◌∙◌, arith}
-use Rattle.std.specs.List.{list_any}
-use Rattle.std.specs.Ordering.{int_eq}
-use Rattle.std.proofs.lemmas.Bool.{ltb-true, or_parts}
-use Rattle.std.proofs.lemmas.Bool.Decides.{Decides-int_eq}
-use Rattle.sm_num.specs.Forms.{Linear}
-use Rattle.sm_num.specs.Combining.{Outcome, Fits, Leaves, combined}
-use Rattle.sm_num.specs.Eliminating.{eliminated}
-use Rattle.sm_num.specs.Tightening.{has_no_part, tightened, is_contradictory}
-use Rattle.sm_omega.specs.Counting.{Done, Passed, Outside, Shallow, go_on, with_result, Item, Stay, Enter, Count, Entered, led, entering, entered}
-use Rattle.sm_omega.specs.Solving.{at, has, others, lower_bounds, upper_bounds, bounds_below, least_variable}
-use Rattle.sm_omega.specs.Rules.{Answer, Solver, solved, or_refuted, giving}
-use Rattle.sm_omega.specs.Equalities.{first_equation, least_part, eliminated_item, modular, modular_item, value_by, by_equation}
-use Rattle.sm_omega.specs.Inequalities.{shadow, shadows, standing, greatest_bound, by_bounds, by_variable}
-use Rattle.sm_omega.specs.Exact.{by_least, by_first, solved_within}
+use Rattle.sm_omega.proofs.Imports.{◌≡◌, ◌<◌, ◌≤◌, ◌==◌, nat_lt, ℕ, zero, suc, ◌+◌, ◌-◌, ℤ, pos, nat_abs, Bool, true, false, not, ◌&&◌, ◌||◌, if◌then◌else◌, Some, None, List, [], ◌∷◌, ◌++◌, map, length, refl, ap, subst, ◌∙◌, arith, list_any, int_eq, ltb-true, or_parts, Decides-int_eq, Linear, Outcome, Fits, Leaves, combined, eliminated, has_no_part, tightened, is_contradictory, Done, Passed, Outside, Shallow, go_on, with_result, Item, Stay, Enter, Count, Entered, led, entering, entered, at, has, others, lower_bounds, upper_bounds, bounds_below, least_variable, Answer, Solver, solved, or_refuted, giving, first_equation, least_part, eliminated_item, modular, modular_item, value_by, by_equation, shadow, shadows, standing, greatest_bound, by_bounds, by_variable, by_least, by_first, solved_within}
 
 -- what is left of a list: two for each count that is left, and one for each form
 abbrev pub left : ℕ → List (Linear ℕ) → ℕ → ℕ

@@ -1,12 +1,5 @@
 -- The rule for a variable that is bounded from both sides gives right answers.
-use Rattle.std.proofs.Common.{◌≡◌, ℕ, ℤ, Some, None, List, ◌∷◌, ◌++◌, refl}
-use Rattle.sm_num.specs.Forms.{Linear}
-use Rattle.sm_num.specs.Combining.{Outcome, Fits, Leaves}
-use Rattle.sm_omega.specs.Counting.{Done, Passed, Outside, Shallow, Item, with_result}
-use Rattle.sm_omega.specs.Solving.{Values, lower_bounds, upper_bounds, others, put}
-use Rattle.sm_omega.specs.Rules.{Answer, solved, giving, or_else}
-use Rattle.sm_omega.specs.Inequalities.{shadows, standing, greatest_at, greatest_bound, by_all_splinters, by_bounds}
-use Rattle.sm_omega.specs.ExactLaws.{AllHold}
+use Rattle.sm_omega.proofs.Imports.{◌≡◌, ℕ, ℤ, Some, None, List, ◌∷◌, ◌++◌, refl, Linear, Outcome, Fits, Leaves, Done, Passed, Outside, Shallow, Item, with_result, Values, lower_bounds, upper_bounds, others, put, Answer, solved, giving, or_else, shadows, standing, greatest_at, greatest_bound, by_all_splinters, by_bounds, AllHold}
 use Rattle.sm_omega.proofs.Predicates.{Fitting, EachOf, ItemsHold, Decides}
 use Rattle.sm_omega.proofs.Bounds.{NoEquations}
 use Rattle.sm_omega.proofs.Shadows.{dark_back}

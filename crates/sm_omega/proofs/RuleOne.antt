@@ -1,13 +1,6 @@
 -- The first equation of a list and the forms beside it, its part with the least coefficient, and facts
 -- of items that are made of forms.
-use Rattle.std.proofs.Common.{◌≡◌, ℕ, false, Some, List, [], ◌∷◌, map, refl}
-use Rattle.sm_num.specs.Forms.{Linear}
-use Rattle.sm_num.specs.declared.kind.Kind.TheVariants.{Eq}
-use Rattle.sm_num.specs.Combining.{Outcome, Fits, Leaves}
-use Rattle.sm_num.specs.Tightening.{has_no_part}
-use Rattle.sm_num.proofs.OutcomeLemmas.{Gives}
-use Rattle.sm_omega.specs.Counting.{Item}
-use Rattle.sm_omega.specs.Equalities.{first_equation}
+use Rattle.sm_omega.proofs.Imports.{◌≡◌, ℕ, false, Some, List, [], ◌∷◌, map, refl, Linear, Eq, Outcome, Fits, Leaves, has_no_part, Gives, Item, first_equation}
 use Rattle.sm_omega.proofs.EachLemmas.{each_always}
 use Rattle.sm_omega.proofs.FoundLemmas.{found_is, found_all}
 use Rattle.sm_omega.proofs.Predicates.{EachOf}

@@ -1,22 +1,6 @@
 -- An equation without a coefficient of 1 or -1: the forms that lose a variable by its modular step, with
 -- a new variable, have the solutions of the list.
-use Rattle.std.proofs.Common.{◌≡◌, ◌<◌, ℕ, ◌==◌, ℤ, pos, negsuc, neg_ℤ, nat_abs, ◌+ℤ◌, ◌*ℤ◌, Bool, true, false, if◌then◌else◌, List, [], ◌∷◌, map, Some, refl, sym, ap, subst, ◌∙◌, arith}
-use Rattle.std.proofs.lemmas.Bool.{eqb-true, eq-eqb, ne_eqb}
-use Rattle.sm_num.specs.Forms.{Linear, Satisfies, HoldsAt, coefficient, without, IsKept}
-use Rattle.sm_num.specs.declared.kind.Kind.{Kind}
-use Rattle.sm_num.specs.Combining.{Fits, with_part, combined}
-use Rattle.sm_num.specs.FormLaws.{same_atom, value_of_form}
-use Rattle.sm_num.proofs.RingLemmas.{sums, mul-add_right, mul-neg_right, mul-neg_left, one_mul, mul_zero}
-use Rattle.sm_num.proofs.OutcomeLemmas.{gives_fits, with_part_has}
-use Rattle.sm_num.proofs.SameAtomLemmas.{IsApart, AreReduced, same_atom_sound, coefficient_past, apart_turned, each_more}
-use Rattle.sm_num.proofs.FormValues.{combined_value}
-use Rattle.sm_num.proofs.EliminationParts.{SumsTo, combined_sums_to}
-use Rattle.sm_num.proofs.ResultsReduced.{AreAmong}
-use Rattle.sm_num.proofs.KeptLemmas.{parts_reduced}
-use Rattle.sm_omega.specs.Counting.{Stay, Count}
-use Rattle.sm_omega.specs.Solving.{Values, at, has, put}
-use Rattle.sm_omega.specs.Equalities.{first_equation, quotient, modular_parts, modular, modular_item, value_by}
-use Rattle.sm_omega.specs.ExactLaws.{AllHold}
+use Rattle.sm_omega.proofs.Imports.{◌≡◌, ◌<◌, ℕ, ◌==◌, ℤ, pos, negsuc, neg_ℤ, nat_abs, ◌+ℤ◌, ◌*ℤ◌, Bool, true, false, if◌then◌else◌, List, [], ◌∷◌, map, Some, refl, sym, ap, subst, ◌∙◌, arith, eqb-true, eq-eqb, ne_eqb, Linear, Satisfies, HoldsAt, coefficient, without, IsKept, Kind, Fits, with_part, combined, same_atom, value_of_form, sums, mul-add_right, mul-neg_right, mul-neg_left, one_mul, mul_zero, gives_fits, with_part_has, IsApart, AreReduced, same_atom_sound, coefficient_past, apart_turned, each_more, combined_value, SumsTo, combined_sums_to, AreAmong, parts_reduced, Stay, Count, Values, at, has, put, first_equation, quotient, modular_parts, modular, modular_item, value_by, AllHold}
 use Rattle.sm_omega.proofs.Predicates.{Fitting, EachOf, IsListed, AreListed, ItemHolds, ItemsHold}
 use Rattle.sm_omega.proofs.ValueLemmas.{value_split, value_put, holds_put, holds_below}
 use Rattle.sm_omega.proofs.EachLemmas.{each_made, each_two, all_each, each_all}

@@ -1,22 +1,7 @@
 -- An equation whose coefficient at a variable is 1 or -1: the forms that lose the variable by it have the
 -- solutions of the list.
-use Rattle.std.proofs.Common.{◌≡◌, ℕ, ℤ, pos, negsuc, neg_ℤ, nat_abs, ◌+ℤ◌, ◌*ℤ◌, ◌<ℤ◌, Bool, true, false, ◌&&◌, ◌||◌, not, if◌then◌else◌, IsTrue, List, map, Some, refl, sym, ap, subst, ◌∙◌, arith}
-use Rattle.sm_num.specs.Forms.{Linear, Satisfies, HoldsAt, sum_of_parts, without}
-use Rattle.sm_num.specs.declared.kind.Kind.{Kind}
-use Rattle.sm_num.specs.declared.kind.Kind.TheVariants.{Le, Eq}
-use Rattle.sm_num.specs.Combining.{Fits}
-use Rattle.sm_num.specs.Eliminating.{is_equation, signs_alike, can_cancel, multipliers, kind_of_sum, eliminated}
-use Rattle.sm_num.specs.FormLaws.{same_atom, value_of_form}
-use Rattle.sm_num.proofs.RingLemmas.{sums, ring, mul-neg_left, zero_mul, one_mul}
-use Rattle.sm_num.proofs.OutcomeLemmas.{gives_fits, then_gives}
-use Rattle.sm_num.proofs.DivisionLemmas.{satisfies_times}
+use Rattle.sm_omega.proofs.Imports.{◌≡◌, ℕ, ℤ, pos, negsuc, neg_ℤ, nat_abs, ◌+ℤ◌, ◌*ℤ◌, ◌<ℤ◌, Bool, true, false, ◌&&◌, ◌||◌, not, if◌then◌else◌, IsTrue, List, map, Some, refl, sym, ap, subst, ◌∙◌, arith, Linear, Satisfies, HoldsAt, sum_of_parts, without, Kind, Le, Eq, Fits, is_equation, signs_alike, can_cancel, multipliers, kind_of_sum, eliminated, same_atom, value_of_form, sums, ring, mul-neg_left, zero_mul, one_mul, gives_fits, then_gives, satisfies_times, SumsTo, eliminated_sums_to, can_cancel_gives, multipliers_positive, eliminated_takes_atom, Stay, Count, Values, at, has, put, rest_of, value_from, first_equation, eliminated_item, value_by, AllHold}
 use Rattle.sm_num.proofs.EliminationSound.{multipliers_cancel, eliminated_holds}
-use Rattle.sm_num.proofs.EliminationParts.{SumsTo, eliminated_sums_to, can_cancel_gives, multipliers_positive}
-use Rattle.sm_num.proofs.KeptLemmas.{eliminated_takes_atom}
-use Rattle.sm_omega.specs.Counting.{Stay, Count}
-use Rattle.sm_omega.specs.Solving.{Values, at, has, put, rest_of, value_from}
-use Rattle.sm_omega.specs.Equalities.{first_equation, eliminated_item, value_by}
-use Rattle.sm_omega.specs.ExactLaws.{AllHold}
 use Rattle.sm_omega.proofs.Predicates.{Fitting, EachOf, ItemHolds, ItemsHold}
 use Rattle.sm_omega.proofs.ValueLemmas.{value_split, value_put, value_none, holds_put, rest_gives}
 use Rattle.sm_omega.proofs.EachLemmas.{each_made, all_each, each_all}

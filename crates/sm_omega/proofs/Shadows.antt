@@ -1,25 +1,10 @@
 -- The dark shadow of bounds of a variable: a solution of it leaves the variable a value.
-use Rattle.std.proofs.Common.{◌≡◌, ◌↔◌, ℕ, ℤ, pos, neg_ℤ, ◌+ℤ◌, ◌-ℤ◌, ◌*ℤ◌, ◌≤ℤ◌, ◌<ℤ◌, true, IsTrue, List, [], ◌∷◌, ◌++◌, map, refl, sym, subst, ◌∙◌, arith}
-use Rattle.sm_num.specs.Range.{fits_form}
-use Rattle.sm_num.specs.Forms.{Linear, Satisfies, HoldsAt, without, sum_of_parts}
-use Rattle.sm_num.specs.declared.kind.Kind.{Kind}
-use Rattle.sm_num.specs.declared.kind.Kind.TheVariants.{Le}
-use Rattle.sm_num.specs.FormLaws.{same_atom, value_of_form}
-use Rattle.sm_num.specs.Combining.{Fits, computed, combined}
-use Rattle.sm_num.specs.declared.op.Op.TheVariants.{Add, Mul}
-use Rattle.sm_num.proofs.RingLemmas.{sums, ring}
-use Rattle.sm_num.proofs.OutcomeLemmas.{Gives, gives_fits, then_gives, computed_gives}
-use Rattle.sm_num.proofs.FormValues.{combined_gives_value}
-use Rattle.sm_omega.specs.Counting.{Stay, Count}
-use Rattle.sm_omega.specs.Solving.{Values, at, bounds_below, bounds_above, lower_bounds, upper_bounds, others, put}
-use Rattle.sm_omega.specs.Inequalities.{shadow, shadows, standing, greatest_bound}
-use Rattle.sm_omega.specs.ExactLaws.{AllHold}
+use Rattle.sm_omega.proofs.Imports.{◌≡◌, ◌↔◌, ℕ, ℤ, pos, neg_ℤ, ◌+ℤ◌, ◌-ℤ◌, ◌*ℤ◌, ◌≤ℤ◌, ◌<ℤ◌, true, IsTrue, List, [], ◌∷◌, ◌++◌, map, refl, sym, subst, ◌∙◌, arith, fits_form, Linear, Satisfies, HoldsAt, without, sum_of_parts, Kind, Le, same_atom, value_of_form, Fits, computed, combined, Add, Mul, sums, ring, Gives, gives_fits, then_gives, computed_gives, combined_gives_value, Stay, Count, Values, at, bounds_below, bounds_above, lower_bounds, upper_bounds, others, put, shadow, shadows, standing, greatest_bound, AllHold, negative_below}
 use Rattle.sm_omega.proofs.Predicates.{Fitting, EachOf, ItemHolds, ItemsHold}
 use Rattle.sm_omega.proofs.OmegaNumbers.{dark_serves, lower_near, other_above, greatest_has}
 use Rattle.sm_omega.proofs.ValueLemmas.{value_split}
 use Rattle.sm_omega.proofs.EachLemmas.{each_filter, each_front, each_back, filter_passes, each_map, each_unmap, all_each, each_all}
 use Rattle.sm_omega.proofs.Bounds.{NoEquations, bound_at, at_most_holds, greatest_is, each_of_all, others_put, all_lowers_hold}
-use Rattle.sm_num.proofs.OneForm.{negative_below}
 
 -- the value of a form without a variable
 abbrev pub rest_at : ℕ → Values → Linear ℕ → ℤ

@@ -1,30 +1,13 @@
 -- Splinters: where the dark shadow of a solution fails, the solution is near to a lower bound, and
 -- where all splinters are refuted there is none such.
-use Rattle.std.proofs.Common.{◌≡◌, ◌↔◌, ◌<◌, ◌≤◌, ◌+◌, ℕ, zero, suc, ℤ, pos, negsuc, neg_ℤ, nat_abs, ◌+ℤ◌, ◌-ℤ◌, ◌*ℤ◌, ◌≤ℤ◌, ◌<ℤ◌, true, IsTrue, Some, None, List, [], ◌∷◌, ◌++◌, map, refl, sym, subst, ⊎_elim, arith}
+use Rattle.sm_omega.proofs.Imports.{◌≡◌, ◌↔◌, ◌<◌, ◌≤◌, ◌+◌, ℕ, zero, suc, ℤ, pos, negsuc, neg_ℤ, nat_abs, ◌+ℤ◌, ◌-ℤ◌, ◌*ℤ◌, ◌≤ℤ◌, ◌<ℤ◌, true, IsTrue, Some, None, List, [], ◌∷◌, ◌++◌, map, refl, sym, subst, ⊎_elim, arith, fits_form, Linear, Satisfies, HoldsAt, sum_of_parts, Kind, Le, value_of_form, Outcome, Fits, Leaves, computed, Add, Sub, Mul, floor_of, sums, ring, Gives, gives_fits, gives_more, then_gives, computed_gives, floor_galois, Done, Passed, Outside, Shallow, Count, with_result, Values, at, bounds_below, bounds_above, lower_bounds, upper_bounds, others, Answer, solved, or_else, shadow, shadows, standing, greatest_at, numbers_to, splinters_at, splinter, by_splinters, by_all_splinters, AllHold, negative_below}
 use Rattle.std.proofs.Math.Nat.{eq-or-lt_of_le}
-use Rattle.sm_num.specs.Range.{fits_form}
-use Rattle.sm_num.specs.Forms.{Linear, Satisfies, HoldsAt, sum_of_parts}
-use Rattle.sm_num.specs.declared.kind.Kind.{Kind}
-use Rattle.sm_num.specs.declared.kind.Kind.TheVariants.{Le}
-use Rattle.sm_num.specs.FormLaws.{value_of_form}
-use Rattle.sm_num.specs.Combining.{Outcome, Fits, Leaves, computed}
-use Rattle.sm_num.specs.declared.op.Op.TheVariants.{Add, Sub, Mul}
-use Rattle.sm_num.specs.Eliminating.{floor_of}
-use Rattle.sm_num.proofs.RingLemmas.{sums, ring}
-use Rattle.sm_num.proofs.OutcomeLemmas.{Gives, gives_fits, gives_more, then_gives, computed_gives}
-use Rattle.sm_num.proofs.DivisionLemmas.{floor_galois}
-use Rattle.sm_omega.specs.Counting.{Done, Passed, Outside, Shallow, Count, with_result}
-use Rattle.sm_omega.specs.Solving.{Values, at, bounds_below, bounds_above, lower_bounds, upper_bounds, others}
-use Rattle.sm_omega.specs.Rules.{Answer, solved, or_else}
-use Rattle.sm_omega.specs.Inequalities.{shadow, shadows, standing, greatest_at, numbers_to, splinters_at, splinter, by_splinters, by_all_splinters}
-use Rattle.sm_omega.specs.ExactLaws.{AllHold}
 use Rattle.sm_omega.proofs.Predicates.{EachOf, ItemHolds, ItemsHold, Decides}
 use Rattle.sm_omega.proofs.OmegaNumbers.{IsNearBy, ordered, splinter_serves, other_above, greatest_above}
 use Rattle.sm_omega.proofs.ValueLemmas.{value_split}
 use Rattle.sm_omega.proofs.EachLemmas.{each_filter, each_append, each_front, filter_passes, each_unmap, all_each}
 use Rattle.sm_omega.proofs.Bounds.{NoEquations, others_hold}
 use Rattle.sm_omega.proofs.Shadows.{rest_at, shadow_at, shadow_gives, standing_holds, holds_standing}
-use Rattle.sm_num.proofs.OneForm.{negative_below}
 
 -- a number that is at most another is one of those up to it
 numbers_above : (x : ℤ) (i : ℕ) → pos i ≤ℤ x → i < numbers_to x

@@ -1,14 +1,5 @@
 -- A rule, by two solvers that match, with two limits: the first solves to a depth, the second is any.
-use Rattle.std.proofs.Common.{◌≡◌, ◌<◌, ◌≤◌, ◌==◌, ℕ, zero, suc, ◌+◌, ℤ, pos, neg_ℤ, nat_abs, Bool, true, false, if◌then◌else◌, Option, Some, None, List, [], ◌∷◌, ◌++◌, map, length, refl, arith}
-use Rattle.std.specs.List.{list_any}
-use Rattle.sm_num.specs.Forms.{Linear}
-use Rattle.sm_num.specs.Combining.{Outcome}
-use Rattle.sm_omega.specs.Counting.{Done, Item, Count, entered}
-use Rattle.sm_omega.specs.Solving.{Values, at, has, others, lower_bounds, upper_bounds, least_variable}
-use Rattle.sm_omega.specs.Rules.{Answer, Solver, or_refuted, solved, giving}
-use Rattle.sm_omega.specs.Equalities.{first_equation, least_part, eliminated_item, modular, modular_item, value_by, by_equation}
-use Rattle.sm_omega.specs.Inequalities.{shadows, standing, greatest_at, splinters_at, splinter, by_splinters, by_all_splinters, greatest_bound, least_bound, by_bounds, by_variable}
-use Rattle.sm_omega.specs.Exact.{by_least, by_first, by_rule, solved_within}
+use Rattle.sm_omega.proofs.Imports.{◌≡◌, ◌<◌, ◌≤◌, ◌==◌, ℕ, zero, suc, ◌+◌, ℤ, pos, neg_ℤ, nat_abs, Bool, true, false, if◌then◌else◌, Option, Some, None, List, [], ◌∷◌, ◌++◌, map, length, refl, arith, list_any, Linear, Outcome, Done, Item, Count, entered, Values, at, has, others, lower_bounds, upper_bounds, least_variable, Answer, Solver, or_refuted, solved, giving, first_equation, least_part, eliminated_item, modular, modular_item, value_by, by_equation, shadows, standing, greatest_at, splinters_at, splinter, by_splinters, by_all_splinters, greatest_bound, least_bound, by_bounds, by_variable, by_least, by_first, by_rule, solved_within}
 use Rattle.sm_omega.proofs.Predicates.{IsGood, IsListed, AreListed, IsGoodItem, AreGoodItems}
 use Rattle.sm_omega.proofs.EachLemmas.{each_append}
 use Rattle.sm_omega.proofs.ListedLemmas.{each_lower, each_upper, each_others, entered_listed, standing_good, eliminated_items_good, modular_items_good, modular_good, shadows_good, splinter_good}

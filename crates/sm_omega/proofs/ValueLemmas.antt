@@ -1,17 +1,5 @@
 -- A value that is put for a variable, and the value of a form by its part at the variable and the rest.
-use Rattle.std.proofs.Common.{◌≡◌, ◌↔◌, ◌<◌, ℕ, ◌==◌, ℤ, pos, ◌+ℤ◌, ◌*ℤ◌, Bool, false, not, if◌then◌else◌, IsTrue, List, [], ◌∷◌, refl, sym, ap, subst, ◌∙◌, arith}
-use Rattle.std.proofs.lemmas.Bool.{eq-eqb, ne_eqb}
-use Rattle.sm_num.specs.Range.{fits_form}
-use Rattle.sm_num.specs.Forms.{Linear, Satisfies, HoldsAt, sum_of_parts, without}
-use Rattle.sm_num.specs.Combining.{Fits, computed}
-use Rattle.sm_num.specs.declared.op.Op.TheVariants.{Add, Mul}
-use Rattle.sm_num.specs.FormLaws.{same_atom, value_of_form}
-use Rattle.sm_num.proofs.RingLemmas.{sums, zero_mul}
-use Rattle.sm_num.proofs.OutcomeLemmas.{Gives, gives_fits, gives_more, then_gives, computed_gives}
-use Rattle.sm_num.proofs.SameAtomLemmas.{IsApart, same_atom_sound, apart_turned, without_apart, each_more}
-use Rattle.sm_num.proofs.ResultsReduced.{AreAmong}
-use Rattle.sm_num.proofs.FormValues.{sum_without}
-use Rattle.sm_omega.specs.Solving.{Values, at, has, put, sum_from, rest_of}
+use Rattle.sm_omega.proofs.Imports.{◌≡◌, ◌↔◌, ◌<◌, ℕ, ◌==◌, ℤ, pos, ◌+ℤ◌, ◌*ℤ◌, Bool, false, not, if◌then◌else◌, IsTrue, List, [], ◌∷◌, refl, sym, ap, subst, ◌∙◌, arith, eq-eqb, ne_eqb, fits_form, Linear, Satisfies, HoldsAt, sum_of_parts, without, Fits, computed, Add, Mul, same_atom, value_of_form, sums, zero_mul, Gives, gives_fits, gives_more, then_gives, computed_gives, IsApart, same_atom_sound, apart_turned, without_apart, each_more, AreAmong, sum_without, Values, at, has, put, sum_from, rest_of}
 use Rattle.sm_omega.proofs.Progress.{without_it}
 
 -- the variable's value is the one that is put

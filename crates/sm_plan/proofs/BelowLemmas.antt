@@ -1,26 +1,10 @@
 -- States that name no new value of a node or of a later one, and what they open.
-use Rattle.std.proofs.Common.{◌≡◌, ◌<◌, ◌≤◌, ℕ, suc, Bool, true, false, if◌then◌else◌, Option, Some, None, List, [], ◌∷◌, ◌++◌, map, arith, ◌==◌}
-use Rattle.std.specs.List.{flat_map}
+use Rattle.sm_plan.proofs.Imports.{◌≡◌, ◌<◌, ◌≤◌, ℕ, suc, Bool, true, false, if◌then◌else◌, Option, Some, None, List, [], ◌∷◌, ◌++◌, map, arith, ◌==◌, flat_map, Sort, Num, Arr, Expression, Condition, Code, Cmp, assigns, Copy, O, A, B, M, Task, Tree, Lit, Start, Havoc, Slot, Read, Neg, Add, Sub, Mul, Fun, Arguments, Given, Assertion, negate, conj, SymbolicStore, with_term, term_of, comparison_form, form_of, fill_term, fill_arguments, at_stores, all_at_stores, IsBelow, AreBelow, IsFormBelow, AreFormsBelow, tree_later, forms_later, below_append, inputs, Copies, copies, has, no_copies, loop_guard, State, place, keeps_goals, start_store, start_facts, start_state, IsStateBelow, AreStatesBelow}
 use Rattle.sm_syntax.specs.declared.tree.Cmp.TheVariants as cmp
-use Rattle.sm_syntax.specs.declared.tree.Sort.{Sort}
-use Rattle.sm_syntax.specs.declared.tree.Sort.TheVariants.{Num, Arr}
 use Rattle.sm_syntax.specs.claim.Syntax as syntax
-use Rattle.sm_syntax.specs.claim.Syntax.{Expression, Condition, Code}
-use Rattle.sm_syntax.specs.declared.tree.Cmp.{Cmp}
-use Rattle.sm_syntax.specs.Assigns.{assigns}
-use Rattle.sm_syntax.specs.claim.ConflictFree.{Copy, O, A, B, M, Task}
-use Rattle.sm_term.specs.Terms.{Tree, Lit, Start, Havoc, Slot, Cell, Read, Write, Neg, Add, Sub, Mul, Fun, Arguments, Over, Given}
-use Rattle.sm_term.specs.Assertions.{Assertion, Yes, No, Eq, Ne, Le, Lt, And, Or, negate, conj}
-use Rattle.sm_term.specs.Symbolic.{SymbolicStore, with_term, term_of, comparison_form, form_of}
-use Rattle.sm_term.specs.Slots.{fill_term, fill_arguments, at_stores, all_at_stores}
-use Rattle.sm_term.specs.Fresh.{IsBelow, AreBelow, IsFormBelow, AreFormsBelow}
-use Rattle.sm_term.proofs.FreshLemmas.{tree_later, forms_later, below_append}
-use Rattle.sm_deps.specs.Inputs.{inputs}
-use Rattle.sm_plan.specs.Copies.{Copies, copies, has, no_copies}
-use Rattle.sm_plan.specs.Statements.{loop_guard}
-use Rattle.sm_plan.specs.States.{State, place, keeps_goals, start_store, start_facts, start_state}
+use Rattle.sm_term.specs.Terms.{Cell, Write, Over}
+use Rattle.sm_term.specs.Assertions.{Yes, No, Eq, Ne, Le, Lt, And, Or}
 use Rattle.sm_plan.specs.Successors as next
-use Rattle.sm_plan.specs.SoundStates.{IsStateBelow, AreStatesBelow}
 use Rattle.sm_plan.proofs.CopiesLemmas.{one_copy}
 
 -- a symbolic store names no new value of a node or of a later one

@@ -1,23 +1,7 @@
 -- What a block opens: the block alone, and what comes after it.
-use Rattle.std.proofs.Common.{◌≡◌, ℕ, false, List, [], ◌++◌, sym, ap, ◌∙◌, subst, append-nil}
-use Rattle.std.proofs.Math.Path.{fun_ext}
-use Rattle.sm_syntax.specs.claim.Syntax.{Code}
-use Rattle.sm_syntax.specs.claim.ConflictFree.{Copy}
-use Rattle.sm_syntax.specs.text.Sorts.{Sorts, IsWellSorted}
-use Rattle.sm_syntax.specs.trees.Copies.{of_copy}
-use Rattle.sm_syntax.specs.declared.copies.PerCopy.{PerCopy}
-use Rattle.sm_term.specs.Assertions.{Assertion, conj}
-use Rattle.sm_term.specs.Formulas.{numbered, assertion_in}
-use Rattle.sm_term.specs.declared.formula.Formula.{Formula}
-use Rattle.sm_term.specs.Slots.{all_at_stores}
-use Rattle.sm_term.specs.Tables.{TableValue, trees_in, sorts_in}
-use Rattle.sm_term.specs.TableLaws.{ExtendsTable}
-use Rattle.sm_plan.specs.declared.blocks.BlockParts.{BlockParts}
-use Rattle.sm_plan.specs.BlockParts.{IsBlockOf, IsBlockReady, block_alone, after_block}
-use Rattle.sm_plan.specs.ReadyStates.{IsStateReady}
-use Rattle.sm_plan.specs.Statements.{front, rest_after}
-use Rattle.sm_plan.specs.Successors.{renewed, inner_state, after_block_state}
-use Rattle.sm_plan.specs.Views.{rest_code, forms_in, stores_in, state_in, SymState, Continuation}
+use Rattle.sm_plan.proofs.Imports.{◌≡◌, ℕ, false, List, [], ◌++◌, sym, ap, ◌∙◌, subst, fun_ext, Code, Copy, Sorts, IsWellSorted, of_copy, PerCopy, Assertion, conj, numbered, assertion_in, Formula, all_at_stores, TableValue, trees_in, sorts_in, ExtendsTable, BlockParts, IsBlockOf, IsBlockReady, block_alone, after_block, IsStateReady, front, rest_after, renewed, inner_state, after_block_state, rest_code, forms_in, stores_in, state_in, Continuation}
+use Rattle.std.proofs.Common.{append-nil}
+use Rattle.sm_plan.specs.Views.{SymState}
 use Rattle.sm_plan.proofs.SortedCode.{front_well, rest_well}
 use Rattle.sm_plan.proofs.TablesWiden.{stores_stay, stores_ready, stores_full, forms_stay, forms_ready}
 

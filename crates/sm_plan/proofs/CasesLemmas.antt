@@ -1,19 +1,7 @@
 -- The cases worked by hand.
-use Rattle.std.proofs.Common.{◌≡◌, ℕ, false, pos, Option, Some, None, option_map, Ok, [], ◌∷◌, ◌++◌, length, refl, ⊎_elim, arith}
-use Rattle.std.specs.Prelude.{Contains}
-use Rattle.std.proofs.lemmas.Int.{ints}
-use Rattle.sm_syntax.specs.claim.Stores.{Number, Store, put}
-use Rattle.sm_syntax.specs.claim.Meaning.{run}
-use Rattle.sm_syntax.specs.declared.tree.Sort.{Sort}
-use Rattle.sm_syntax.specs.declared.tree.Sort.TheVariants.{Num}
-use Rattle.sm_syntax.specs.claim.Keeps.{Scalar}
-use Rattle.sm_syntax.specs.claim.ConflictFree.{Copy, O, A, B, M, ConflictFree, program_of}
-use Rattle.sm_term.specs.Structures.{Structure}
+use Rattle.sm_plan.proofs.Imports.{◌≡◌, ℕ, false, pos, Option, Some, None, option_map, Ok, [], ◌∷◌, ◌++◌, length, refl, ⊎_elim, arith, Contains, ints, Number, Store, put, run, Sort, Num, Scalar, Copy, O, A, B, M, ConflictFree, program_of, Structure, start_state, Step, IsFresh, obligations}
 use Rattle.sm_term.specs.Assertions.{No}
 use Rattle.sm_plan.specs.Limits.{is_kept, is_shallow}
-use Rattle.sm_plan.specs.States.{start_state}
-use Rattle.sm_plan.specs.Nodes.{Step}
-use Rattle.sm_plan.specs.Plans.{IsFresh, obligations}
 use Rattle.sm_plan.specs.Cases.{never_ends, never_plan, unequal_turns, unequal_steps, pending_after, first_nodes, NeverEndsIsFree, CasesComeOut}
 use Rattle.sm_plan.proofs.PlanSound.{plan_conflict_free}
 

@@ -1,9 +1,5 @@
 -- Values for each copy, sets of copies and their subsets.
-use Rattle.std.proofs.Common.{◌≡◌, ◌⊎◌, Bool, true, false, ◌&&◌, ◌||◌, cond, List, [], ◌∷◌, ◌++◌, map, inl, inr, refl, ap, sym, ◌∙◌, subst}
-use Rattle.std.specs.List.{filter, flat_map}
-use Rattle.std.proofs.lemmas.Bool.{and_parts, cases_Bool}
-use Rattle.sm_syntax.specs.claim.ConflictFree.{Copy, O, A, B, M}
-use Rattle.sm_plan.specs.Copies.{Copies, each, has, with_copy, copies_that, is_inhabited, choices, all_subsets, subsets}
+use Rattle.sm_plan.proofs.Imports.{◌≡◌, ◌⊎◌, Bool, true, false, ◌&&◌, ◌||◌, cond, List, [], ◌∷◌, ◌++◌, map, inl, inr, refl, ap, sym, ◌∙◌, subst, filter, flat_map, and_parts, cases_Bool, Copy, O, A, B, M, Copies, each, has, with_copy, copies_that, is_inhabited, choices, all_subsets, subsets}
 
 -- what holds of new values for one copy, and of the old ones for each copy
 pub one_copy : {X Y : Type 0} (P : X → Y → Copy → Type 0) (f : Copy → X) (g : Copy → Y) (c : Copy) (v : X) (w : Y) → P v w c

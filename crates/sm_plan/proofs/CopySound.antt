@@ -1,31 +1,14 @@
 -- Nodes that move one copy: simple statements, summaries and branches.
-use Rattle.std.proofs.Common.{◌≡◌, ◌⊎◌, ℕ, Bool, true, false, ◌||◌, IsTrue, if◌then◌else◌, Option, Some, None, List, [], ◌∷◌, ◌==◌, inl, inr, refl, ap, sym, ◌∙◌, subst, ⊎_elim}
-use Rattle.std.proofs.Math.Path.{fun_ext}
-use Rattle.std.proofs.lemmas.Option.{same_Some}
-use Rattle.std.proofs.lemmas.Bool.{eqb-true}
-use Rattle.sm_syntax.specs.text.Conditions.{is_in}
-use Rattle.sm_syntax.specs.claim.Syntax.{Condition, Code, End, Skip, Assign, Write, If, While, Hole, append}
-use Rattle.sm_syntax.specs.claim.Stores.{Value, Array, number, array, Store, put, with_element}
-use Rattle.sm_syntax.specs.claim.Meaning.{value_of, truth_of, and_then, run}
-use Rattle.sm_syntax.specs.Assigns.{assigns}
-use Rattle.sm_syntax.specs.claim.ConflictFree.{Copy}
-use Rattle.sm_syntax.proofs.Appends.{run-append}
-use Rattle.sm_syntax.proofs.Unassigned.{unassigned}
-use Rattle.sm_deps.specs.Inputs.{inputs}
+use Rattle.sm_plan.proofs.Imports.{◌≡◌, ◌⊎◌, ℕ, Bool, true, false, ◌||◌, IsTrue, if◌then◌else◌, Option, Some, None, List, [], ◌∷◌, ◌==◌, inl, inr, refl, ap, sym, ◌∙◌, subst, ⊎_elim, fun_ext, same_Some, eqb-true, is_in, Condition, Code, End, append, Value, Array, number, array, Store, put, with_element, value_of, truth_of, and_then, run, assigns, Copy, run-append, unassigned, inputs, Tree, Fun, Arguments, Given, Structure, value_at, meaning, store_given, Assertion, Holds, AllHold, negate, SymbolicStore, store_meant, with_term, term_of, form_of, form_means, holds_append, front, rest_after, last_guard, State, follows, both_ways, IsSound, AreSound}
+use Rattle.sm_syntax.specs.claim.Syntax.{Skip, Assign, Write, If, While, Hole}
 use Rattle.sm_deps.specs.Laws.{EndAlike}
 use Rattle.sm_deps.proofs.InputsSound.{inputs_alike}
-use Rattle.sm_term.specs.Terms.{Tree, Fun, Arguments, Over, Given}
+use Rattle.sm_term.specs.Terms.{Over}
 use Rattle.sm_term.specs.Terms as term
-use Rattle.sm_term.specs.Structures.{Structure, value_at, meaning, store_given}
-use Rattle.sm_term.specs.Assertions.{Assertion, Holds, AllHold, negate}
-use Rattle.sm_term.specs.Symbolic.{SymbolicStore, store_meant, with_term, term_of, form_of}
 use Rattle.sm_term.proofs.SymbolicLemmas.{term_means}
-use Rattle.sm_term.proofs.AssertionsLemmas.{form_means, contrary, holds_append}
-use Rattle.sm_plan.specs.Statements.{front, rest_after, last_guard}
-use Rattle.sm_plan.specs.States.{State}
+use Rattle.sm_term.proofs.AssertionsLemmas.{contrary}
 use Rattle.sm_plan.specs.Successors as next
-use Rattle.sm_plan.specs.Nodes.{Opened, follows, both_ways}
-use Rattle.sm_plan.specs.SoundStates.{IsSound, AreSound}
+use Rattle.sm_plan.specs.Nodes.{Opened}
 use Rattle.sm_plan.proofs.CopiesLemmas.{one_copy}
 use Rattle.sm_plan.proofs.StatementsLemmas.{run_cut, last_guard_false}
 

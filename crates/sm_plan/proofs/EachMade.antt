@@ -1,10 +1,6 @@
 -- What is made for each copy.
-use Rattle.std.proofs.Common.{◌≡◌, Result, Ok, Err}
+use Rattle.sm_plan.proofs.Imports.{◌≡◌, Result, Ok, Err, IfOk-at_ok, Copy, O, A, B, M, of_copy, PerCopy}
 use Rattle.std.specs.Prelude.{IfOk}
-use Rattle.std.proofs.lemmas.Result.{IfOk-at_ok}
-use Rattle.sm_syntax.specs.claim.ConflictFree.{Copy, O, A, B, M}
-use Rattle.sm_syntax.specs.trees.Copies.{of_copy}
-use Rattle.sm_syntax.specs.declared.copies.PerCopy.{PerCopy}
 
 -- what holds of each of four results holds of what they made
 pub each_made : {T E : Type 0} (P : Copy → T → Type 0) (base a b candidate : Result T E) (all : Result (PerCopy T) E) →

@@ -1,21 +1,6 @@
 -- The term of a write to an array's element, made after the terms of its index and its value.
-use Rattle.std.proofs.Common.{◌≡◌, ℕ, ◌<◌, ◌&&◌, true, Some, List, length, get_or, slice_get, refl, ap, ◌∙◌}
-use Rattle.std.proofs.lemmas.Bool.{and_from}
-use Rattle.std.proofs.lemmas.Option.{slice_get_read}
-use Rattle.sm_syntax.specs.claim.Syntax.{Expression}
-use Rattle.sm_syntax.specs.text.Sorts.{IsAsDeclared, IsWellSortedExpression}
-use Rattle.sm_syntax.specs.declared.tree.Sort.TheVariants.{Num, Arr}
-use Rattle.sm_term.specs.Terms.{Tree, Write}
-use Rattle.sm_term.specs.Fitting.{has_sort}
-use Rattle.sm_term.specs.Symbolic.{SymbolicStore, term_of}
-use Rattle.sm_term.specs.SymStores.{store_in}
-use Rattle.sm_term.specs.declared.symbolic.SymStore.{SymStore}
-use Rattle.sm_term.specs.Tables.{TableValue, trees_in, sorts_in, tree_at}
-use Rattle.sm_term.specs.declared.term.TermId.{TermId}
-use Rattle.sm_term.specs.TableLaws.{AddsTerms}
-use Rattle.sm_term.proofs.TablesLemmas.{grows-twice}
-use Rattle.sm_term.proofs.ExpressionLemmas.{store-more, stays_got, tree_got, sort_got, number_made, name_made, there, name_stored}
-use Rattle.sm_plan.specs.ReadyStates.{IsStoreReady}
+use Rattle.sm_plan.proofs.Imports.{◌≡◌, ℕ, ◌<◌, ◌&&◌, true, Some, List, length, get_or, slice_get, refl, ap, ◌∙◌, and_from, slice_get_read, Expression, IsAsDeclared, IsWellSortedExpression, Num, Arr, Tree, has_sort, SymbolicStore, term_of, store_in, SymStore, TableValue, trees_in, sorts_in, tree_at, TermId, AddsTerms, grows-twice, store-more, stays_got, tree_got, sort_got, number_made, name_made, there, name_stored, IsStoreReady}
+use Rattle.sm_term.specs.Terms.{Write}
 
 module _ (u v w : TableValue) (first : AddsTerms u v) (second : AddsTerms v w) (s : SymStore) (ready : IsStoreReady (sorts_in u) (trees_in u) s)
     (a : ℕ) (i e : Expression)

@@ -1,15 +1,8 @@
 -- The worked plan: its obligations by computing, and that each holds.
-use Rattle.std.proofs.Common.{◌≡◌, ℤ, pos, ◌+ℤ◌, Ok, refl, ap, sym, ◌∙◌, arith}
-use Rattle.std.specs.Prelude.{◌≤ℤ◌, ◌<ℤ◌}
-use Rattle.std.proofs.lemmas.Int.{ints}
-use Rattle.sm_syntax.specs.claim.Stores.{number}
-use Rattle.sm_syntax.specs.claim.ConflictFree.{A, M}
+use Rattle.sm_plan.proofs.Imports.{◌≡◌, ℤ, pos, ◌+ℤ◌, Ok, refl, ap, sym, ◌∙◌, arith, ◌≤ℤ◌, ◌<ℤ◌, ints, number, A, M, Start, Havoc, Structure, meaning, Assertion, Holds, AllHold, IsFresh, obligations, AllDischarged}
 use Rattle.sm_deps.specs.Inputs.{inputs}
-use Rattle.sm_term.specs.Terms.{Start, Havoc}
-use Rattle.sm_term.specs.Structures.{Structure, meaning}
-use Rattle.sm_term.specs.Assertions.{Assertion, Le, Lt, Holds, AllHold}
+use Rattle.sm_term.specs.Assertions.{Le, Lt}
 use Rattle.sm_plan.specs.Limits.{is_kept, is_shallow}
-use Rattle.sm_plan.specs.Plans.{IsFresh, obligations, AllDischarged}
 use Rattle.sm_plan.specs.Example.{i, n, x, example_task, example_plan, example_dues, loop_summary, head_with}
 
 -- the obligations are computed

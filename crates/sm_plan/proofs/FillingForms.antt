@@ -1,25 +1,7 @@
 -- Formulas with their slots replaced, over tables that grow.
-use Rattle.std.proofs.Common.{◌≡◌, ℕ, zero, suc, ◌<◌, arith, Some, List, [], ◌∷◌, ◌++◌, map, length, get_or, take, ◌+◌, slice_get, refl, sym, ap, ◌∙◌, subst}
-use Rattle.std.proofs.lemmas.List.{map-append, map_more}
-use Rattle.sm_syntax.specs.declared.copies.PerCopy.{PerCopy}
-use Rattle.sm_syntax.specs.claim.ConflictFree.{Copy}
-use Rattle.sm_syntax.specs.text.Sorts.{Sorts}
-use Rattle.sm_term.specs.declared.symbolic.SymStore.{SymStore}
+use Rattle.sm_plan.proofs.Imports.{◌≡◌, ℕ, zero, suc, ◌<◌, arith, Some, List, [], ◌∷◌, ◌++◌, map, length, get_or, take, ◌+◌, slice_get, refl, sym, ap, ◌∙◌, subst, map-append, map_more, PerCopy, Copy, Sorts, SymStore, Assertion, numbered, assertion_in, IsFormulaWithin, Formula, fill_term, at_stores, all_at_stores, tree_sort, IsSorted, IsFormSorted, AreFormsSorted, SymbolicStore, TableValue, trees_in, sorts_in, tree_at, AddsTerms, Tree, tree_got, there, assertion-more, form_kept, IsFormReady, AreFormsReady, AreStoresReady, forms_in, stores_in}
 use Rattle.sm_term.specs.Assertions as plain
-use Rattle.sm_term.specs.Assertions.{Assertion}
 use Rattle.sm_term.specs.Formulas as form
-use Rattle.sm_term.specs.Formulas.{numbered, assertion_in, IsFormulaWithin}
-use Rattle.sm_term.specs.declared.formula.Formula.{Formula}
-use Rattle.sm_term.specs.Slots.{fill_term, at_stores, all_at_stores}
-use Rattle.sm_term.specs.Sorted.{tree_sort, IsSorted, IsFormSorted, AreFormsSorted}
-use Rattle.sm_term.specs.Symbolic.{SymbolicStore}
-use Rattle.sm_term.specs.Tables.{TableValue, trees_in, sorts_in, tree_at}
-use Rattle.sm_term.specs.TableLaws.{AddsTerms}
-use Rattle.sm_term.specs.Terms.{Tree}
-use Rattle.sm_term.proofs.ExpressionLemmas.{tree_got, there}
-use Rattle.sm_term.proofs.FormsLemmas.{assertion-more, form_kept}
-use Rattle.sm_plan.specs.ReadyStates.{IsFormReady, AreFormsReady, AreStoresReady}
-use Rattle.sm_plan.specs.Views.{forms_in, stores_in}
 use Rattle.sm_plan.proofs.FillingGrows.{stores_more}
 use Rattle.sm_plan.proofs.SortedTerms.{filled_sorted}
 

@@ -1,22 +1,5 @@
 -- What is known of terms with their slots replaced stays known where the table grows.
-use Rattle.std.proofs.Common.{◌≡◌, ℕ, ◌<◌, ◌≤◌, Option, Some, None, List, length, slice_get, sym, ap, ◌∙◌, arith}
-use Rattle.std.proofs.Math.Path.{fun_ext}
-use Rattle.std.proofs.lemmas.List.{length-append}
-use Rattle.sm_syntax.specs.claim.ConflictFree.{Copy}
-use Rattle.sm_syntax.specs.trees.Copies.{of_copy}
-use Rattle.sm_syntax.specs.declared.copies.PerCopy.{PerCopy}
-use Rattle.sm_term.specs.declared.symbolic.SymStore.{SymStore}
-use Rattle.sm_term.specs.Slots.{fill_term}
-use Rattle.sm_term.specs.Symbolic.{SymbolicStore}
-use Rattle.sm_term.specs.Tables.{TableValue, trees_in, sorts_in, tree_at}
-use Rattle.sm_term.specs.declared.term.TermId.{TermId}
-use Rattle.sm_term.specs.TableLaws.{AddsTerms}
-use Rattle.sm_term.specs.Terms.{Tree}
-use Rattle.sm_term.proofs.ExpressionLemmas.{stays_got, store-more, within_more, sorted_more}
-use Rattle.sm_term.proofs.TreesLemmas.{tree_at-more}
-use Rattle.sm_plan.specs.Filling.{IsFilled, AreKnown}
-use Rattle.sm_plan.specs.ReadyStates.{AreStoresReady}
-use Rattle.sm_plan.specs.Views.{stores_in}
+use Rattle.sm_plan.proofs.Imports.{◌≡◌, ℕ, ◌<◌, ◌≤◌, Option, Some, None, List, length, slice_get, sym, ap, ◌∙◌, arith, fun_ext, length-append, Copy, of_copy, PerCopy, SymStore, fill_term, SymbolicStore, TableValue, trees_in, sorts_in, tree_at, TermId, AddsTerms, Tree, stays_got, store-more, within_more, sorted_more, tree_at-more, IsFilled, AreKnown, AreStoresReady, stores_in}
 
 module _ (v w : TableValue) (grows : AddsTerms v w) where
   -- there are as many terms or more, each with its tree

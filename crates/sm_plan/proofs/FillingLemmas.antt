@@ -1,38 +1,14 @@
 -- Terms whose parts are known with their slots replaced.
-use Rattle.std.proofs.Common.{◌≡◌, ℕ, ◌<◌, true, Option, Some, None, List, [], ◌∷◌, length, map, slice_get, refl, sym, ap, ◌∙◌, subst, get_or, unwrap_or, take, ◌+◌, ◌++◌}
-use Rattle.std.proofs.lemmas.List.{map_more, map-append}
-use Rattle.sm_syntax.specs.declared.tree.Name.{Name}
+use Rattle.sm_plan.proofs.Imports.{◌≡◌, ℕ, ◌<◌, true, Option, Some, None, List, [], ◌∷◌, length, map, slice_get, refl, sym, ap, ◌∙◌, subst, get_or, take, ◌+◌, ◌++◌, map_more, map-append, Name, Sort, Num, Arr, Copy, copy_of, of_copy, PerCopy, outputs_of, has_sort, arguments_fit, term_fits, fill_term, fill_arguments, sort_named, tree_sort, IsStoreSorted, IsDeclaredIn, SymbolicStore, tree_or_start, IsStoreWithin, SymStore, AreTreesSorted, TableValue, trees_in, sorts_in, codes_in, tree_at, tree_in, code_at, arguments_in, IsTermWithin, AreBefore, AreNamesDeclared, TermId, Tree, slice_get-get_or, same_sort, part_before, stores_in, tree_got, there, name_stored, Filling, AreKnown, IsFilling, ArePartsKnown, IsSummary, at_name}
+use Rattle.std.proofs.Common.{unwrap_or}
 use Rattle.sm_syntax.specs.declared.program.Outputs.{Outputs}
-use Rattle.sm_syntax.specs.declared.tree.Sort.{Sort}
-use Rattle.sm_syntax.specs.declared.tree.Sort.TheVariants.{Num, Arr}
-use Rattle.sm_syntax.specs.claim.ConflictFree.{Copy, copy_of}
-use Rattle.sm_syntax.specs.trees.Copies.{of_copy}
-use Rattle.sm_syntax.specs.declared.copies.PerCopy.{PerCopy}
-use Rattle.sm_syntax.specs.trees.Programs.{outputs_of}
 use Rattle.sm_term.specs.declared.term.BodyId.{BodyId}
 use Rattle.sm_term.specs.declared.term.Terms.{Terms}
 use Rattle.sm_term.specs.declared.term.Term.TheVariants as row
-use Rattle.sm_term.specs.Fitting.{has_sort, arguments_fit, term_fits}
-use Rattle.sm_term.specs.Slots.{fill_term, fill_arguments}
-use Rattle.sm_term.specs.Sorted.{sort_named, tree_sort, IsStoreSorted, IsDeclaredIn}
-use Rattle.sm_term.specs.Symbolic.{SymbolicStore}
-use Rattle.sm_term.specs.SymStores.{tree_or_start, IsStoreWithin}
-use Rattle.sm_term.specs.declared.symbolic.SymStore.{SymStore}
-use Rattle.sm_term.specs.TableLaws.{AreTreesSorted}
-use Rattle.sm_term.specs.Tables.{TableValue, trees_in, sorts_in, codes_in, tree_at, tree_in, code_at, arguments_in, IsTermWithin, AreBefore, AreNamesDeclared}
-use Rattle.sm_term.specs.declared.term.TermId.{TermId}
 use Rattle.sm_term.specs.declared.term.Term.{Term}
-use Rattle.sm_term.specs.Terms.{Tree}
 use Rattle.sm_term.specs.Terms as tree
-use Rattle.std.proofs.lemmas.Option.{slice_get-get_or}
-use Rattle.sm_term.specs.SameTerms.{same_sort}
-use Rattle.sm_term.proofs.TermsLemmas.{part_before}
-use Rattle.sm_plan.specs.Views.{stores_in}
-use Rattle.sm_term.proofs.ExpressionLemmas.{tree_got, there, name_stored}
-use Rattle.sm_plan.specs.declared.filling.Filling.{Filling}
 use Rattle.sm_plan.specs.declared.filling.Filling.TheVariants.{There, Made, Part}
 use Rattle.sm_plan.specs.declared.filling.Parts.TheVariants as parts
-use Rattle.sm_plan.specs.Filling.{AreKnown, IsFilling, ArePartsKnown, IsSummary, at_name}
 use Rattle.sm_plan.proofs.SortedTerms.{filled_sorted}
 
 -- the row of a table at a place

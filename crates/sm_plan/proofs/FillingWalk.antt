@@ -1,15 +1,7 @@
 -- A walk over the terms under a term: its way descends, and each number that is found is one fewer that isn't known.
-use Rattle.std.proofs.Common.{◌≡◌, ◌≢◌, ◌<◌, ◌≤◌, ◌+◌, ℕ, zero, suc, true, false, if◌then◌else◌, nat_eq, Option, Some, None, List, [], ◌∷◌, ◌++◌, length, refl, sym, ap, subst, ◌∙◌, ⊎_elim, arith}
+use Rattle.sm_plan.proofs.Imports.{◌≡◌, ◌≢◌, ◌<◌, ◌≤◌, ◌+◌, ℕ, zero, suc, true, false, if◌then◌else◌, nat_eq, Option, Some, None, List, [], ◌∷◌, ◌++◌, length, refl, sym, ap, subst, ◌∙◌, ⊎_elim, arith, update, cases_Bool, Decides-eqb, Copy, SymbolicStore, TableValue, trees_in, TermId, IsFilled, AreKnown, Descends, IsWay, AreOpen, unknown_below}
 use Rattle.std.specs.Prelude.{is_some, unwrap_or}
-use Rattle.std.specs.Map.{update}
 use Rattle.std.proofs.lemmas.Map.{update_here, update_apart}
-use Rattle.std.proofs.lemmas.Bool.{cases_Bool}
-use Rattle.std.proofs.lemmas.Bool.Decides.{Decides-eqb}
-use Rattle.sm_syntax.specs.claim.ConflictFree.{Copy}
-use Rattle.sm_term.specs.Symbolic.{SymbolicStore}
-use Rattle.sm_term.specs.Tables.{TableValue, trees_in}
-use Rattle.sm_term.specs.declared.term.TermId.{TermId}
-use Rattle.sm_plan.specs.Filling.{IsFilled, AreKnown, Descends, IsWay, AreOpen, unknown_below}
 
 -- a way ends below its start
 descends_below : (from : ℕ) (ns : List ℕ) (to : ℕ) → Descends from ns to → to < from

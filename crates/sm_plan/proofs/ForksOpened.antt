@@ -1,30 +1,11 @@
 -- What a choice of a copy opens.
-use Rattle.std.proofs.Common.{◌≡◌, Some, List, [], ◌∷◌, ◌++◌, length, sym, ap, ◌∙◌, subst}
-use Rattle.sm_syntax.specs.claim.Syntax.{Condition, Code, If, append}
-use Rattle.sm_syntax.specs.claim.ConflictFree.{Copy}
-use Rattle.sm_syntax.specs.text.Sorts.{Sorts, IsWellSorted}
-use Rattle.sm_syntax.specs.trees.Copies.{of_copy}
-use Rattle.sm_term.specs.Assertions.{Assertion, negate}
-use Rattle.sm_term.specs.Formulas.{numbered, contrary, assertion_in, IsFormulaWithin}
-use Rattle.sm_term.specs.declared.formula.Formula.{Formula}
-use Rattle.sm_term.specs.Symbolic.{SymbolicStore, form_of}
-use Rattle.sm_term.specs.Sorted.{IsFormSorted}
-use Rattle.sm_term.specs.SymStores.{store_in}
-use Rattle.sm_term.specs.declared.symbolic.SymStore.{SymStore}
-use Rattle.sm_term.specs.Tables.{TableValue, trees_in, sorts_in}
-use Rattle.sm_term.specs.TableLaws.{ExtendsTable}
-use Rattle.sm_term.proofs.FormulasLemmas.{contrary_negates}
-use Rattle.sm_term.proofs.FormsLemmas.{contrary_within}
-use Rattle.sm_plan.specs.Copies.{with_copy}
+use Rattle.sm_plan.proofs.Imports.{◌≡◌, Some, List, [], ◌∷◌, ◌++◌, length, sym, ap, ◌∙◌, subst, Condition, Code, append, Copy, Sorts, IsWellSorted, of_copy, Assertion, negate, numbered, assertion_in, IsFormulaWithin, Formula, SymbolicStore, form_of, IsFormSorted, store_in, SymStore, TableValue, trees_in, sorts_in, ExtendsTable, contrary_negates, contrary_within, with_copy, IsBranch, State, moved, with_facts, branch_state, forms_in, state_in, IsFormReady, IsStateReady, negate_sorted}
+use Rattle.sm_syntax.specs.claim.Syntax.{If}
+use Rattle.sm_term.specs.Formulas.{contrary}
 use Rattle.sm_plan.specs.Nodes as plan
-use Rattle.sm_plan.specs.Openings.{IsBranch}
-use Rattle.sm_plan.specs.States.{State}
-use Rattle.sm_plan.specs.Successors.{moved, with_facts, branch_state}
-use Rattle.sm_plan.specs.Views.{forms_in, state_in, SymState}
-use Rattle.sm_plan.specs.ReadyStates.{IsFormReady, IsStateReady}
+use Rattle.sm_plan.specs.Views.{SymState}
 use Rattle.sm_plan.proofs.PartsMoved.{numbers_of, given_same, moved_is, moved_ready}
 use Rattle.sm_plan.proofs.TablesWiden.{store_stays, store_ready}
-use Rattle.sm_term.proofs.SortedForms.{negate_sorted}
 
 -- the formula of a condition over a store of a ready state, and its contrary
 module _ (v w : TableValue) (wider : ExtendsTable v w) (s : SymStore) (b : Condition) (f : Formula)

@@ -1,22 +1,6 @@
 -- The guards of loops, one copy after the other, and the turns.
-use Rattle.std.proofs.Common.{◌≡◌, ℕ, Bool, true, false, if◌then◌else◌, Option, Some, None, option_map, List, [], ◌∷◌, ◌++◌, map, length, refl, sym, ap, ◌∙◌, subst}
+use Rattle.sm_plan.proofs.Imports.{◌≡◌, ℕ, Bool, true, false, if◌then◌else◌, Option, Some, None, option_map, List, [], ◌∷◌, ◌++◌, map, length, refl, sym, ap, ◌∙◌, subst, Code, Condition, Sorts, IsWellSorted, Assertion, numbered, assertion_in, IsFormulaWithin, Formula, IsFormSorted, IsStoreSorted, SymbolicStore, form_of, store_in, IsStoreWithin, SymStore, TableValue, trees_in, sorts_in, AddsTerms, Tree, store-more, assertion-more, form_kept, IsFormReady, loop_guard}
 use Rattle.std.specs.Prelude.{IfSome}
-use Rattle.sm_syntax.specs.claim.Syntax.{Code, Condition}
-use Rattle.sm_syntax.specs.text.Sorts.{Sorts, IsWellSorted}
-use Rattle.sm_term.specs.Assertions.{Assertion}
-use Rattle.sm_term.specs.Formulas.{numbered, assertion_in, IsFormulaWithin}
-use Rattle.sm_term.specs.declared.formula.Formula.{Formula}
-use Rattle.sm_term.specs.Sorted.{IsFormSorted, IsStoreSorted}
-use Rattle.sm_term.specs.Symbolic.{SymbolicStore, form_of}
-use Rattle.sm_term.specs.SymStores.{store_in, IsStoreWithin}
-use Rattle.sm_term.specs.declared.symbolic.SymStore.{SymStore}
-use Rattle.sm_term.specs.Tables.{TableValue, trees_in, sorts_in}
-use Rattle.sm_term.specs.TableLaws.{AddsTerms}
-use Rattle.sm_term.specs.Terms.{Tree}
-use Rattle.sm_term.proofs.ExpressionLemmas.{store-more}
-use Rattle.sm_term.proofs.FormsLemmas.{assertion-more, form_kept}
-use Rattle.sm_plan.specs.ReadyStates.{IsFormReady}
-use Rattle.sm_plan.specs.Statements.{loop_guard}
 use Rattle.sm_plan.proofs.SortedCode.{guard_well}
 use Rattle.sm_plan.proofs.SortedTerms.{form_sorted}
 

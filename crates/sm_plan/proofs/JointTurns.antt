@@ -1,9 +1,5 @@
 -- Loops side by side: what each joint turn keeps, holds where all have ended.
-use Rattle.std.proofs.Common.{◌≡◌, ℕ, zero, suc, Bool, true, false, Option, Some, refl, ap, sym, ◌∙◌, subst, ⊎_elim}
-use Rattle.std.proofs.Math.Path.{fun_ext}
-use Rattle.sm_syntax.specs.claim.Stores.{Store}
-use Rattle.sm_syntax.specs.claim.Meaning.{turns}
-use Rattle.sm_syntax.specs.claim.ConflictFree.{Copy}
+use Rattle.sm_plan.proofs.Imports.{◌≡◌, ℕ, zero, suc, Bool, true, false, Option, Some, refl, ap, sym, ◌∙◌, subst, ⊎_elim, fun_ext, Store, turns, Copy}
 use Rattle.sm_plan.proofs.CopiesLemmas.{some_or_none}
 use Rattle.sm_plan.proofs.StatementsLemmas.{one_turn, no_turn, still}
 

@@ -1,19 +1,8 @@
 -- Formulas that nodes keep: their size, and the parts of a conjunction.
-use Rattle.std.proofs.Common.{◌≡◌, ◌⊎◌, ℕ, ◌+◌, ◌<◌, ◌≤◌, max, nat_le, inl, inr, Bool, true, false, ◌&&◌, Option, Some, None, is_some, List, [], ◌∷◌, ◌++◌, map, length, refl, sym, ap, ◌∙◌, subst, ⊎_elim, arith}
-use Rattle.std.specs.Prelude.{MatchOption}
-use Rattle.std.proofs.lemmas.Bool.{and_from, le-leb}
-use Rattle.std.proofs.lemmas.Bool.Decides.{leb_tells}
-use Rattle.std.proofs.lemmas.List.{map-append}
-use Rattle.sm_syntax.specs.text.Sorts.{Sorts}
-use Rattle.sm_term.specs.Assertions.{conj}
-use Rattle.sm_term.specs.Formulas.{NumberedFormula, Yes, No, Eq, Ne, Le, Lt, And, Or, numbered, assertion_in, IsFormulaWithin}
-use Rattle.sm_term.specs.declared.formula.Formula.{Formula}
-use Rattle.sm_term.specs.Sorted.{AreFormsSorted}
-use Rattle.sm_term.specs.Terms.{Tree}
-use Rattle.sm_plan.specs.Kept.{nodes_in, depth_in, parts_in}
-use Rattle.sm_plan.specs.Limits.{form_nodes, form_depth, is_kept}
-use Rattle.sm_plan.specs.ReadyStates.{IsFormReady, AreFormsReady}
-use Rattle.sm_plan.specs.Views.{forms_in}
+use Rattle.sm_plan.proofs.Imports.{◌≡◌, ◌⊎◌, ℕ, ◌+◌, ◌<◌, ◌≤◌, max, nat_le, inl, inr, Bool, true, false, ◌&&◌, Option, Some, None, List, [], ◌∷◌, ◌++◌, map, length, refl, sym, ap, ◌∙◌, subst, ⊎_elim, arith, MatchOption, and_from, le-leb, leb_tells, map-append, Sorts, conj, NumberedFormula, numbered, assertion_in, IsFormulaWithin, Formula, AreFormsSorted, Tree, nodes_in, depth_in, parts_in, form_nodes, form_depth, IsFormReady, AreFormsReady, forms_in}
+use Rattle.std.proofs.Common.{is_some}
+use Rattle.sm_term.specs.Formulas.{Yes, No, Eq, Ne, Le, Lt, And, Or}
+use Rattle.sm_plan.specs.Limits.{is_kept}
 use Rattle.sm_plan.proofs.FillingForms.{AreFormsWithin, ready_from}
 use Rattle.sm_plan.proofs.SortedTerms.{conj_sorted}
 

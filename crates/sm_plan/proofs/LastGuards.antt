@@ -1,12 +1,7 @@
 -- The last statement of a block.
-use Rattle.std.proofs.Common.{◌≡◌, ℕ, zero, suc, ◌+◌, false, if◌then◌else◌, Some, is_none, List, [], ◌∷◌, length, get_or, refl, sym, ap, ◌∙◌, arith}
-use Rattle.sm_syntax.specs.claim.Syntax.{Code, End}
-use Rattle.sm_syntax.specs.trees.Views.{statement_of, code_of}
-use Rattle.sm_syntax.specs.declared.tree.Stmt.{Stmt}
+use Rattle.sm_plan.proofs.Imports.{◌≡◌, ℕ, zero, suc, ◌+◌, false, if◌then◌else◌, Some, is_none, List, [], ◌∷◌, length, get_or, refl, sym, ap, ◌∙◌, arith, Code, End, statement_of, code_of, Stmt, block_is, Statement, put_before, is_over, last_guard, code_before}
 use Rattle.sm_syntax.specs.declared.tree.Block.{Block}
-use Rattle.sm_syntax.proofs.Blocks.{block_is}
-use Rattle.sm_plan.specs.Statements.{Statement, Skip, Assign, Write, If, While, Hole, put_before, is_over, last_guard}
-use Rattle.sm_plan.specs.Views.{code_before}
+use Rattle.sm_plan.specs.Statements.{Skip, Assign, Write, If, While, Hole}
 use Rattle.sm_plan.proofs.RestsLemmas.{stands, put_first}
 
 not_over : (u : Stmt) (k : Code) → is_over (statement_of u k) ≡ false

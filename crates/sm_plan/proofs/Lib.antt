@@ -1,3 +1,4 @@
+mod Imports
 pub mod CopiesLemmas
 pub mod StatementsLemmas
 pub mod JointTurns

@@ -1,16 +1,5 @@
 -- What loops open: a turn for each set of copies, and what comes after.
-use Rattle.std.proofs.Common.{◌≡◌, ℕ, Bool, true, false, if◌then◌else◌, Option, Some, None, List, [], ◌∷◌, ◌++◌, refl, sym, ap, ◌∙◌}
-use Rattle.std.specs.List.{flat_map}
-use Rattle.std.proofs.Math.Path.{fun_ext}
-use Rattle.sm_syntax.specs.claim.ConflictFree.{Copy}
-use Rattle.sm_term.specs.Assertions.{Assertion, negate, conj}
-use Rattle.sm_term.specs.Slots.{all_at_stores}
-use Rattle.sm_term.specs.Symbolic.{SymbolicStore, form_of}
-use Rattle.sm_plan.specs.Copies.{Copies, copies, no_copies, has}
-use Rattle.sm_plan.specs.Heads.{turned, turned_guards, guards_at, turn_of, after_of}
-use Rattle.sm_plan.specs.States.{State}
-use Rattle.sm_plan.specs.Statements.{loop_guard}
-use Rattle.sm_plan.specs.Successors.{guard_fact, head_stores, turn_state, after_loops_state}
+use Rattle.sm_plan.proofs.Imports.{◌≡◌, ℕ, Bool, true, false, if◌then◌else◌, Option, Some, None, List, [], ◌∷◌, ◌++◌, refl, sym, ap, ◌∙◌, flat_map, fun_ext, Copy, Assertion, negate, conj, all_at_stores, SymbolicStore, form_of, Copies, copies, no_copies, has, turned, turned_guards, guards_at, turn_of, after_of, State, loop_guard, guard_fact, head_stores, turn_state, after_loops_state}
 
 -- the facts of guards
 guards_same : (st : State) (set turning : Copies) (s : Copy → SymbolicStore) →

@@ -1,30 +1,10 @@
 -- Nodes that move all copies: ends, loops side by side, and blocks.
-use Rattle.std.proofs.Common.{◌≡◌, ℕ, Bool, true, false, not, ◌&&◌, ◌||◌, if◌then◌else◌, Option, Some, List, [], ◌∷◌, ◌++◌, map, inl, inr, refl, ap, sym, ◌∙◌, subst, ⊎_elim, eq-eqb}
-use Rattle.std.specs.List.{flat_map}
-use Rattle.std.proofs.Math.Path.{fun_ext}
-use Rattle.std.proofs.lemmas.Option.{same_Some}
-use Rattle.std.proofs.lemmas.Bool.{and_parts, cases_Bool}
-use Rattle.sm_syntax.specs.claim.Syntax.{Code, End, While}
-use Rattle.sm_syntax.specs.claim.Stores.{Store}
-use Rattle.sm_syntax.specs.claim.Meaning.{truth_of, turns, run}
-use Rattle.sm_syntax.specs.Assigns.{assigns}
-use Rattle.sm_syntax.specs.claim.ConflictFree.{Copy}
-use Rattle.sm_syntax.proofs.Unassigned.{unassigned}
-use Rattle.sm_term.specs.Terms.{Havoc}
-use Rattle.sm_term.specs.Structures.{Structure, meaning, with_slots, with_havoc}
-use Rattle.sm_term.specs.Assertions.{Assertion, Holds, AllHold, negate, conj}
-use Rattle.sm_term.specs.Symbolic.{SymbolicStore, store_meant, form_of}
-use Rattle.sm_term.specs.Slots.{all_at_stores}
-use Rattle.sm_term.specs.Fresh.{IsFormBelow}
-use Rattle.sm_term.proofs.AssertionsLemmas.{form_means, contrary, holds_append, conj_means}
+use Rattle.sm_plan.proofs.Imports.{◌≡◌, ℕ, Bool, true, false, not, ◌&&◌, ◌||◌, if◌then◌else◌, Option, Some, List, [], ◌∷◌, ◌++◌, map, inl, inr, refl, ap, sym, ◌∙◌, subst, ⊎_elim, flat_map, fun_ext, same_Some, and_parts, cases_Bool, Code, End, Store, truth_of, turns, run, assigns, Copy, unassigned, Havoc, Structure, meaning, with_slots, with_havoc, Assertion, Holds, AllHold, negate, conj, SymbolicStore, store_meant, form_of, all_at_stores, IsFormBelow, form_means, holds_append, conj_means, fresh_meaning, fresh_means, fresh_all, Copies, copies, each, has, copies_that, no_copies, is_inhabited, subsets, is_over, rest_after, is_loop, loop_guard, loop_body, State, AllValid, IsSound, AreSound, IsStateBelow}
+use Rattle.std.proofs.Common.{eq-eqb}
+use Rattle.sm_syntax.specs.claim.Syntax.{While}
+use Rattle.sm_term.proofs.AssertionsLemmas.{contrary}
 use Rattle.sm_term.proofs.SlotsLemmas.{all_at_stores_mean}
-use Rattle.sm_term.proofs.FreshLemmas.{fresh_meaning, fresh_means, fresh_all}
-use Rattle.sm_plan.specs.Copies.{Copies, copies, each, has, copies_that, no_copies, is_inhabited, subsets}
-use Rattle.sm_plan.specs.Statements.{is_over, rest_after, is_loop, loop_guard, loop_body}
-use Rattle.sm_plan.specs.States.{State}
 use Rattle.sm_plan.specs.Successors as next
-use Rattle.sm_plan.specs.Plans.{AllValid}
-use Rattle.sm_plan.specs.SoundStates.{IsSound, AreSound, IsStateBelow}
 use Rattle.sm_plan.proofs.CopiesLemmas.{each_true, has_that, inhabited_by, In, in_subsets}
 use Rattle.sm_plan.proofs.StatementsLemmas.{ends_then, run_cut, still, loop_is, over_is}
 use Rattle.sm_plan.proofs.JointTurns.{Joint, together}

@@ -1,8 +1,5 @@
 -- Sets of copies as masks, by their sixteen cases.
-use Rattle.std.proofs.Common.{◌≡◌, ℕ, ◌==◌, bit_and, Bool, true, false, map, refl}
-use Rattle.std.specs.List.{filter, range_with_len}
-use Rattle.sm_plan.specs.Copies.{Copies, subsets}
-use Rattle.sm_plan.specs.Masks.{mask_of, set_of}
+use Rattle.sm_plan.proofs.Imports.{◌≡◌, ℕ, ◌==◌, bit_and, Bool, true, false, map, refl, filter, range_with_len, Copies, subsets, mask_of, set_of}
 
 -- the subsets of a set have ascending masks
 pub subsets_ascend : (set : Copies) → map mask_of (subsets set) ≡ filter (λ (v : ℕ). bit_and v (mask_of set) == v) (range_with_len 1 15)

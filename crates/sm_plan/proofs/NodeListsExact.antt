@@ -1,15 +1,10 @@
 -- Plans and lists of nodes: the nodes of a plan prove what it proves, and nodes that prove a task's start are a plan's.
-use Rattle.std.proofs.Common.{◌≡◌, ◌≤◌, ℕ, suc, ◌+◌, ◌==◌, Bool, true, false, if◌then◌else◌, max, Some, Result, Ok, Err, List, [], ◌∷◌, ◌++◌, length, refl, ap, sym, ◌∙◌, subst, arith, eq-eqb}
-use Rattle.std.proofs.lemmas.Bool.Decides.{nat_tests}
+use Rattle.sm_plan.proofs.Imports.{◌≡◌, ◌≤◌, ℕ, suc, ◌+◌, ◌==◌, Bool, true, false, if◌then◌else◌, max, Some, Result, Ok, Err, List, [], ◌∷◌, ◌++◌, length, refl, ap, sym, ◌∙◌, subst, arith, nat_tests, Task, Assertion, State, start_state, Node, opened_by, rule_of, is_branching, Plan, At, Plans, More, size, sizes, count, nodes_of, all_nodes, branches, most_branches, IsFresh, AreFresh, Due, Fault, Wrong, Deep, due, joined, expand, expand_all, obligations, AllValid, AllDischarged, Pending, above_opened, pending_states, states_of, NodesProve, start_pending}
+use Rattle.std.proofs.Common.{eq-eqb}
 use Rattle.std.proofs.lemmas.List.{append_assoc, append-nil}
-use Rattle.sm_syntax.specs.claim.ConflictFree.{Task}
-use Rattle.sm_term.specs.Assertions.{Assertion}
 use Rattle.sm_plan.specs.Limits.{is_shallow}
-use Rattle.sm_plan.specs.States.{State, start_state}
-use Rattle.sm_plan.specs.Nodes.{Node, Opened, opened_by, rule_of, is_branching}
-use Rattle.sm_plan.specs.Plans.{Plan, At, Plans, Over, More, size, sizes, count, nodes_of, all_nodes, branches, most_branches, IsFresh, AreFresh, Due, Fault, Wrong, Deep, due, joined, expand, expand_all, obligations, AllValid}
-use Rattle.sm_plan.specs.Plans.{AllDischarged}
-use Rattle.sm_plan.specs.NodeLists.{Pending, above_opened, pending_states, states_of, NodesProve, start_pending}
+use Rattle.sm_plan.specs.Nodes.{Opened}
+use Rattle.sm_plan.specs.Plans.{Over}
 use Rattle.sm_plan.proofs.PlanSound.{opened_is, passed, joined_is, parts_discharged, due_valid, shallow, states-pending}
 
 -- few enough branching nodes

@@ -1,25 +1,12 @@
 -- Sorts are kept by each node.
-use Rattle.std.proofs.Common.{◌≡◌, ℕ, Bool, true, false, nat_le, ◌&&◌, not, ◌||◌, Option, Some, None, [], ◌∷◌, ◌++◌, map, refl, subst}
-use Rattle.std.proofs.lemmas.Option.{same_Some}
+use Rattle.sm_plan.proofs.Imports.{◌≡◌, ℕ, Bool, true, false, nat_le, ◌&&◌, not, ◌||◌, Option, Some, None, [], ◌∷◌, ◌++◌, map, refl, subst, same_Some, Code, append, Copy, Sorts, IsWellSorted, negate, conj, SymbolicStore, form_of, all_at_stores, AreFormsSorted, each, has, is_inhabited, subsets, is_over, is_long, front, rest_after, is_loop, is_kept, State, Node, Step, Abs, Fork, Loop, Dead, Ends, Unfit, follows, asks, where_true, after_step, both_ways, opened_by, IsStateSorted, AreStatesSorted, IsNodeSorted, negate_sorted}
 use Rattle.sm_syntax.specs.claim.Syntax as syntax
-use Rattle.sm_syntax.specs.claim.Syntax.{Code, append}
-use Rattle.sm_syntax.specs.claim.ConflictFree.{Copy}
-use Rattle.sm_syntax.specs.text.Sorts.{Sorts, IsWellSorted}
-use Rattle.sm_term.specs.Assertions.{No, negate, conj}
-use Rattle.sm_term.specs.Symbolic.{SymbolicStore, form_of}
-use Rattle.sm_term.specs.Slots.{all_at_stores}
-use Rattle.sm_term.specs.Sorted.{AreFormsSorted}
-use Rattle.sm_plan.specs.Copies.{each, has, is_inhabited, subsets}
-use Rattle.sm_plan.specs.Statements.{is_over, is_long, front, rest_after, is_loop}
-use Rattle.sm_plan.specs.Limits.{is_kept}
-use Rattle.sm_plan.specs.States.{State}
+use Rattle.sm_term.specs.Assertions.{No}
 use Rattle.sm_plan.specs.Successors as next
-use Rattle.sm_plan.specs.Nodes.{Node, Step, Abs, Fork, Loop, Block, Dead, Ends, Unfit, Opened, follows, asks, where_true, after_step, both_ways, opened_by}
-use Rattle.sm_plan.specs.SortedStates.{IsStateSorted, AreStatesSorted, IsNodeSorted}
+use Rattle.sm_plan.specs.Nodes.{Block, Opened}
 use Rattle.sm_plan.proofs.SortedCode.{append_well, front_well, rest_well}
 use Rattle.sm_plan.proofs.SortedTerms.{form_sorted, conj_sorted, all_at_stores_sorted}
 use Rattle.sm_plan.proofs.SortedStates.{stepped_sorted, states_append, moved_sorted, moved_alone, summary_sorted, turns_sorted, after_sorted, inner_sorted, after_block_sorted}
-use Rattle.sm_term.proofs.SortedForms.{negate_sorted}
 
 -- goals and states are sorted
 abbrev pub AreOpenedSorted : Sorts → Opened → Type 0

@@ -1,22 +1,9 @@
 -- One node of a plan: its state is sound where what it opens is, and what it opens names no later value.
-use Rattle.std.proofs.Common.{◌≡◌, ℕ, suc, Bool, true, false, not, ◌&&◌, ◌||◌, nat_le, Option, Some, None, List, [], ◌∷◌, ◌++◌, map, refl, sym, subst, arith}
-use Rattle.std.proofs.lemmas.Option.{same_Some}
-use Rattle.std.proofs.lemmas.Bool.{and_parts}
-use Rattle.sm_syntax.specs.claim.Syntax.{Code, End, Skip, Assign, Write, If, While, Hole, append}
-use Rattle.sm_syntax.specs.claim.ConflictFree.{Copy}
-use Rattle.sm_term.specs.Assertions.{No, negate, conj}
-use Rattle.sm_term.specs.Symbolic.{SymbolicStore, form_of}
-use Rattle.sm_term.specs.Slots.{all_at_stores}
-use Rattle.sm_term.specs.Fresh.{AreFormsBelow}
-use Rattle.sm_term.proofs.FreshLemmas.{forms_later}
-use Rattle.sm_plan.specs.Copies.{each, has, is_inhabited, subsets}
-use Rattle.sm_plan.specs.Statements.{is_over, is_long, front, rest_after, is_loop, last_guard}
-use Rattle.sm_plan.specs.Limits.{is_kept}
-use Rattle.sm_plan.specs.States.{State}
+use Rattle.sm_plan.proofs.Imports.{◌≡◌, ℕ, suc, Bool, true, false, not, ◌&&◌, ◌||◌, nat_le, Option, Some, None, List, [], ◌∷◌, ◌++◌, map, refl, sym, subst, arith, same_Some, and_parts, Code, End, append, Copy, negate, conj, SymbolicStore, form_of, all_at_stores, AreFormsBelow, forms_later, each, has, is_inhabited, subsets, is_over, is_long, front, rest_after, is_loop, last_guard, is_kept, State, Node, Step, Abs, Fork, Loop, Dead, Ends, Unfit, follows, asks, where_true, after_step, both_ways, opened_by, IsFreshAt, AllValid, IsSound, AreSound, IsStateBelow, AreStatesBelow}
+use Rattle.sm_syntax.specs.claim.Syntax.{Skip, Assign, Write, If, While, Hole}
+use Rattle.sm_term.specs.Assertions.{No}
 use Rattle.sm_plan.specs.Successors as next
-use Rattle.sm_plan.specs.Nodes.{Node, Step, Abs, Fork, Loop, Block, Dead, Ends, Unfit, Opened, follows, asks, where_true, after_step, both_ways, opened_by, IsFreshAt}
-use Rattle.sm_plan.specs.Plans.{AllValid}
-use Rattle.sm_plan.specs.SoundStates.{IsSound, AreSound, IsStateBelow, AreStatesBelow}
+use Rattle.sm_plan.specs.Nodes.{Block, Opened}
 use Rattle.sm_plan.proofs.CopySound.{step_sound, both_ways_sound, summary_sound}
 use Rattle.sm_plan.proofs.LoopsSound.{ends_sound, block_sound, loop_node_sound}
 use Rattle.sm_plan.proofs.BelowLemmas.{conj_below, all_at_stores_below, stepped_below, moved_below, form_below, negate_below, summarized_below, false_guard_below, state_later, states_append, turns_below, after_below, inner_below}

@@ -1,7 +1,6 @@
 -- What a test lets through is what was opened.
-use Rattle.std.proofs.Common.{◌≡◌, Bool, true, false, Some}
-use Rattle.std.proofs.lemmas.Option.{same_Some}
-use Rattle.sm_plan.specs.Nodes.{Opened, where_true}
+use Rattle.sm_plan.proofs.Imports.{◌≡◌, Bool, true, false, Some, same_Some, where_true}
+use Rattle.sm_plan.specs.Nodes.{Opened}
 
 -- what is let through where a test holds
 pub opened_same : (b : Bool) (p q : Opened) → where_true b p ≡ Some q → p ≡ q

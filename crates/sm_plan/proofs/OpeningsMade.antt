@@ -1,16 +1,8 @@
 -- What is opened where one state follows, or two.
-use Rattle.std.proofs.Common.{◌≡◌, Option, Some, List, [], map, inl, sym, ap, ◌∙◌, subst, append-nil}
-use Rattle.sm_syntax.specs.text.Sorts.{Sorts}
-use Rattle.sm_term.specs.declared.formula.Formula.{Formula}
-use Rattle.sm_term.specs.Assertions.{Assertion}
-use Rattle.sm_term.specs.Terms.{Tree}
-use Rattle.sm_term.specs.Tables.{TableValue, trees_in, sorts_in}
+use Rattle.sm_plan.proofs.Imports.{◌≡◌, Option, Some, List, [], map, inl, sym, ap, ◌∙◌, subst, Sorts, Formula, Assertion, Tree, TableValue, trees_in, sorts_in, IsOpening, State, with_facts, forms_in, successor_in, AreFormsReady, AreSuccessorsReady, AreStoresReady}
+use Rattle.std.proofs.Common.{append-nil}
 use Rattle.sm_plan.specs.Nodes as plan
-use Rattle.sm_plan.specs.Openings.{IsOpening}
-use Rattle.sm_plan.specs.States.{State}
-use Rattle.sm_plan.specs.Successors.{with_facts}
-use Rattle.sm_plan.specs.Views.{forms_in, successor_in, SymState, Opened}
-use Rattle.sm_plan.specs.ReadyStates.{AreFormsReady, AreSuccessorsReady, AreStoresReady}
+use Rattle.sm_plan.specs.Views.{SymState, Opened}
 
 -- no more facts
 pub no_facts : (st : State) → with_facts st [] ≡ st

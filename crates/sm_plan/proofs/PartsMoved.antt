@@ -1,24 +1,6 @@
 -- A state in which one copy has another rest and another store.
-use Rattle.std.proofs.Common.{◌≡◌, ℕ, Bool, true, false, if◌then◌else◌, List, ◌++◌, length, slice_get, ◌<◌, refl, sym, ap, ◌∙◌, subst}
-use Rattle.std.proofs.Math.Path.{fun_ext}
-use Rattle.sm_syntax.specs.claim.Syntax.{Code}
-use Rattle.sm_syntax.specs.claim.ConflictFree.{Copy, O, A, B, M}
-use Rattle.sm_syntax.specs.text.Sorts.{Sorts, IsWellSorted}
-use Rattle.sm_syntax.specs.trees.Copies.{of_copy}
-use Rattle.sm_term.specs.SameTerms.{is_copy}
-use Rattle.sm_term.specs.Assertions.{Assertion}
-use Rattle.sm_term.specs.Symbolic.{SymbolicStore}
-use Rattle.sm_term.specs.SymStores.{tree_or_start, store_in}
-use Rattle.sm_term.specs.declared.symbolic.SymStore.{SymStore}
-use Rattle.sm_term.specs.Sorted.{IsDeclaredIn, IsStoreSorted}
-use Rattle.sm_term.specs.Terms.{Tree}
-use Rattle.sm_term.specs.Tables.{TableValue, trees_in, sorts_in, AreBefore}
-use Rattle.sm_term.specs.declared.term.TermId.{TermId}
-use Rattle.sm_term.specs.TableLaws.{ExtendsTable}
-use Rattle.sm_plan.specs.Copies.{with_copy}
-use Rattle.sm_plan.specs.Successors.{moved, with_facts}
-use Rattle.sm_plan.specs.Views.{rest_code, forms_in, stores_in, state_in, SymState}
-use Rattle.sm_plan.specs.ReadyStates.{AreFormsReady, IsStoreReady, IsStoreFull, IsStateReady}
+use Rattle.sm_plan.proofs.Imports.{◌≡◌, ℕ, Bool, true, false, if◌then◌else◌, List, ◌++◌, length, slice_get, ◌<◌, refl, sym, ap, ◌∙◌, subst, fun_ext, Code, Copy, O, A, B, M, Sorts, IsWellSorted, of_copy, is_copy, Assertion, SymbolicStore, tree_or_start, store_in, SymStore, IsDeclaredIn, IsStoreSorted, Tree, TableValue, trees_in, sorts_in, AreBefore, TermId, ExtendsTable, with_copy, moved, with_facts, rest_code, forms_in, stores_in, state_in, AreFormsReady, IsStoreReady, IsStoreFull, IsStateReady}
+use Rattle.sm_plan.specs.Views.{SymState}
 use Rattle.sm_plan.proofs.TablesWiden.{store_stays, store_ready, forms_stay, forms_ready}
 
 -- a copy that is given twice has what it is given last

@@ -1,25 +1,9 @@
 -- Whole proofs: from the obligations of a plan, or from a list of nodes, to a merge that is free of conflicts.
-use Rattle.std.proofs.Common.{◌≡◌, ◌<◌, ℕ, suc, ◌+◌, ◌==◌, ℤ, pos, Bool, true, false, if◌then◌else◌, Option, Some, None, Result, Ok, Err, List, [], ◌∷◌, ◌++◌, length, inl, inr, refl, ap, sym, subst, ⊎_elim, arith}
-use Rattle.std.specs.Prelude.{Contains, All}
-use Rattle.std.proofs.lemmas.List.Elements.{All-nil, All-cons, All-contains}
-use Rattle.std.specs.List.{flat_map}
-use Rattle.sm_syntax.specs.declared.tree.Sort.{Sort}
-use Rattle.sm_syntax.specs.claim.Syntax.{Condition}
-use Rattle.sm_syntax.specs.claim.Stores.{number, zero_value, Store}
-use Rattle.sm_syntax.specs.claim.Keeps.{KeepsChange, Keeps, Cell, Scalar, Element, variable}
-use Rattle.sm_syntax.specs.claim.ConflictFree.{Copy, O, A, B, M, Meets, Task, ConflictFree}
+use Rattle.sm_plan.proofs.Imports.{◌≡◌, ◌<◌, ℕ, suc, ◌+◌, ◌==◌, ℤ, pos, Bool, true, false, if◌then◌else◌, Option, Some, None, Result, Ok, Err, List, [], ◌∷◌, ◌++◌, length, inl, inr, refl, ap, sym, subst, ⊎_elim, arith, Contains, All, All-nil, All-cons, All-contains, flat_map, Sort, Condition, number, zero_value, Store, KeepsChange, Keeps, Scalar, Element, variable, Copy, O, A, B, M, Meets, Task, ConflictFree, Tree, Structure, meaning, with_slots, Assertion, AllHold, form_of, form_means, holds_parts, conj_means, is_shallow, State, place, keeps_goals, start_store, start_facts, start_state, Node, opened_by, rule_of, Plan, At, Plans, More, size, count, branches, IsFresh, AreFresh, Due, Fault, Wrong, Deep, due, joined, opened, expand, expand_all, obligations, AllValid, AllDischarged, Pending, above_opened, pending_states, states_of, NodesProve, start_pending, IsSound, AreSound, IsStateBelow, AreStatesBelow}
+use Rattle.sm_syntax.specs.claim.Keeps.{Cell}
 use Rattle.sm_syntax.proofs.Kept.{int_cases}
-use Rattle.sm_term.specs.Terms.{Tree}
-use Rattle.sm_term.specs.Structures.{Structure, meaning, with_slots}
-use Rattle.sm_term.specs.Assertions.{Assertion, AllHold}
-use Rattle.sm_term.specs.Symbolic.{form_of}
-use Rattle.sm_term.proofs.AssertionsLemmas.{form_means, holds_parts, conj_means}
-use Rattle.sm_plan.specs.Limits.{is_shallow}
-use Rattle.sm_plan.specs.States.{State, place, keeps_goals, start_store, start_facts, start_state}
-use Rattle.sm_plan.specs.Nodes.{Node, Opened, opened_by, rule_of}
-use Rattle.sm_plan.specs.Plans.{Plan, At, Plans, Over, More, size, count, branches, IsFresh, AreFresh, Due, Fault, Wrong, Deep, due, joined, opened, expand, expand_all, obligations, AllValid, AllDischarged}
-use Rattle.sm_plan.specs.NodeLists.{Pending, above_opened, pending_states, states_of, NodesProve, start_pending}
-use Rattle.sm_plan.specs.SoundStates.{IsSound, AreSound, IsStateBelow, AreStatesBelow}
+use Rattle.sm_plan.specs.Nodes.{Opened}
+use Rattle.sm_plan.specs.Plans.{Over}
 use Rattle.sm_plan.proofs.CopiesLemmas.{In}
 use Rattle.sm_plan.proofs.LoopsSound.{sound_parts}
 use Rattle.sm_plan.proofs.BelowLemmas.{states_later, states_append, start_below}

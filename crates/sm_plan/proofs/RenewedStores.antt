@@ -1,27 +1,6 @@
 -- Stores in which names have new values, one name after the other.
-use Rattle.std.proofs.Common.{◌≡◌, ℕ, zero, suc, ◌+◌, ◌<◌, ◌==◌, ◌||◌, Bool, true, false, if◌then◌else◌, List, [], ◌∷◌, ◌++◌, length, get_or, take, slice_get, refl, sym, ap, ◌∙◌, subst, arith}
-use Rattle.std.proofs.Math.Path.{fun_ext}
-use Rattle.std.proofs.lemmas.Bool.{eqb-true, eq-eqb}
-use Rattle.std.proofs.lemmas.List.{map_more}
-use Rattle.sm_syntax.specs.declared.tree.Name.{Name}
-use Rattle.sm_syntax.specs.claim.ConflictFree.{Copy, O, A, B, M}
-use Rattle.sm_syntax.specs.claim.Syntax.{Code}
-use Rattle.sm_syntax.specs.Assigns.{assigns}
-use Rattle.sm_syntax.specs.text.Conditions.{is_in}
-use Rattle.sm_syntax.specs.text.Sorts.{Sorts, IsWellSorted}
-use Rattle.sm_syntax.specs.trees.Copies.{number_of}
-use Rattle.sm_term.specs.Rows.{names_in_list}
-use Rattle.sm_term.specs.Sorted.{IsDeclaredIn, IsStoreSorted}
-use Rattle.sm_term.specs.Symbolic.{SymbolicStore, with_term}
-use Rattle.sm_term.specs.Terms.{Tree, Havoc}
-use Rattle.sm_term.specs.SymStores.{tree_or_start, store_in, IsStoreWithin}
-use Rattle.sm_term.specs.declared.symbolic.SymStore.{SymStore}
-use Rattle.sm_term.specs.Tables.{TableValue, trees_in, sorts_in}
-use Rattle.sm_term.specs.declared.term.TermId.{TermId}
-use Rattle.sm_term.specs.TableLaws.{AddsTerms}
-use Rattle.sm_term.proofs.ExpressionLemmas.{store-more, within_more, sorted_more}
-use Rattle.sm_plan.specs.ReadyStates.{IsStoreReady, IsStoreFull}
-use Rattle.sm_plan.specs.Heads.{with_new}
+use Rattle.sm_plan.proofs.Imports.{◌≡◌, ℕ, zero, suc, ◌+◌, ◌<◌, ◌==◌, ◌||◌, Bool, true, false, if◌then◌else◌, List, [], ◌∷◌, ◌++◌, length, get_or, take, slice_get, refl, sym, ap, ◌∙◌, subst, arith, fun_ext, eqb-true, map_more, Name, Copy, O, A, B, M, Code, assigns, is_in, Sorts, IsWellSorted, number_of, names_in_list, IsDeclaredIn, IsStoreSorted, SymbolicStore, with_term, Tree, Havoc, tree_or_start, store_in, IsStoreWithin, SymStore, TableValue, trees_in, sorts_in, TermId, AddsTerms, store-more, within_more, sorted_more, IsStoreReady, IsStoreFull, with_new}
+use Rattle.std.proofs.lemmas.Bool.{eq-eqb}
 use Rattle.sm_plan.proofs.SortedStates.{renewed_sorted}
 
 pub number_below : (c : Copy) → number_of c < 4

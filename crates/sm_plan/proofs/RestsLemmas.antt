@@ -1,15 +1,8 @@
 -- What is left of programs, as slices of statements.
-use Rattle.std.proofs.Common.{◌≡◌, ℕ, zero, suc, ◌+◌, ◌≤◌, ◌<◌, ◌-◌, true, Some, None, List, [], ◌∷◌, ◌++◌, length, take, drop, drop-cons, get_or, slice_get, refl, sym, ap, ◌∙◌, arith}
-use Rattle.std.proofs.lemmas.List.{take_more, take_all}
+use Rattle.sm_plan.proofs.Imports.{◌≡◌, ℕ, zero, suc, ◌+◌, ◌≤◌, ◌<◌, ◌-◌, true, Some, None, List, [], ◌∷◌, ◌++◌, length, take, drop, drop-cons, get_or, slice_get, refl, sym, ap, ◌∙◌, arith, take_more, take_all, take-suc-set, Code, End, expression_of, condition_of, sequence, statement_layer, statement_of, Stmt, Stmt-F, statement_layer_is, Statement, put_before, first_of, by_first, is_long, front, rest_after, code_before, frames_before}
 use Rattle.std.proofs.Math.ListN.{set, length-set}
-use Rattle.std.proofs.Math.Seq.{take-suc-set}
 use Rattle.sm_syntax.specs.declared.tree.Stmt.TheOpen as layer
-use Rattle.sm_syntax.specs.claim.Syntax.{Code, End}
-use Rattle.sm_syntax.specs.trees.Views.{expression_of, condition_of, sequence, statement_layer, statement_of}
-use Rattle.sm_syntax.specs.declared.tree.Stmt.{Stmt, Stmt-F}
-use Rattle.sm_syntax.proofs.Blocks.{statement_layer_is}
-use Rattle.sm_plan.specs.Statements.{Statement, Skip, Assign, Write, If, While, Hole, put_before, first_of, by_first, is_long, front, rest_after}
-use Rattle.sm_plan.specs.Views.{code_before, frames_before}
+use Rattle.sm_plan.specs.Statements.{Skip, Assign, Write, If, While, Hole}
 use denote.Bor.{Bor}
 
 -- the statement of a layer

@@ -1,9 +1,6 @@
 -- Parts of well-sorted code are well sorted.
-use Rattle.std.proofs.Common.{◌≡◌, ℕ, zero, suc, Bool, true, false, if◌then◌else◌, Some, subst}
-use Rattle.std.proofs.lemmas.Option.{same_Some}
-use Rattle.sm_syntax.specs.claim.Syntax.{Condition, Code, End, Skip, Assign, Write, If, While, Hole, append}
-use Rattle.sm_syntax.specs.text.Sorts.{Sorts, IsWellSortedCondition, IsWellSorted}
-use Rattle.sm_plan.specs.Statements.{is_over, front, rest_after, loop_guard, loop_body, last_guard}
+use Rattle.sm_plan.proofs.Imports.{◌≡◌, ℕ, zero, suc, Bool, true, false, if◌then◌else◌, Some, subst, same_Some, Condition, Code, End, append, Sorts, IsWellSortedCondition, IsWellSorted, is_over, front, rest_after, loop_guard, loop_body, last_guard}
+use Rattle.sm_syntax.specs.claim.Syntax.{Skip, Assign, Write, If, While, Hole}
 
 -- code after code
 pub append_well : (sorts : Sorts) (c d : Code) → IsWellSorted sorts c → IsWellSorted sorts d → IsWellSorted sorts (append c d)

@@ -1,33 +1,13 @@
 -- What a node opens at a sorted state is sorted.
-use Rattle.std.proofs.Common.{◌≡◌, ℕ, Bool, true, false, ◌==◌, if◌then◌else◌, Option, Some, None, is_some, List, [], ◌∷◌, ◌++◌, map, refl, ap, sym, ◌∙◌, subst}
-use Rattle.std.specs.List.{flat_map}
-use Rattle.std.proofs.lemmas.Bool.{eq-eqb, or_right, or_left}
+use Rattle.sm_plan.proofs.Imports.{◌≡◌, ℕ, Bool, true, false, ◌==◌, if◌then◌else◌, Option, Some, None, List, [], ◌∷◌, ◌++◌, map, refl, ap, sym, ◌∙◌, subst, flat_map, or_right, or_left, Condition, Code, append, Copy, O, A, B, M, Task, is_in, Sorts, IsWellSortedCondition, IsWellSorted, Sort, Num, Arr, assigns, Tree, Start, Havoc, Fun, Assertion, negate, conj, SymbolicStore, with_term, term_of, form_of, all_at_stores, sort_named, IsDeclaredIn, AreArgumentsSorted, HasSort, IsFormSorted, AreFormsSorted, IsStoreSorted, inputs, inputs_declared, assigned_declared, Copies, copies, has, no_copies, rest_after, loop_guard, loop_body, last_guard, State, place, keeps_goals, start_store, start_facts, start_state, IsStateSorted, AreStatesSorted, IsAssumptionSorted, AreOutputsDeclared, IsTaskSorted, named_declared, named, negate_sorted, forms_append}
+use Rattle.std.proofs.Common.{is_some}
+use Rattle.std.proofs.lemmas.Bool.{eq-eqb}
 use Rattle.sm_syntax.specs.claim.Syntax as syntax
-use Rattle.sm_syntax.specs.claim.Syntax.{Condition, Code, append}
-use Rattle.sm_syntax.specs.claim.ConflictFree.{Copy, O, A, B, M, Task}
-use Rattle.sm_syntax.specs.text.Conditions.{is_in}
-use Rattle.sm_syntax.specs.text.Sorts.{Sorts, IsWellSortedCondition, IsWellSorted}
-use Rattle.sm_syntax.specs.declared.tree.Sort.{Sort}
-use Rattle.sm_syntax.specs.declared.tree.Sort.TheVariants.{Num, Arr}
-use Rattle.sm_syntax.specs.Assigns.{assigns}
-use Rattle.sm_term.specs.Terms.{Tree, Start, Havoc, Write, Fun}
-use Rattle.sm_term.specs.Assertions.{Assertion, negate, conj}
-use Rattle.sm_term.specs.Symbolic.{SymbolicStore, with_term, term_of, form_of}
-use Rattle.sm_term.specs.Slots.{all_at_stores}
-use Rattle.sm_term.specs.Sorted.{sort_named, IsDeclaredIn, AreArgumentsSorted, HasSort, IsFormSorted, AreFormsSorted, IsStoreSorted}
-use Rattle.sm_deps.specs.Inputs.{inputs}
-use Rattle.sm_deps.proofs.InputsDeclared.{inputs_declared, assigned_declared}
-use Rattle.sm_plan.specs.Copies.{Copies, copies, has, no_copies}
-use Rattle.sm_plan.specs.Statements.{rest_after, loop_guard, loop_body, last_guard}
-use Rattle.sm_plan.specs.States.{State, place, keeps_goals, start_store, start_facts, start_state}
+use Rattle.sm_term.specs.Terms.{Write}
 use Rattle.sm_plan.specs.Successors as next
-use Rattle.sm_plan.specs.SortedStates.{IsStateSorted, AreStatesSorted, IsAssumptionSorted, AreOutputsDeclared, IsTaskSorted}
 use Rattle.sm_plan.proofs.CopiesLemmas.{one_copy}
 use Rattle.sm_plan.proofs.SortedCode.{front_well, rest_well, guard_well, body_well, last_guard_well}
 use Rattle.sm_plan.proofs.SortedTerms.{sort_is, of_declared, term_sorted, form_sorted, conj_sorted, all_at_stores_sorted, choice_sorted, with_term_sorted}
-use Rattle.sm_term.proofs.ExpressionLemmas.{named_declared}
-use Rattle.sm_term.proofs.TermsLemmas.{named}
-use Rattle.sm_term.proofs.SortedForms.{negate_sorted, forms_append}
 
 -- names with their present terms, each declared
 present_sorted : (sorts : Sorts) (s : SymbolicStore) → IsStoreSorted sorts s → (names : List ℕ) →

@@ -1,22 +1,10 @@
 -- Terms and formulas that are made of sorted ones are sorted.
-use Rattle.std.proofs.Common.{◌≡◌, ℕ, Bool, true, false, ◌==◌, if◌then◌else◌, Option, Some, None, unwrap_or, List, [], ◌∷◌, refl, ap, sym, ◌∙◌, subst}
-use Rattle.std.proofs.lemmas.Bool.{eqb-true}
-use Rattle.std.proofs.lemmas.Option.{same_Some}
+use Rattle.sm_plan.proofs.Imports.{◌≡◌, ℕ, Bool, true, false, ◌==◌, if◌then◌else◌, Option, Some, None, List, [], ◌∷◌, refl, ap, sym, ◌∙◌, subst, eqb-true, same_Some, Expression, Condition, Cmp, Copy, Sorts, IsWellSortedExpression, IsWellSortedCondition, Sort, Num, Arr, Tree, Lit, Start, Havoc, Slot, Read, Neg, Add, Sub, Mul, Fun, Arguments, Given, Assertion, negate, conj, SymbolicStore, with_term, term_of, comparison_form, form_of, fill_term, fill_arguments, at_stores, all_at_stores, sort_named, tree_sort, IsDeclaredIn, IsSorted, AreArgumentsSorted, HasSort, IsFormSorted, AreFormsSorted, IsStoreSorted, named, negate_sorted, forms_append}
+use Rattle.std.proofs.Common.{unwrap_or}
 use Rattle.sm_syntax.specs.declared.tree.Cmp.TheVariants as cmp
 use Rattle.sm_syntax.specs.claim.Syntax as syntax
-use Rattle.sm_syntax.specs.claim.Syntax.{Expression, Condition}
-use Rattle.sm_syntax.specs.declared.tree.Cmp.{Cmp}
-use Rattle.sm_syntax.specs.claim.ConflictFree.{Copy}
-use Rattle.sm_syntax.specs.text.Sorts.{Sorts, IsWellSortedExpression, IsWellSortedCondition}
-use Rattle.sm_syntax.specs.declared.tree.Sort.{Sort}
-use Rattle.sm_syntax.specs.declared.tree.Sort.TheVariants.{Num, Arr}
-use Rattle.sm_term.specs.Terms.{Tree, Lit, Start, Havoc, Slot, Cell, Read, Write, Neg, Add, Sub, Mul, Fun, Arguments, Over, Given}
-use Rattle.sm_term.specs.Assertions.{Assertion, Yes, No, Eq, Ne, Le, Lt, And, Or, negate, conj}
-use Rattle.sm_term.specs.Symbolic.{SymbolicStore, with_term, term_of, comparison_form, form_of}
-use Rattle.sm_term.specs.Slots.{fill_term, fill_arguments, at_stores, all_at_stores}
-use Rattle.sm_term.specs.Sorted.{sort_named, tree_sort, IsDeclaredIn, IsSorted, AreArgumentsSorted, HasSort, IsFormSorted, AreFormsSorted, IsStoreSorted}
-use Rattle.sm_term.proofs.TermsLemmas.{named}
-use Rattle.sm_term.proofs.SortedForms.{negate_sorted, forms_append}
+use Rattle.sm_term.specs.Terms.{Cell, Write, Over}
+use Rattle.sm_term.specs.Assertions.{Yes, No, Eq, Ne, Le, Lt, And, Or}
 
 -- the sort by which a name is named
 pub sort_is : (sorts : Sorts) (x : ℕ) (sort : Sort) → sorts x ≡ Some sort → sort_named sorts x ≡ sort

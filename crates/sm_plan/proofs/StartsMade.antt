@@ -1,24 +1,9 @@
 -- The start values of declared names, which are numbered from 0 on.
-use Rattle.std.proofs.Common.{◌≡◌, ℕ, zero, suc, ◌+◌, ◌<◌, ◌==◌, Bool, true, false, if◌then◌else◌, Option, Some, None, is_some, List, [], ◌∷◌, ◌++◌, length, map, get_or, slice_get, refl, sym, ap, ◌∙◌, arith}
-use Rattle.std.specs.List.{range_with_len}
-use Rattle.std.proofs.lemmas.Bool.{eq-eqb, eqb-true}
-use Rattle.std.proofs.lemmas.List.{length-map}
+use Rattle.sm_plan.proofs.Imports.{◌≡◌, ℕ, zero, suc, ◌+◌, ◌<◌, ◌==◌, Bool, true, false, if◌then◌else◌, Option, Some, None, List, [], ◌∷◌, ◌++◌, length, map, get_or, slice_get, refl, sym, ap, ◌∙◌, arith, range_with_len, eqb-true, length-map, slice_get_within, slice_get-get_or, same_Some, fun_ext, Name, Sort, sort_of, Tree, Start, tree_or_start, store_in, SymStore, TableValue, trees_in, tree_at, AreBefore, TermId, ExtendsTable, AreNumbered, start_store, get_mapped}
+use Rattle.std.proofs.Common.{is_some}
+use Rattle.std.proofs.lemmas.Bool.{eq-eqb}
 use Rattle.std.proofs.lemmas.List.FromFn.{get_or-range_with_len}
-use Rattle.std.proofs.lemmas.Option.{slice_get_within, slice_get-get_or, same_Some}
-use Rattle.std.proofs.Math.Path.{fun_ext}
-use Rattle.sm_syntax.specs.declared.tree.Name.{Name}
-use Rattle.sm_syntax.specs.declared.tree.Sort.{Sort}
-use Rattle.sm_syntax.specs.text.Parts.{sort_of}
-use Rattle.sm_term.specs.Terms.{Tree, Start}
-use Rattle.sm_term.specs.SymStores.{tree_or_start, store_in}
-use Rattle.sm_term.specs.declared.symbolic.SymStore.{SymStore}
-use Rattle.sm_term.specs.Tables.{TableValue, trees_in, tree_at, AreBefore}
-use Rattle.sm_term.specs.declared.term.TermId.{TermId}
-use Rattle.sm_term.specs.TableLaws.{ExtendsTable}
-use Rattle.sm_plan.specs.Starts.{AreNumbered}
-use Rattle.sm_plan.specs.States.{start_store}
 use Rattle.sm_plan.proofs.TablesWiden.{tree_stays}
-use Rattle.sm_lemmas.proofs.Lists.{get_mapped}
 
 -- declarations by number
 abbrev pub pairs : List (Name × Sort) → List (ℕ × Sort)

@@ -1,11 +1,6 @@
 -- Runs that are cut into parts.
-use Rattle.std.proofs.Common.{◌≡◌, ◌⊎◌, ℕ, zero, suc, Bool, true, false, if◌then◌else◌, Option, Some, None, inl, inr, refl, ap, sym, ◌∙◌, subst, ⊎_elim}
-use Rattle.std.proofs.lemmas.Option.{same_Some}
-use Rattle.sm_syntax.specs.claim.Syntax.{Condition, Code, End, Skip, Assign, Write, If, While, Hole, append}
-use Rattle.sm_syntax.specs.claim.Stores.{Store, put}
-use Rattle.sm_syntax.specs.claim.Meaning.{value_of, truth_of, and_then, turns, written, run}
-use Rattle.sm_syntax.proofs.Appends.{run-append}
-use Rattle.sm_plan.specs.Statements.{is_over, front, rest_after, is_loop, loop_guard, loop_body, last_guard}
+use Rattle.sm_plan.proofs.Imports.{◌≡◌, ◌⊎◌, ℕ, zero, suc, Bool, true, false, if◌then◌else◌, Option, Some, None, inl, inr, refl, ap, sym, ◌∙◌, subst, ⊎_elim, same_Some, Condition, Code, End, append, Store, put, value_of, truth_of, and_then, turns, written, run, run-append, is_over, front, rest_after, is_loop, loop_guard, loop_body, last_guard}
+use Rattle.sm_syntax.specs.claim.Syntax.{Skip, Assign, Write, If, While, Hole}
 
 -- an end of two parts is an end of the second after one of the first
 pub ends_then : (o : Option Store) (f : Store → Option Store) (t : Store) → and_then o f ≡ Some t

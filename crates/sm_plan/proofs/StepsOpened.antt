@@ -1,19 +1,7 @@
 -- What a step of a copy opens.
-use Rattle.std.proofs.Common.{◌≡◌, Some, List, [], ◌∷◌, ◌++◌, length, sym, ap, ◌∙◌, subst, arith}
-use Rattle.sm_syntax.specs.claim.ConflictFree.{Copy}
-use Rattle.sm_syntax.specs.text.Sorts.{IsWellSorted}
-use Rattle.sm_syntax.specs.trees.Copies.{of_copy}
-use Rattle.sm_term.specs.Assertions.{Assertion}
-use Rattle.sm_term.specs.Sorted.{IsStoreSorted}
-use Rattle.sm_term.specs.SymStores.{store_in, IsStoreWithin}
-use Rattle.sm_term.specs.declared.symbolic.SymStore.{SymStore}
-use Rattle.sm_term.specs.Tables.{TableValue, trees_in, sorts_in}
-use Rattle.sm_term.specs.TableLaws.{AddsTerms}
-use Rattle.sm_plan.specs.Copies.{with_copy}
+use Rattle.sm_plan.proofs.Imports.{◌≡◌, Some, List, [], ◌∷◌, ◌++◌, length, sym, ap, ◌∙◌, subst, arith, Copy, IsWellSorted, of_copy, Assertion, IsStoreSorted, store_in, IsStoreWithin, SymStore, TableValue, trees_in, sorts_in, AddsTerms, with_copy, stepped, moved, rest_code, state_in, Continuation, IsStoreFull, IsStateReady}
 use Rattle.sm_plan.specs.Nodes as plan
-use Rattle.sm_plan.specs.Successors.{stepped, moved}
-use Rattle.sm_plan.specs.Views.{rest_code, state_in, SymState, Continuation}
-use Rattle.sm_plan.specs.ReadyStates.{IsStoreFull, IsStateReady}
+use Rattle.sm_plan.specs.Views.{SymState}
 use Rattle.sm_plan.proofs.OpeningsMade.{no_facts}
 use Rattle.sm_plan.proofs.PartsMoved.{numbers_of, moved_is, moved_ready}
 use Rattle.sm_plan.proofs.SortedStates.{stepped_sorted}

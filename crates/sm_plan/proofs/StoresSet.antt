@@ -1,16 +1,5 @@
 -- A store with another term for a name.
-use Rattle.std.proofs.Common.{◌≡◌, ℕ, zero, suc, ◌<◌, ◌==◌, Bool, true, false, if◌then◌else◌, Some, List, [], ◌∷◌, length, slice_get, slice_set, refl, sym, ap, ◌∙◌, subst}
-use Rattle.std.proofs.lemmas.Bool.{eqb-true, eqb-false}
-use Rattle.std.proofs.Math.Path.{fun_ext}
-use Rattle.sm_term.specs.Terms.{Tree}
-use Rattle.sm_term.specs.Symbolic.{with_term}
-use Rattle.sm_term.specs.SymStores.{tree_or_start, store_in, IsStoreWithin}
-use Rattle.sm_term.specs.declared.symbolic.SymStore.{SymStore}
-use Rattle.sm_term.specs.Tables.{TableValue, trees_in, AreBefore}
-use Rattle.sm_term.specs.declared.term.TermId.{TermId}
-use Rattle.sm_term.specs.TableLaws.{AddsTerms}
-use Rattle.sm_term.proofs.ExpressionLemmas.{tree_got, there, store-more, within_more}
-use Rattle.sm_lemmas.proofs.Lists.{get_set}
+use Rattle.sm_plan.proofs.Imports.{◌≡◌, ℕ, zero, suc, ◌<◌, ◌==◌, Bool, true, false, if◌then◌else◌, Some, List, [], ◌∷◌, length, slice_get, slice_set, refl, sym, ap, ◌∙◌, subst, eqb-true, eqb-false, fun_ext, Tree, with_term, tree_or_start, store_in, IsStoreWithin, SymStore, TableValue, trees_in, AreBefore, TermId, AddsTerms, tree_got, there, store-more, within_more, get_set}
 
 set_other : {T : Type 0} (l : List T) (x y : ℕ) (t : T) → (y ≡ x → ⊥) → slice_get (slice_set l x t) y ≡ slice_get l y
 set_other [] x y t h = refl

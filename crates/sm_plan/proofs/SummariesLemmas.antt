@@ -1,29 +1,7 @@
 -- The terms of a summary's inputs, and the store with the summaries of some names.
-use Rattle.std.proofs.Common.{◌≡◌, ℕ, zero, suc, ◌+◌, ◌<◌, ◌==◌, ◌||◌, Bool, true, false, if◌then◌else◌, Some, List, [], ◌∷◌, ◌++◌, length, map, take, get_or, slice_get, refl, sym, ap, ◌∙◌, arith}
-use Rattle.std.proofs.lemmas.Bool.{eq-eqb, eqb-true, and_from}
+use Rattle.sm_plan.proofs.Imports.{◌≡◌, ℕ, zero, suc, ◌+◌, ◌<◌, ◌==◌, ◌||◌, Bool, true, false, if◌then◌else◌, Some, List, [], ◌∷◌, ◌++◌, length, map, take, get_or, slice_get, refl, sym, ap, ◌∙◌, arith, eqb-true, and_from, slice_get-get_or, get_or_from_slice_get, slice_get_read, take_more, map-append, fun_ext, Code, Name, is_in, Sorts, assigns, inputs, Tree, Fun, Given, arguments_fit, SymbolicStore, with_term, sort_named, IsDeclaredIn, tree_or_start, store_in, SymStore, arguments_in, AreBefore, AreNamesDeclared, TermId, sort_got, name_stored, part_before, terms_named, AreNamesBelow, IsStoreReady, IsStoreFull, present, summarized}
+use Rattle.std.proofs.lemmas.Bool.{eq-eqb}
 use Rattle.std.proofs.lemmas.List.Folds.{list_any-append}
-use Rattle.std.proofs.lemmas.Option.{slice_get-get_or, get_or_from_slice_get, slice_get_read}
-use Rattle.std.proofs.lemmas.List.{take_more, map-append}
-use Rattle.std.proofs.Math.Path.{fun_ext}
-use Rattle.sm_syntax.specs.claim.Syntax.{Code}
-use Rattle.sm_syntax.specs.declared.tree.Name.{Name}
-use Rattle.sm_syntax.specs.text.Conditions.{is_in}
-use Rattle.sm_syntax.specs.text.Sorts.{Sorts}
-use Rattle.sm_syntax.specs.Assigns.{assigns}
-use Rattle.sm_deps.specs.Inputs.{inputs}
-use Rattle.sm_term.specs.Terms.{Tree, Fun, Given}
-use Rattle.sm_term.specs.Fitting.{arguments_fit}
-use Rattle.sm_term.specs.Symbolic.{SymbolicStore, with_term}
-use Rattle.sm_term.specs.Sorted.{sort_named, IsDeclaredIn}
-use Rattle.sm_term.specs.SymStores.{tree_or_start, store_in}
-use Rattle.sm_term.specs.declared.symbolic.SymStore.{SymStore}
-use Rattle.sm_term.specs.Tables.{arguments_in, AreBefore, AreNamesDeclared}
-use Rattle.sm_term.specs.declared.term.TermId.{TermId}
-use Rattle.sm_term.proofs.ExpressionLemmas.{sort_got, name_stored}
-use Rattle.sm_term.proofs.TermsLemmas.{part_before}
-use Rattle.sm_plan.specs.Openings.{terms_named, AreNamesBelow}
-use Rattle.sm_plan.specs.ReadyStates.{IsStoreReady, IsStoreFull}
-use Rattle.sm_plan.specs.Successors.{present, summarized}
 use Rattle.sm_plan.proofs.SortedTerms.{of_declared}
 
 -- names by number

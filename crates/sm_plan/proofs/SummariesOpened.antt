@@ -1,25 +1,8 @@
 -- What the summary of a copy's first statements opens.
-use Rattle.std.proofs.Common.{◌≡◌, ℕ, Option, Some, None, List, ◌++◌, length, sym, ap, ◌∙◌, subst, arith, option_map}
+use Rattle.sm_plan.proofs.Imports.{◌≡◌, ℕ, Option, Some, None, List, ◌++◌, length, sym, ap, ◌∙◌, subst, arith, option_map, Code, Copy, Sorts, IsWellSorted, IsWellSortedCondition, of_copy, condition_of, Formula, Assertion, SymbolicStore, IsStoreSorted, store_in, IsStoreWithin, SymStore, TableValue, trees_in, sorts_in, ExtendsTable, with_copy, front, rest_after, last_guard, moved, with_facts, summarized, summary_state, false_guard, rest_code, forms_in, state_in, IsStoreReady, IsStoreFull, IsStateReady}
 use Rattle.std.specs.Option.{IfSome}
-use Rattle.sm_syntax.specs.claim.Syntax.{Code}
-use Rattle.sm_syntax.specs.claim.ConflictFree.{Copy}
-use Rattle.sm_syntax.specs.text.Sorts.{Sorts, IsWellSorted, IsWellSortedCondition}
-use Rattle.sm_syntax.specs.trees.Copies.{of_copy}
-use Rattle.sm_syntax.specs.trees.Views.{condition_of}
 use Rattle.sm_syntax.specs.declared.tree.Cond.{Cond}
-use Rattle.sm_term.specs.declared.formula.Formula.{Formula}
-use Rattle.sm_term.specs.Assertions.{Assertion}
-use Rattle.sm_term.specs.Symbolic.{SymbolicStore}
-use Rattle.sm_term.specs.Sorted.{IsStoreSorted}
-use Rattle.sm_term.specs.SymStores.{store_in, IsStoreWithin}
-use Rattle.sm_term.specs.declared.symbolic.SymStore.{SymStore}
-use Rattle.sm_term.specs.Tables.{TableValue, trees_in, sorts_in}
-use Rattle.sm_term.specs.TableLaws.{ExtendsTable}
-use Rattle.sm_plan.specs.Copies.{with_copy}
-use Rattle.sm_plan.specs.Statements.{front, rest_after, last_guard}
-use Rattle.sm_plan.specs.Successors.{moved, with_facts, summarized, summary_state, false_guard}
-use Rattle.sm_plan.specs.Views.{rest_code, forms_in, state_in, SymState}
-use Rattle.sm_plan.specs.ReadyStates.{IsStoreReady, IsStoreFull, IsStateReady}
+use Rattle.sm_plan.specs.Views.{SymState}
 use Rattle.sm_plan.proofs.PartsMoved.{numbers_of, moved_is, moved_ready}
 use Rattle.sm_plan.proofs.SortedCode.{front_well, rest_well, last_guard_well}
 use Rattle.sm_plan.proofs.SortedStates.{summarized_sorted}

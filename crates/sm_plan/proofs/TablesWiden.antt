@@ -1,28 +1,9 @@
 -- What a table's numbers stand for stays where the table has more behind.
-use Rattle.std.proofs.Common.{◌≡◌, ℕ, zero, suc, ◌<◌, ◌≤◌, Option, Some, None, List, [], ◌∷◌, ◌++◌, length, slice_get, refl, sym, ap, ◌∙◌, subst, arith, append-nil, append_assoc, take}
-use Rattle.std.proofs.Math.Seq.{take-append_seam}
-use Rattle.std.proofs.Math.Path.{fun_ext}
-use Rattle.std.proofs.lemmas.List.{length-append}
-use Rattle.sm_syntax.specs.claim.Syntax.{Code}
-use Rattle.sm_syntax.specs.claim.ConflictFree.{Copy}
-use Rattle.sm_syntax.specs.text.Sorts.{Sorts, IsWellSorted}
-use Rattle.sm_syntax.specs.trees.Copies.{of_copy}
-use Rattle.sm_syntax.specs.declared.copies.PerCopy.{PerCopy}
-use Rattle.sm_term.specs.Terms.{Tree}
+use Rattle.sm_plan.proofs.Imports.{◌≡◌, ℕ, zero, suc, ◌<◌, ◌≤◌, Option, Some, None, List, [], ◌∷◌, ◌++◌, length, slice_get, refl, sym, ap, ◌∙◌, subst, arith, take, take-append_seam, fun_ext, length-append, Code, Copy, Sorts, IsWellSorted, of_copy, PerCopy, Tree, Assertion, tree_sort, IsFormSorted, IsStoreSorted, NumberedFormula, numbered, assertion_in, IsFormulaWithin, Formula, tree_or_start, store_in, IsStoreWithin, SymStore, TableValue, trees_in, sorts_in, codes_in, tree_at, TermId, AddsTerms, ExtendsTable, part_before, tree_at-more, before-later, rest_code, forms_in, stores_in, state_in, IsFormReady, AreFormsReady, IsStoreReady, AreStoresReady, AreStoresFull, IsStateReady}
+use Rattle.std.proofs.Common.{append-nil, append_assoc}
 use Rattle.sm_term.specs.Assertions as plain
-use Rattle.sm_term.specs.Assertions.{Assertion}
-use Rattle.sm_term.specs.Sorted.{tree_sort, IsFormSorted, IsStoreSorted}
-use Rattle.sm_term.specs.Formulas.{NumberedFormula, Yes, No, Eq, Ne, Le, Lt, And, Or, numbered, assertion_in, IsFormulaWithin}
-use Rattle.sm_term.specs.declared.formula.Formula.{Formula}
-use Rattle.sm_term.specs.SymStores.{tree_or_start, store_in, IsStoreWithin}
-use Rattle.sm_term.specs.declared.symbolic.SymStore.{SymStore}
-use Rattle.sm_term.specs.Tables.{TableValue, trees_in, sorts_in, codes_in, tree_at}
-use Rattle.sm_term.specs.declared.term.TermId.{TermId}
-use Rattle.sm_term.specs.TableLaws.{AddsTerms, ExtendsTable}
-use Rattle.sm_term.proofs.TermsLemmas.{part_before}
-use Rattle.sm_term.proofs.TreesLemmas.{tree_at-more, before-later}
-use Rattle.sm_plan.specs.Views.{rest_code, forms_in, stores_in, state_in, SymState}
-use Rattle.sm_plan.specs.ReadyStates.{IsFormReady, AreFormsReady, IsStoreReady, AreStoresReady, AreStoresFull, IsStateReady}
+use Rattle.sm_term.specs.Formulas.{Yes, No, Eq, Ne, Le, Lt, And, Or}
+use Rattle.sm_plan.specs.Views.{SymState}
 
 -- a table widens by nothing, by what it grows, and twice
 pub widens_same : (v : TableValue) → ExtendsTable v v

@@ -1,26 +1,6 @@
 -- The goals of outputs over a table that grows.
-use Rattle.std.proofs.Common.{◌≡◌, ℕ, zero, suc, ◌+◌, ◌<◌, Some, List, [], ◌∷◌, ◌++◌, length, map, take, get_or, refl, sym, ap, subst, ◌∙◌, arith}
-use Rattle.std.specs.List.{flat_map}
-use Rattle.std.proofs.lemmas.List.{take_more}
-use Rattle.std.proofs.lemmas.Grind.{flat_map-append}
-use Rattle.sm_syntax.specs.declared.tree.Name.{Name}
-use Rattle.sm_syntax.specs.claim.ConflictFree.{Copy, O, A, B, M, copy_of}
-use Rattle.sm_syntax.specs.text.Sorts.{Sorts}
-use Rattle.sm_syntax.specs.declared.tree.Sort.{Sort}
-use Rattle.sm_syntax.specs.declared.tree.Sort.TheVariants.{Num}
-use Rattle.sm_syntax.specs.trees.Copies.{number_of}
+use Rattle.sm_plan.proofs.Imports.{◌≡◌, ℕ, zero, suc, ◌+◌, ◌<◌, Some, List, [], ◌∷◌, ◌++◌, length, map, take, get_or, refl, sym, ap, subst, ◌∙◌, arith, flat_map, take_more, flat_map-append, Name, Copy, O, A, B, M, copy_of, Sorts, Sort, Num, number_of, NumberedFormula, numbered, assertion_in, Formula, sort_named, tree_sort, AreFormsSorted, Tree, TableValue, trees_in, sorts_in, tree_at, ExtendsTable, AreFormsReady, AreOutputsDeclared, goals_over, with_sorts, AreAllWithin, place, keeps_goals, forms_in}
 use Rattle.sm_term.specs.Assertions.{Eq, Ne, Or}
-use Rattle.sm_term.specs.Formulas.{NumberedFormula, numbered, assertion_in}
-use Rattle.sm_term.specs.declared.formula.Formula.{Formula}
-use Rattle.sm_term.specs.Sorted.{sort_named, tree_sort, AreFormsSorted}
-use Rattle.sm_term.specs.Terms.{Tree}
-use Rattle.sm_term.specs.Tables.{TableValue, trees_in, sorts_in, tree_at}
-use Rattle.sm_term.specs.TableLaws.{ExtendsTable}
-use Rattle.sm_plan.specs.ReadyStates.{AreFormsReady}
-use Rattle.sm_plan.specs.SortedStates.{AreOutputsDeclared}
-use Rattle.sm_plan.specs.Starts.{goals_over, with_sorts, AreAllWithin}
-use Rattle.sm_plan.specs.States.{place, keeps_goals}
-use Rattle.sm_plan.specs.Views.{forms_in}
 use Rattle.sm_plan.proofs.SummariesLemmas.{numbers}
 use Rattle.sm_plan.proofs.TablesWiden.{assertion_stays, within_stays}
 

@@ -1,15 +1,6 @@
 -- Guards that are true or false, as formulas of the program.
-use Rattle.std.proofs.Common.{◌≡◌, ℕ, Bool, true, false, if◌then◌else◌, Option, Some, None, List, [], ◌∷◌, ◌++◌, length, refl, sym, ap, ◌∙◌, subst}
-use Rattle.sm_syntax.specs.text.Sorts.{Sorts}
-use Rattle.sm_term.specs.Assertions.{negate}
-use Rattle.sm_term.specs.Formulas.{contrary, numbered, assertion_in, IsFormulaWithin}
-use Rattle.sm_term.specs.declared.formula.Formula.{Formula}
-use Rattle.sm_term.specs.Sorted.{IsFormSorted}
-use Rattle.sm_term.specs.Terms.{Tree}
-use Rattle.sm_term.proofs.FormulasLemmas.{contrary_negates}
-use Rattle.sm_term.proofs.FormsLemmas.{contrary_within}
-use Rattle.sm_plan.specs.ReadyStates.{IsFormReady, AreFormsReady}
-use Rattle.sm_term.proofs.SortedForms.{negate_sorted}
+use Rattle.sm_plan.proofs.Imports.{◌≡◌, ℕ, Bool, true, false, if◌then◌else◌, Option, Some, None, List, [], ◌∷◌, ◌++◌, length, refl, sym, ap, ◌∙◌, subst, Sorts, negate, numbered, assertion_in, IsFormulaWithin, Formula, IsFormSorted, Tree, contrary_negates, contrary_within, IsFormReady, AreFormsReady, negate_sorted}
+use Rattle.sm_term.specs.Formulas.{contrary}
 
 pub same_ready : (sorts : Sorts) (trees : List Tree) (f g : Formula) → numbered g ≡ numbered f → IsFormReady sorts trees f →
     IsFormReady sorts trees g

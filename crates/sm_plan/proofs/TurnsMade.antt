@@ -1,22 +1,8 @@
 -- The turns of loops, by ascending masks.
-use Rattle.std.proofs.Common.{◌≡◌, ℕ, zero, suc, ◌+◌, ◌==◌, ◌≤◌, ◌<◌, bit_and, Bool, true, false, if◌then◌else◌, List, [], ◌∷◌, ◌++◌, map, length, refl, sym, ap, ◌∙◌, subst, arith}
-use Rattle.std.specs.List.{filter, range_with_len}
-use Rattle.std.proofs.lemmas.List.Elements.{filter-append}
-use Rattle.sm_syntax.specs.claim.Syntax.{Code, End}
-use Rattle.sm_syntax.specs.text.Sorts.{Sorts, IsWellSorted}
-use Rattle.sm_term.specs.declared.symbolic.SymStore.{SymStore}
-use Rattle.sm_term.specs.Sorted.{IsDeclaredIn, IsStoreSorted}
-use Rattle.sm_term.specs.Tables.{AreBefore}
-use Rattle.sm_term.specs.declared.term.TermId.{TermId}
-use Rattle.sm_term.specs.Terms.{Tree}
-use Rattle.sm_plan.specs.Copies.{Copies, subsets}
-use Rattle.sm_plan.specs.Masks.{set_of, mask_of}
-use Rattle.sm_plan.specs.ReadyStates.{IsStoreReady, IsStoreFull, IsSuccessorReady, AreSuccessorsReady, Successor}
-use Rattle.sm_plan.specs.Statements.{loop_body, rest_after}
+use Rattle.sm_plan.proofs.Imports.{◌≡◌, ℕ, zero, suc, ◌+◌, ◌==◌, ◌≤◌, ◌<◌, bit_and, Bool, true, false, if◌then◌else◌, List, [], ◌∷◌, ◌++◌, map, length, refl, sym, ap, ◌∙◌, subst, arith, filter, range_with_len, filter-append, Code, End, Sorts, IsWellSorted, SymStore, IsDeclaredIn, IsStoreSorted, AreBefore, TermId, Tree, Copies, subsets, set_of, mask_of, IsStoreReady, IsStoreFull, IsSuccessorReady, AreSuccessorsReady, Successor, loop_body, rest_after, range_more}
 use Rattle.sm_plan.proofs.MasksExact.{subsets_ascend, mask_exact}
 use Rattle.sm_plan.proofs.RenewedStores.{store_alike}
 use Rattle.sm_plan.proofs.SortedCode.{body_well, rest_well}
-use Rattle.sm_lemmas.proofs.Lists.{range_more}
 
 -- stores with the same terms
 pub same_store_ready : (sorts : Sorts) (trees : List Tree) (s u : SymStore) → u.list.items ≡ s.list.items → IsStoreReady sorts trees s →

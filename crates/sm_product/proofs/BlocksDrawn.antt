@@ -1,25 +1,7 @@
 -- Where walks over blocks, over copies and over sets of copies begin and end.
-use Rattle.std.proofs.Common.{◌≡◌, ◌<◌, ◌+◌, ◌==◌, ℕ, zero, suc, bit_and, Bool, true, false, cond, if◌then◌else◌, List, [], ◌∷◌, ◌++◌, map, drop, refl, sym, ap, ◌∙◌, subst, arith}
-use Rattle.std.specs.List.{filter, range_with_len}
-use Rattle.std.proofs.lemmas.List.{map-append}
-use Rattle.std.proofs.Math.Path.{fun_ext}
-use Rattle.sm_syntax.specs.claim.ConflictFree.{Copy, O, A, B, M, copy_of}
-use Rattle.sm_syntax.specs.claim.Syntax.{Code, End}
-use Rattle.sm_syntax.specs.declared.copies.PerCopy.{PerCopy}
-use Rattle.sm_syntax.specs.text.Parts.{Parts}
-use Rattle.sm_syntax.specs.text.Sorts.{Sorts}
-use Rattle.sm_syntax.specs.trees.Views.{code_of}
-use Rattle.sm_syntax.specs.declared.tree.Stmt.{Stmt}
+use Rattle.sm_product.proofs.Imports.{◌≡◌, ◌<◌, ◌+◌, ◌==◌, ℕ, zero, suc, bit_and, Bool, true, false, cond, if◌then◌else◌, List, [], ◌∷◌, ◌++◌, map, drop, refl, sym, ap, ◌∙◌, subst, arith, filter, range_with_len, map-append, fun_ext, Copy, O, A, B, M, copy_of, Code, End, PerCopy, Parts, Sorts, code_of, Stmt, block_is, Copies, copies, has, set_of, code_before, filter_push, only_in, with_member, AreFilledAs, forking, forked, product}
 use Rattle.sm_syntax.specs.declared.tree.Block.{Block}
-use Rattle.sm_syntax.proofs.Blocks.{block_is}
-use Rattle.sm_plan.specs.Copies.{Copies, copies, has}
-use Rattle.sm_plan.specs.Masks.{set_of}
-use Rattle.sm_plan.specs.Views.{code_before}
-use Rattle.sm_plan.proofs.TurnsMade.{filter_push}
-use Rattle.sm_moves.specs.CopySets.{only_in, with_member}
-use Rattle.sm_moves.specs.FilledCode.{AreFilledAs}
-use Rattle.sm_sketch.specs.Sketches.{Sketch, forking}
-use Rattle.sm_product.specs.Products.{forked, product}
+use Rattle.sm_sketch.specs.Sketches.{Sketch}
 use denote.Bor.{Bor}
 
 -- filled statements, at the sorts of a wider table

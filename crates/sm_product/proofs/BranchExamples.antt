@@ -1,25 +1,11 @@
 -- Tasks with an if at a hole or around it, each with its product and its templates, and what is read off fillings
 -- and guards, worked by hand.
-use Rattle.std.proofs.Common.{◌≡◌, ℕ, zero, suc, pos, refl, None, List, [], ◌∷◌, ◌++◌, map, if◌then◌else◌}
+use Rattle.sm_product.proofs.Imports.{◌≡◌, ℕ, zero, suc, pos, refl, None, List, [], ◌∷◌, ◌++◌, map, if◌then◌else◌, Num, Expression, Condition, Code, End, Skip, Assign, Write, If, While, Hole, Compare, Var, Plus, Minus, Times, Neg, Copy, O, A, B, M, filling, Parts, by_copy, Slot, Add, Assertion, Eq, Ne, Le, Or, copies, has, Fork, size, own_statements, all_copies, only_in, guard_templates, Draw, Plain, BlockSite, Over, More, sketch_of, plan_of, full_choice}
 use Rattle.sm_syntax.specs.declared.tree.Cmp.TheVariants as cmp
-use Rattle.sm_syntax.specs.declared.tree.Sort.TheVariants.{Num}
-use Rattle.sm_syntax.specs.claim.Syntax.{Expression, Condition, Code, End, Skip, Assign, Write, If, While, Hole, Compare, Var, Plus, Minus, Times, Neg}
 use Rattle.sm_syntax.specs.claim.Syntax as syntax
-use Rattle.sm_syntax.specs.claim.ConflictFree.{Copy, O, A, B, M}
-use Rattle.sm_syntax.specs.claim.Fill.{filling}
-use Rattle.sm_syntax.specs.text.Parts.{Parts, by_copy}
-use Rattle.sm_term.specs.Terms.{Slot, Add, Lit}
-use Rattle.sm_term.specs.Assertions.{Assertion, Eq, Ne, Le, Or}
-use Rattle.sm_plan.specs.Copies.{copies, has}
-use Rattle.sm_plan.specs.Nodes.{Fork}
-use Rattle.sm_plan.specs.Plans.{size}
-use Rattle.sm_moves.specs.CodeShapes.{own_statements}
-use Rattle.sm_moves.specs.CopySets.{all_copies, only_in}
-use Rattle.sm_template.specs.Guards.{guard_templates}
+use Rattle.sm_term.specs.Terms.{Lit}
 use Rattle.sm_template.specs.Literals.{literals_of}
-use Rattle.sm_sketch.specs.Sketches.{Sketch, Draw, Plain, BlockSite, Over, More}
-use Rattle.sm_product.specs.Products.{sketch_of}
-use Rattle.sm_product.specs.ProductPlans.{plan_of, full_choice}
+use Rattle.sm_sketch.specs.Sketches.{Sketch}
 use Rattle.sm_product.proofs.LoopExamples.{steps, the_end, same, one_more, as_before, of_number}
 
 -- a literal

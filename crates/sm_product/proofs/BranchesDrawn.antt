@@ -1,20 +1,7 @@
 -- Where there is no room for a part of a fork, or of loops, there is none for the mini-product.
-use Rattle.std.proofs.Common.{◌≡◌, ℕ, zero, suc, ◌+◌, ◌<◌, ◌≤◌, inl, inr, map, refl, sym, arith}
-use Rattle.sm_syntax.specs.claim.Syntax.{Code}
-use Rattle.sm_syntax.specs.claim.ConflictFree.{Copy}
-use Rattle.sm_syntax.specs.text.Parts.{Parts}
-use Rattle.sm_plan.specs.Copies.{Copies, subsets, with_copy}
-use Rattle.sm_moves.specs.CodeShapes.{by_first_block, by_second_block}
-use Rattle.sm_moves.specs.Moves.{Forks, Loops, moved_on}
-use Rattle.sm_template.specs.Templates.{loop_templates}
-use Rattle.sm_sketch.specs.declared.error.ProductError.{ProductError}
+use Rattle.sm_product.proofs.Imports.{◌≡◌, ℕ, zero, suc, ◌+◌, ◌<◌, ◌≤◌, inl, inr, map, refl, sym, arith, Code, Copy, Parts, Copies, subsets, with_copy, by_first_block, by_second_block, Forks, Loops, moved_on, loop_templates, ProductError, forking, sketch_size, Room, turn_of, drawn, side_by_side, TellsBeyond, TellAllBeyond, IsTaken}
 use Rattle.sm_sketch.specs.declared.error.ProductError.TheVariants as error
-use Rattle.sm_sketch.specs.Sketches.{Sketch, forking}
-use Rattle.sm_sketch.specs.SketchSizes.{sketch_size}
-use Rattle.sm_product.specs.declared.rooms.Room.{Room}
-use Rattle.sm_product.specs.LoopTurns.{turn_of}
-use Rattle.sm_product.specs.MiniProducts.{drawn, side_by_side}
-use Rattle.sm_product.specs.Rooms.{TellsBeyond, TellAllBeyond, IsTaken}
+use Rattle.sm_sketch.specs.Sketches.{Sketch}
 use Rattle.sm_product.proofs.GrowthLemmas.{after_side}
 use Rattle.sm_product.proofs.RoomLemmas.{one_beyond, other_beyond, turns_beyond, after_beyond}
 

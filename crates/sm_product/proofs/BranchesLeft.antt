@@ -1,21 +1,5 @@
 -- What forks and loops leave: fewer statements, well sorted and with no hole.
-use Rattle.std.proofs.Common.{◌≡◌, suc, ◌<◌, true, false, refl, arith}
-use Rattle.sm_syntax.specs.claim.Syntax.{Code, End, Skip, Assign, Write, If, While, Hole}
-use Rattle.sm_syntax.specs.claim.ConflictFree.{Copy, O, A, B, M}
-use Rattle.sm_syntax.specs.text.Sorts.{Sorts, IsWellSorted}
-use Rattle.sm_plan.specs.Copies.{Copies, has, is_inhabited, with_copy}
-use Rattle.sm_plan.specs.Statements.{loop_body}
-use Rattle.sm_plan.proofs.CopiesLemmas.{one_copy}
-use Rattle.sm_plan.proofs.SortedCode.{append_well}
-use Rattle.sm_plan.proofs.TurnsMade.{bodies_ready}
-use Rattle.sm_moves.specs.CodeShapes.{by_first_block, by_second_block, has_hole}
-use Rattle.sm_moves.specs.CopySets.{all_copies, only_in}
-use Rattle.sm_moves.specs.Moves.{Forks, Loops, move_of, moved_on}
-use Rattle.sm_moves.proofs.CodesLemmas.{loop_left, blocks_no_hole, fewer_ways}
-use Rattle.sm_moves.proofs.SetsLemmas.{IsWithin}
-use Rattle.sm_product.specs.LoopTurns.{HaveLoops}
-use Rattle.sm_product.specs.MiniProducts.{statements_left}
-use Rattle.sm_product.specs.Paths.{IsFilled}
+use Rattle.sm_product.proofs.Imports.{◌≡◌, suc, ◌<◌, true, false, refl, arith, Code, End, Skip, Assign, Write, If, While, Hole, Copy, O, A, B, M, Sorts, IsWellSorted, Copies, has, is_inhabited, with_copy, loop_body, one_copy, append_well, bodies_ready, by_first_block, by_second_block, has_hole, all_copies, only_in, Forks, Loops, move_of, moved_on, loop_left, blocks_no_hole, fewer_ways, IsWithin, HaveLoops, statements_left, IsFilled}
 use Rattle.sm_product.proofs.FitsLemmas.{bodies_left}
 use Rattle.sm_product.proofs.SmallerLemmas.{IsRest, fewer_in, fewer_of, one_smaller, moved_less, moved_smaller, bodies_less, bodies_smaller}
 use Rattle.sm_product.proofs.StraightLemmas.{rest_more, filled_is, says_of}

@@ -1,26 +1,8 @@
 -- What a site keeps under a choice: the parts of its formula are the chosen templates, all of them where all are chosen.
-use Rattle.std.proofs.Common.{◌≡◌, ℕ, zero, suc, ◌+◌, ◌-◌, ◌/◌, ◌≤◌, ℤ, Option, Some, List, [], ◌∷◌, ◌++◌, take, drop, length, slice_get, refl, ap, sym, ◌∙◌, subst, arith}
-use Rattle.std.specs.Prelude.{option_to_list, unwrap_or}
-use Rattle.std.specs.List.{range_with_len}
-use Rattle.std.proofs.lemmas.List.{append_assoc, length-append, length-take, length-drop, take-append-drop}
+use Rattle.sm_product.proofs.Imports.{◌≡◌, ℕ, zero, suc, ◌+◌, ◌-◌, ◌/◌, ◌≤◌, ℤ, Option, Some, List, [], ◌∷◌, ◌++◌, take, drop, length, slice_get, refl, ap, sym, ◌∙◌, subst, arith, option_to_list, unwrap_or, range_with_len, length-append, length-take, length-drop, take-append-drop, Sort, Expression, Code, Cmp, Copy, Parts, Assertion, conj, term_of, Tree, Copies, Each, slots, weaker, HoldsOfTemplates, of_block_templates, of_loop_templates, each_take, each_drop, Choice, chosen_at, picked, halved, conjoined, kept_by, all_chosen, SketchNode, site_at, sites_of, each_picked, sketch_of}
+use Rattle.std.proofs.lemmas.List.{append_assoc}
 use Rattle.std.proofs.lemmas.Option.{same_Some}
 use Rattle.sm_syntax.specs.declared.tree.Cmp.TheVariants as cmp
-use Rattle.sm_syntax.specs.declared.tree.Sort.{Sort}
-use Rattle.sm_syntax.specs.claim.Syntax.{Expression, Code}
-use Rattle.sm_syntax.specs.declared.tree.Cmp.{Cmp}
-use Rattle.sm_syntax.specs.claim.ConflictFree.{Copy}
-use Rattle.sm_syntax.specs.text.Parts.{Parts}
-use Rattle.sm_term.specs.Assertions.{Assertion, conj}
-use Rattle.sm_term.specs.Symbolic.{term_of}
-use Rattle.sm_term.specs.Terms.{Tree}
-use Rattle.sm_plan.specs.Copies.{Copies}
-use Rattle.sm_moves.proofs.SetsLemmas.{Each}
-use Rattle.sm_template.specs.Guards.{slots, weaker}
-use Rattle.sm_template.proofs.TemplatesLemmas.{HoldsOfTemplates, of_block_templates, of_loop_templates, each_take, each_drop}
-use Rattle.sm_sketch.specs.Choices.{Choice, chosen_at, picked, halved, conjoined, kept_by, all_chosen}
-use Rattle.sm_sketch.specs.Sketches.{SketchNode, site_at, sites_of}
-use Rattle.sm_sketch.proofs.PickedLemmas.{each_picked}
-use Rattle.sm_product.specs.Products.{sketch_of}
 use Rattle.sm_product.proofs.NodesLemmas.{HoldsOfNodes, sketch_nodes, each_site}
 use Rattle.sm_lemmas.proofs.Numbers.{half_less}
 

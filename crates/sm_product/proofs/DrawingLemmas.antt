@@ -1,16 +1,6 @@
 -- What is drawn for the copies of a set fits where what follows does.
-use Rattle.std.proofs.Common.{◌≡◌, ℕ, true, List, [], ◌∷◌, ◌++◌, map, refl, sym}
-use Rattle.sm_syntax.specs.claim.Syntax.{Code, End}
-use Rattle.sm_syntax.specs.claim.ConflictFree.{Copy}
-use Rattle.sm_term.specs.Assertions.{Assertion}
-use Rattle.sm_plan.specs.Copies.{Copies, has, is_inhabited, subsets}
-use Rattle.sm_plan.specs.Nodes.{Step, Abs}
-use Rattle.sm_plan.specs.Statements.{is_long, front, rest_after, is_loop}
-use Rattle.sm_moves.specs.CodeShapes.{is_simple}
-use Rattle.sm_moves.specs.CopySets.{members}
-use Rattle.sm_moves.specs.Moves.{moved_on}
-use Rattle.sm_moves.proofs.SetsLemmas.{each_moved, AreReady, each_moved_is, each_ready, Each, each_of_all, IsWithin, each_subset}
-use Rattle.sm_sketch.specs.Sketches.{Sketch, ends, each_of, turns_then, looped, apart}
+use Rattle.sm_product.proofs.Imports.{◌≡◌, ℕ, true, List, [], ◌∷◌, ◌++◌, map, refl, sym, Code, End, Copy, Assertion, Copies, has, is_inhabited, subsets, Step, Abs, is_long, front, rest_after, is_loop, is_simple, members, moved_on, each_moved, AreReady, each_moved_is, each_ready, Each, each_of_all, IsWithin, each_subset, ends, each_of, turns_then, looped, apart}
+use Rattle.sm_sketch.specs.Sketches.{Sketch}
 use Rattle.sm_product.proofs.FitsLemmas.{Fits, FitAll, fits_same, bodies_left}
 
 list_steps : (cs : List Copy) (next : Sketch) (r : Copy → Code) → AreReady is_simple cs r → Fits next (each_moved cs r) →

@@ -1,39 +1,12 @@
 -- What is drawn for the parts of shared code, put together.
-use Rattle.std.proofs.Common.{◌≡◌, ◌≤◌, ◌<◌, ◌+◌, ◌-◌, ◌==◌, ◌||◌, ℕ, zero, suc, bit_and, true, Result, Ok, Err, List, [], ◌∷◌, map, take, drop, length, get_or, inl, inr, refl, sym, ap, ◌∙◌, subst, arith, eq-eqb}
+use Rattle.sm_product.proofs.Imports.{◌≡◌, ◌≤◌, ◌<◌, ◌+◌, ◌-◌, ◌==◌, ◌||◌, ℕ, zero, suc, bit_and, true, List, [], ◌∷◌, map, take, drop, length, get_or, inl, inr, refl, sym, ap, ◌∙◌, subst, arith, filter, range_with_len, take_more, fun_ext, Copy, filling, fill, Condition, Code, End, If, While, Hole, append, PerCopy, Parts, Sorts, IsWellSorted, statement_of, Stmt, append-End, fill-append, statement_is, sequence_then, sequence-push, Assertion, TableValue, trees_in, sorts_in, Copies, subsets, set_of, code_before, In, in_map, in_filter, front_well, rest_well, masked, has_hole, own_statements, piece_of, AreFilledAs, first_inside, second_inside, own_front, own_rest, TellsSketch, ProductError, sketch_in, IsSketchReady, IsDrawn, product_if, product_while, product}
+use Rattle.std.proofs.Common.{Result, Ok, Err, eq-eqb}
 use Rattle.std.specs.Prelude.{IfOk, IfErr, IsErrAnd}
-use Rattle.std.specs.List.{filter, range_with_len}
-use Rattle.std.proofs.lemmas.List.{take_more}
-use Rattle.std.proofs.Math.Path.{fun_ext}
-use Rattle.sm_syntax.specs.claim.ConflictFree.{Copy}
-use Rattle.sm_syntax.specs.claim.Fill.{filling, fill}
-use Rattle.sm_syntax.specs.claim.Syntax.{Condition, Code, End, If, While, Hole, append}
-use Rattle.sm_syntax.specs.declared.copies.PerCopy.{PerCopy}
-use Rattle.sm_syntax.specs.text.Parts.{Parts}
-use Rattle.sm_syntax.specs.text.Sorts.{Sorts, IsWellSorted}
-use Rattle.sm_syntax.specs.trees.Views.{statement_of}
-use Rattle.sm_syntax.specs.declared.tree.Stmt.{Stmt}
-use Rattle.sm_syntax.proofs.Appends.{append_assoc, append-End, fill-append}
-use Rattle.sm_syntax.proofs.Blocks.{statement_is, sequence_then, sequence-push}
-use Rattle.sm_term.specs.Assertions.{Assertion}
-use Rattle.sm_term.specs.Tables.{TableValue, trees_in, sorts_in}
+use Rattle.sm_syntax.proofs.Appends.{append_assoc}
 use Rattle.sm_deps.proofs.NeededLemmas.{sequence-before}
-use Rattle.sm_plan.specs.Copies.{Copies, subsets}
-use Rattle.sm_plan.specs.Masks.{set_of}
-use Rattle.sm_plan.specs.Views.{code_before}
-use Rattle.sm_plan.proofs.CopiesLemmas.{In, in_map, in_filter}
-use Rattle.sm_plan.proofs.SortedCode.{front_well, rest_well}
-use Rattle.sm_plan.proofs.TurnsMade.{masked}
-use Rattle.sm_moves.specs.CodeShapes.{has_hole, own_statements}
-use Rattle.sm_moves.specs.FilledCode.{piece_of, AreFilledAs, first_inside, second_inside}
-use Rattle.sm_moves.proofs.CodesLemmas.{own_front, own_rest}
 use Rattle.sm_sketch.specs.declared.error.ProductError.TheVariants as error
-use Rattle.sm_sketch.specs.Errors.{TellsSketch}
-use Rattle.sm_sketch.specs.declared.error.ProductError.{ProductError}
 use Rattle.sm_sketch.specs.Sketches as plain
-use Rattle.sm_sketch.specs.SketchViews.{sketch_in, IsSketchReady}
 use Rattle.sm_sketch.specs.declared.sketch.Sketch.{Sketch}
-use Rattle.sm_product.specs.Drawn.{IsDrawn}
-use Rattle.sm_product.specs.Products.{product_if, product_while, product}
 use Rattle.sm_product.proofs.GrowthLemmas.{IsNoLarger, part_large, after_product, turn_of_loop}
 use Rattle.sm_product.proofs.ProductAppends.{product-append}
 use denote.Bor.{Bor}

@@ -1,24 +1,12 @@
 -- Where each node of a sketch may stand at what is left of the copies, its plans have obligations.
-use Rattle.std.proofs.Common.{◌≡◌, ℕ, suc, ◌+◌, ◌==◌, nat_le, Bool, true, false, not, ◌&&◌, ◌||◌, if◌then◌else◌, Option, Some, Result, Ok, Err, List, [], ◌∷◌, ◌++◌, map, length, refl, ap, sym, ◌∙◌, subst, arith}
-use Rattle.std.proofs.lemmas.List.{length-map}
-use Rattle.sm_syntax.specs.claim.Syntax.{Code, End, Skip, Assign, Write, If, While, Hole}
-use Rattle.sm_syntax.specs.claim.ConflictFree.{Copy, O, A, B, M}
+use Rattle.sm_product.proofs.Imports.{◌≡◌, ℕ, suc, ◌+◌, ◌==◌, nat_le, Bool, true, false, not, ◌&&◌, ◌||◌, if◌then◌else◌, Option, Some, List, [], ◌∷◌, ◌++◌, map, length, refl, ap, sym, ◌∙◌, subst, arith, length-map, Code, End, Skip, Assign, Write, If, While, Hole, Copy, O, A, B, M, Assertion, SymbolicStore, Copies, each, has, is_inhabited, subsets, with_copy, is_kept, Node, Step, Abs, Fork, Loop, Dead, Ends, Unfit, Opened, opened_by, rule_of, where_true, after_step, both_ways, Plan, Plans, Fault, Wrong, due, joined, opened, expand, expand_all, count, State, is_over, is_long, front, rest_after, is_loop, loop_body, is_simple, is_fork, by_first_block, by_second_block, only_in, moved_on, SketchNode, Plain, LoopSite, BlockSite, Draw, Sketches, Over, More, site_at, sites_of, sites_below, node_with, plan_with, plans_with, AreKept}
+use Rattle.std.proofs.Common.{Result, Ok, Err}
 use Rattle.sm_term.specs.SameTestLaws.{both, three, four, same_number}
-use Rattle.sm_term.specs.Assertions.{Assertion}
-use Rattle.sm_term.specs.Symbolic.{SymbolicStore}
-use Rattle.sm_plan.specs.Copies.{Copies, each, has, is_inhabited, subsets, with_copy}
-use Rattle.sm_plan.specs.Limits.{is_kept}
-use Rattle.sm_plan.specs.Nodes.{Node, Step, Abs, Fork, Loop, Block, Dead, Ends, Unfit, Opened, opened_by, rule_of, where_true, after_step, both_ways}
+use Rattle.sm_plan.specs.Nodes.{Block}
 use Rattle.sm_plan.specs.Plans as plan
-use Rattle.sm_plan.specs.Plans.{Plan, Plans, Due, Fault, Wrong, due, joined, opened, expand, expand_all, count}
-use Rattle.sm_plan.specs.States.{State}
-use Rattle.sm_plan.specs.Statements.{is_over, is_long, front, rest_after, is_loop, loop_body}
+use Rattle.sm_plan.specs.Plans.{Due}
 use Rattle.sm_plan.specs.Successors as next
-use Rattle.sm_moves.specs.CodeShapes.{is_simple, is_fork, by_first_block, by_second_block}
-use Rattle.sm_moves.specs.CopySets.{only_in}
-use Rattle.sm_moves.specs.Moves.{moved_on}
-use Rattle.sm_sketch.specs.Sketches.{SketchNode, Plain, LoopSite, BlockSite, Sketch, Draw, Sketches, Over, More, site_at, sites_of, sites_below, node_with, plan_with, plans_with}
-use Rattle.sm_product.specs.Laws.{AreKept}
+use Rattle.sm_sketch.specs.Sketches.{Sketch}
 
 -- a node that is chosen may stand where this is left
 abbrev pub PlainOpens : Node → (Copy → Code) → Type 0

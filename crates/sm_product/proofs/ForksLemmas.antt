@@ -1,17 +1,7 @@
 -- Forks of the copies of a set, one after the other, fit where what is drawn for each outcome does.
-use Rattle.std.proofs.Common.{◌≡◌, Bool, true, false, not, ◌&&◌, ◌||◌, if◌then◌else◌, List, [], ◌∷◌, refl, ap, sym, ◌∙◌, subst}
-use Rattle.sm_syntax.specs.claim.Syntax.{Condition, Code, End, If, append}
-use Rattle.sm_syntax.specs.claim.ConflictFree.{Copy, O, A, B, M}
-use Rattle.sm_term.specs.SameTerms.{is_copy}
-use Rattle.sm_plan.specs.Copies.{Copies, has, no_copies, with_copy}
-use Rattle.sm_plan.proofs.CopiesLemmas.{has_that}
-use Rattle.sm_moves.specs.CodeShapes.{is_fork, by_first_block, by_second_block}
-use Rattle.sm_moves.specs.CopySets.{members, with_member, without}
-use Rattle.sm_moves.proofs.SetsLemmas.{IsOneOf, among_members, members_wait, Waits, other_copies}
+use Rattle.sm_product.proofs.Imports.{◌≡◌, Bool, true, false, not, ◌&&◌, ◌||◌, if◌then◌else◌, List, [], ◌∷◌, refl, ap, sym, ◌∙◌, subst, Condition, Code, End, If, append, Copy, O, A, B, M, is_copy, Copies, has, no_copies, with_copy, has_that, is_fork, by_first_block, by_second_block, members, with_member, without, IsOneOf, among_members, members_wait, Waits, other_copies, forked, or_parts}
 use Rattle.sm_sketch.specs.Sketches.{Sketch}
-use Rattle.sm_product.specs.Products.{forked}
 use Rattle.sm_product.proofs.FitsLemmas.{Fits, fits_same}
-use Rattle.std.proofs.lemmas.Bool.{or_parts}
 use Rattle.sm_term.proofs.SameTermsLemmas.{copy_itself, copy_gives}
 
 -- an if of each copy of a set, nothing for the others

@@ -1,29 +1,9 @@
 -- The plan of each choice is fresh: no template names a new value of a node.
-use Rattle.std.proofs.Common.{ℕ, zero, suc, ◌+◌, ◌/◌, ℤ, List, [], ◌∷◌, take, drop, length}
+use Rattle.sm_product.proofs.Imports.{ℕ, zero, suc, ◌+◌, ◌/◌, ℤ, List, [], ◌∷◌, take, drop, length, Sort, Num, Arr, Expression, Var, Read, Neg, Plus, Minus, Times, Code, Cmp, Copy, O, A, B, M, Parts, Tree, Assertion, term_of, Copies, IsFreshAt, IsFresh, AreFresh, size, place, keeps_goals, Each, slots, weaker, block_templates, loop_templates, HoldsOfTemplates, of_block_templates, of_loop_templates, each_take, each_drop, Choice, chosen_at, picked, halved, kept_by, SketchNode, Draw, Sketches, Over, More, site_at, sites_of, node_with, plan_with, plans_with, each_picked, plan_of, sketch_of}
 use Rattle.sm_syntax.specs.declared.tree.Cmp.TheVariants as cmp
-use Rattle.sm_syntax.specs.declared.tree.Sort.{Sort}
-use Rattle.sm_syntax.specs.declared.tree.Sort.TheVariants.{Num, Arr}
-use Rattle.sm_syntax.specs.claim.Syntax.{Expression, Lit, Var, Read, Neg, Plus, Minus, Times, Code}
-use Rattle.sm_syntax.specs.declared.tree.Cmp.{Cmp}
-use Rattle.sm_syntax.specs.claim.ConflictFree.{Copy, O, A, B, M}
-use Rattle.sm_syntax.specs.text.Parts.{Parts}
-use Rattle.sm_term.specs.Terms.{Tree}
-use Rattle.sm_term.specs.Assertions.{Assertion}
+use Rattle.sm_syntax.specs.claim.Syntax.{Lit}
 use Rattle.sm_term.specs.Fresh.{IsBelow, IsFormBelow}
-use Rattle.sm_term.specs.Symbolic.{term_of}
-use Rattle.sm_plan.specs.Copies.{Copies}
-use Rattle.sm_plan.specs.Nodes.{IsFreshAt}
-use Rattle.sm_plan.specs.Plans.{IsFresh, AreFresh, size}
-use Rattle.sm_plan.specs.States.{place, keeps_goals}
-use Rattle.sm_moves.proofs.SetsLemmas.{Each}
-use Rattle.sm_template.specs.Guards.{slots, weaker}
-use Rattle.sm_template.specs.Templates.{block_templates, loop_templates}
-use Rattle.sm_template.proofs.TemplatesLemmas.{HoldsOfTemplates, of_block_templates, of_loop_templates, each_take, each_drop}
-use Rattle.sm_sketch.specs.Choices.{Choice, chosen_at, picked, halved, kept_by}
-use Rattle.sm_sketch.specs.Sketches.{SketchNode, Sketch, Draw, Sketches, Over, More, site_at, sites_of, node_with, plan_with, plans_with}
-use Rattle.sm_sketch.proofs.PickedLemmas.{each_picked}
-use Rattle.sm_product.specs.ProductPlans.{plan_of}
-use Rattle.sm_product.specs.Products.{sketch_of}
+use Rattle.sm_sketch.specs.Sketches.{Sketch}
 use Rattle.sm_product.proofs.NodesLemmas.{EachNode, EachBelow, HoldsOfNodes, sketch_nodes}
 
 -- a conjunction of formulas below a number is below it

@@ -1,20 +1,7 @@
 -- A mini-product is the same for each bound on moves that is no less than the statements left.
-use Rattle.std.proofs.Common.{◌≡◌, ℕ, zero, suc, ◌≤◌, Bool, true, false, List, [], ◌∷◌, refl, ap, sym, ◌∙◌, arith}
-use Rattle.sm_syntax.specs.claim.Syntax.{Code, End}
-use Rattle.sm_syntax.specs.claim.ConflictFree.{Copy}
-use Rattle.sm_syntax.specs.text.Parts.{Parts}
-use Rattle.sm_plan.specs.Copies.{Copies, has, is_inhabited, subsets, with_copy}
-use Rattle.sm_plan.specs.Nodes.{Step, Abs}
-use Rattle.sm_plan.specs.Statements.{rest_after}
-use Rattle.sm_moves.specs.CodeShapes.{by_first_block, by_second_block}
-use Rattle.sm_moves.specs.CopySets.{members}
-use Rattle.sm_moves.specs.Moves.{Move, Done, Steps, Summaries, Forks, Loops, move_of, moved_on}
-use Rattle.sm_moves.proofs.CodesLemmas.{simple_left, loop_left, rest_no_hole, blocks_no_hole, fewer_after, fewer_ways}
-use Rattle.sm_moves.proofs.MovesLemmas.{MoveSays, move_says}
-use Rattle.sm_moves.proofs.SetsLemmas.{Each, each_of_all, IsWithin, each_subset}
-use Rattle.sm_template.specs.Templates.{loop_templates}
-use Rattle.sm_sketch.specs.Sketches.{Sketch, LoopSite, Draw, More, ends, then_draw, each_of, forking, turns_then, looped}
-use Rattle.sm_product.specs.MiniProducts.{drawn, mini_product, statements_left, side_by_side}
+use Rattle.sm_product.proofs.Imports.{◌≡◌, ℕ, zero, suc, ◌≤◌, Bool, true, false, List, [], ◌∷◌, refl, ap, sym, ◌∙◌, arith, Code, End, Copy, Parts, Copies, has, is_inhabited, subsets, with_copy, Step, Abs, rest_after, by_first_block, by_second_block, members, Done, Steps, Summaries, Forks, Loops, move_of, moved_on, simple_left, loop_left, rest_no_hole, blocks_no_hole, fewer_after, fewer_ways, MoveSays, move_says, Each, each_of_all, IsWithin, each_subset, loop_templates, LoopSite, Draw, More, ends, then_draw, each_of, forking, turns_then, looped, drawn, mini_product, statements_left, side_by_side}
+use Rattle.sm_moves.specs.Moves.{Move}
+use Rattle.sm_sketch.specs.Sketches.{Sketch}
 use Rattle.sm_product.proofs.FitsLemmas.{bodies_left}
 use Rattle.sm_product.proofs.MiniLemmas.{nothing_left}
 use Rattle.sm_product.proofs.SmallerLemmas.{IsRest, one_smaller, moved_smaller, bodies_smaller}

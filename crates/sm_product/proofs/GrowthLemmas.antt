@@ -1,23 +1,7 @@
 -- A sketch is no larger than one that it is a part of, nor than the product before which it stands.
-use Rattle.std.proofs.Common.{◌≤◌, ℕ, zero, suc, Bool, true, false, not, ◌&&◌, ◌||◌, if◌then◌else◌, List, [], ◌∷◌, inl, inr, subst, arith}
-use Rattle.std.specs.List.{list_any}
-use Rattle.sm_syntax.specs.claim.Syntax.{Code, End, Skip, Assign, Write, If, While, Hole}
-use Rattle.sm_syntax.specs.claim.Fill.{filling, fill}
-use Rattle.sm_syntax.specs.claim.ConflictFree.{Copy}
-use Rattle.sm_syntax.specs.text.Parts.{Parts}
-use Rattle.sm_term.specs.Assertions.{Assertion}
-use Rattle.sm_plan.specs.Copies.{Copies, with_copy, no_copies, is_inhabited, has, subsets}
-use Rattle.sm_plan.specs.Nodes.{Node, Step, Abs, Fork}
-use Rattle.sm_plan.specs.Statements.{rest_after, loop_body}
-use Rattle.sm_plan.proofs.CopiesLemmas.{In}
-use Rattle.sm_moves.specs.CodeShapes.{by_first_block, by_second_block, has_hole, has_fork, own_statements}
-use Rattle.sm_moves.specs.CopySets.{members, only_in}
-use Rattle.sm_moves.specs.Moves.{Move, Done, Steps, Summaries, Forks, Loops, move_of, moved_on, is_shared}
-use Rattle.sm_template.specs.Templates.{block_templates, loop_templates}
-use Rattle.sm_sketch.specs.SketchSizes.{sketch_size, sizes_below, sketch_depth, deepest_below, is_branching_node, IsTooLarge}
-use Rattle.sm_sketch.specs.Sketches.{SketchNode, Plain, LoopSite, BlockSite, Sketch, Draw, Sketches, Over, More, ends, then_draw, each_of, forking, turns_then, looped, apart}
-use Rattle.sm_product.specs.MiniProducts.{drawn, mini_product, side_by_side, statements_left}
-use Rattle.sm_product.specs.Products.{where_any, forked, branched, product_if, product_while, filled, product}
+use Rattle.sm_product.proofs.Imports.{◌≤◌, ℕ, zero, suc, Bool, true, false, not, ◌&&◌, ◌||◌, if◌then◌else◌, List, [], ◌∷◌, inl, inr, subst, arith, list_any, Code, End, Skip, Assign, Write, If, While, Hole, filling, fill, Copy, Parts, Assertion, Copies, with_copy, no_copies, is_inhabited, has, subsets, Node, Step, Abs, Fork, rest_after, loop_body, In, by_first_block, by_second_block, has_hole, has_fork, own_statements, members, only_in, Done, Steps, Summaries, Forks, Loops, move_of, moved_on, is_shared, block_templates, loop_templates, sketch_size, sizes_below, sketch_depth, deepest_below, is_branching_node, IsTooLarge, SketchNode, Plain, LoopSite, BlockSite, Draw, Sketches, Over, More, ends, then_draw, each_of, forking, turns_then, looped, apart, drawn, mini_product, side_by_side, statements_left, where_any, forked, branched, product_if, product_while, filled, product}
+use Rattle.sm_moves.specs.Moves.{Move}
+use Rattle.sm_sketch.specs.Sketches.{Sketch}
 
 -- a sketch has at most the nodes of another, and branches no deeper
 pub record IsNoLarger (p whole : Sketch) : Type 0 where

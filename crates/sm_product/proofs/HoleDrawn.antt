@@ -1,21 +1,8 @@
 -- What a hole draws, by its two cases.
-use Rattle.std.proofs.Common.{◌≡◌, Bool, true, false, not, ◌&&◌, if◌then◌else◌, Result, sym, ap, subst}
-use Rattle.std.specs.List.{list_any}
-use Rattle.sm_syntax.specs.claim.ConflictFree.{Copy}
-use Rattle.sm_syntax.specs.claim.Syntax.{Code}
-use Rattle.sm_syntax.specs.text.Parts.{Parts}
-use Rattle.sm_term.specs.Tables.{TableValue}
-use Rattle.sm_plan.specs.Copies.{Copies}
-use Rattle.sm_moves.specs.CodeShapes.{has_fork, own_statements}
-use Rattle.sm_moves.specs.CopySets.{members}
-use Rattle.sm_moves.specs.Moves.{is_shared}
-use Rattle.sm_template.specs.Templates.{block_templates}
-use Rattle.sm_sketch.specs.declared.error.ProductError.{ProductError}
+use Rattle.sm_product.proofs.Imports.{◌≡◌, Bool, true, false, not, ◌&&◌, if◌then◌else◌, sym, ap, subst, list_any, Copy, Code, Parts, TableValue, Copies, has_fork, own_statements, members, is_shared, block_templates, ProductError, IsDrawn, side_by_side, filled}
+use Rattle.std.proofs.Common.{Result}
 use Rattle.sm_sketch.specs.declared.sketch.Sketch.{Sketch}
 use Rattle.sm_sketch.specs.Sketches as plain
-use Rattle.sm_product.specs.Drawn.{IsDrawn}
-use Rattle.sm_product.specs.MiniProducts.{side_by_side}
-use Rattle.sm_product.specs.Products.{filled}
 use Rattle.sm_product.proofs.DrawnLemmas.{drawn_same}
 
 module _ (t : Parts) (w : TableValue) (set : Copies) (given code : Copy → Code) (same : given ≡ code) (p : plain.Sketch)

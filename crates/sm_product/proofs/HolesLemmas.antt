@@ -1,11 +1,6 @@
 -- The fillings of a task that meets the conditions have no hole.
-use Rattle.std.proofs.Common.{◌≡◌, ℕ, Option, Some, None, List, [], ◌∷◌, refl}
-use Rattle.sm_syntax.specs.claim.Syntax.{Hole}
-use Rattle.sm_syntax.specs.claim.Fill.{filling}
-use Rattle.sm_syntax.specs.claim.ConflictFree.{Copy, O, A, B, M}
+use Rattle.sm_product.proofs.Imports.{◌≡◌, ℕ, Option, Some, None, List, [], ◌∷◌, refl, Hole, filling, Copy, O, A, B, M, Parts, ValidHasNoHole}
 use Rattle.sm_syntax.specs.text.Conditions.{Section, Refusal, ListOf, HoleInFilling, at_hole, first_outside, first_of_all, holes_inside, hole_in_filling, first_refusal}
-use Rattle.sm_syntax.specs.text.Parts.{Parts}
-use Rattle.sm_product.specs.Laws.{ValidHasNoHole}
 use Rattle.sm_syntax.proofs.Refusals.{neither_refuses}
 use Rattle.sm_moves.proofs.NoHoles.{no_filling, none_outside}
 

@@ -1,21 +1,11 @@
 -- A task whose sketch is too large isn't within the limits.
-use Rattle.std.proofs.Common.{◌≡◌, ℕ, suc, ◌+◌, ◌<◌, max, nat_le, Bool, false, ◌&&◌, if◌then◌else◌, Result, Ok, Err, List, length, IfErr, inl, inr, refl, sym, ap, subst, arith}
-use Rattle.std.proofs.lemmas.Bool.{lt-ltb, lt-leb}
-use Rattle.sm_syntax.specs.text.Parts.{Parts, task_of}
-use Rattle.sm_term.specs.Assertions.{Assertion}
-use Rattle.sm_plan.specs.Nodes.{is_branching}
-use Rattle.sm_plan.specs.Plans.{Due, Fault, size, sizes, branches, most_branches, obligations}
+use Rattle.sm_product.proofs.Imports.{◌≡◌, ℕ, suc, ◌+◌, ◌<◌, max, nat_le, Bool, false, ◌&&◌, if◌then◌else◌, List, length, inl, inr, refl, sym, ap, subst, arith, lt-ltb, lt-leb, Parts, task_of, Assertion, is_branching, Fault, size, sizes, branches, most_branches, obligations, TellsSketch, ProductError, kept_by, SketchNode, Plain, LoopSite, BlockSite, Draw, Sketches, Over, More, site_at, sites_of, node_with, plan_with, plans_with, is_branching_node, sketch_size, sizes_below, sketch_depth, deepest_below, IsTooLarge, TellsTask, plan_of, full_choice, sketch_of, goals_in, facts_in, is_small}
+use Rattle.std.proofs.Common.{Result, Ok, Err, IfErr}
+use Rattle.sm_plan.specs.Plans.{Due}
 use Rattle.sm_expand.proofs.WholeLemmas.{too_deep}
 use Rattle.sm_sketch.specs.declared.error.ProductError.TheVariants as error
-use Rattle.sm_sketch.specs.Errors.{TellsSketch}
-use Rattle.sm_sketch.specs.declared.error.ProductError.{ProductError}
-use Rattle.sm_sketch.specs.Choices.{kept_by}
-use Rattle.sm_sketch.specs.Sketches.{SketchNode, Plain, LoopSite, BlockSite, Sketch, Draw, Sketches, Over, More, site_at, sites_of, node_with, plan_with, plans_with}
-use Rattle.sm_sketch.specs.SketchSizes.{is_branching_node, sketch_size, sizes_below, sketch_depth, deepest_below, IsTooLarge}
-use Rattle.sm_product.specs.Errors.{TellsTask}
-use Rattle.sm_product.specs.ProductPlans.{plan_of, full_choice}
-use Rattle.sm_product.specs.Products.{sketch_of}
-use Rattle.sm_product.specs.Sizes.{goals_in, facts_in, is_within, is_small}
+use Rattle.sm_sketch.specs.Sketches.{Sketch}
+use Rattle.sm_product.specs.Sizes.{is_within}
 
 module _ (keep : ℕ → List Assertion → Assertion) where
   -- a plan of a sketch has its nodes

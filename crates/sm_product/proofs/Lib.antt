@@ -1,3 +1,4 @@
+mod Imports
 pub mod BranchExamples
 pub mod ChoicesLemmas
 mod DrawingLemmas

@@ -1,22 +1,14 @@
 -- Tasks whose holes stand in a loop or are loops, each with its product and its templates, worked by hand.
-use Rattle.std.proofs.Common.{◌≡◌, ℕ, pos, refl, true, Option, None, Some, Result, Ok, Err, List, [], ◌∷◌, ◌++◌, length}
+use Rattle.sm_product.proofs.Imports.{◌≡◌, ℕ, pos, refl, true, Option, None, Some, List, [], ◌∷◌, ◌++◌, length, Num, Arr, Expression, Condition, Code, End, Assign, Write, While, Hole, Compare, Var, Read, Plus, Copy, O, A, B, M, Parts, by_copy, task_of, Tree, Start, Slot, Cell, Add, Assertion, Eq, Ne, Le, Or, Step, Abs, Ends, size, Fault, obligations, nodes_of, all_copies, Sketches, Draw, Plain, LoopSite, Over, More, sites_of, sketch_of, site_count, templates, plan_of, full_choice, goals_in, facts_in, is_small}
+use Rattle.std.proofs.Common.{Result, Ok, Err}
 use Rattle.sm_syntax.specs.declared.tree.Cmp.TheVariants as cmp
-use Rattle.sm_syntax.specs.declared.tree.Sort.TheVariants.{Num, Arr}
-use Rattle.sm_syntax.specs.claim.Syntax.{Expression, Condition, Code, End, Assign, Write, While, Hole, Compare, Var, Read, Plus}
 use Rattle.sm_syntax.specs.claim.Syntax as syntax
-use Rattle.sm_syntax.specs.claim.ConflictFree.{Copy, O, A, B, M}
-use Rattle.sm_syntax.specs.text.Parts.{Parts, by_copy, task_of}
-use Rattle.sm_term.specs.Terms.{Tree, Start, Slot, Cell, Add, Lit}
+use Rattle.sm_term.specs.Terms.{Lit}
 use Rattle.sm_term.specs.Terms as term
-use Rattle.sm_term.specs.Assertions.{Assertion, Eq, Ne, Le, Or}
 use Rattle.sm_plan.specs.Limits.{is_kept, is_shallow}
-use Rattle.sm_plan.specs.Nodes.{Step, Abs, Ends}
-use Rattle.sm_plan.specs.Plans.{size, Due, Fault, obligations, nodes_of}
-use Rattle.sm_moves.specs.CopySets.{all_copies}
-use Rattle.sm_sketch.specs.Sketches.{Sketch, Sketches, Draw, Plain, LoopSite, Over, More, sites_of}
-use Rattle.sm_product.specs.Products.{sketch_of}
-use Rattle.sm_product.specs.ProductPlans.{site_count, templates, plan_of, full_choice}
-use Rattle.sm_product.specs.Sizes.{goals_in, facts_in, is_within, is_small}
+use Rattle.sm_plan.specs.Plans.{Due}
+use Rattle.sm_sketch.specs.Sketches.{Sketch}
+use Rattle.sm_product.specs.Sizes.{is_within}
 
 -- one node for each copy of a list, and then a sketch
 abbrev pub steps : List Copy → Sketch → Sketch

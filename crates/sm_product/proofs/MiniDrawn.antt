@@ -1,18 +1,7 @@
 -- The mini-product, from its straight moves and the move behind them.
-use Rattle.std.proofs.Common.{◌≡◌, ◌<◌, List, ap, sym, ◌∙◌, subst, arith}
-use Rattle.sm_syntax.specs.claim.Syntax.{Code}
-use Rattle.sm_syntax.specs.claim.ConflictFree.{Copy}
-use Rattle.sm_syntax.specs.text.Parts.{Parts}
-use Rattle.sm_plan.specs.Copies.{Copies}
-use Rattle.sm_moves.specs.Moves.{Move, move_of}
-use Rattle.sm_sketch.specs.Errors.{TellsSketch}
-use Rattle.sm_sketch.specs.declared.error.ProductError.{ProductError}
+use Rattle.sm_product.proofs.Imports.{◌≡◌, ◌<◌, List, ap, sym, ◌∙◌, subst, arith, Code, Copy, Parts, Copies, move_of, TellsSketch, ProductError, sketch_size, sketch_depth, Room, drawn, side_by_side, IsFilled, moves_before, IsRoom, TellsBeyond}
+use Rattle.sm_moves.specs.Moves.{Move}
 use Rattle.sm_sketch.specs.Sketches.{Sketch}
-use Rattle.sm_sketch.specs.SketchSizes.{sketch_size, sketch_depth}
-use Rattle.sm_product.specs.declared.rooms.Room.{Room}
-use Rattle.sm_product.specs.MiniProducts.{drawn, side_by_side}
-use Rattle.sm_product.specs.Paths.{IsFilled, moves_before}
-use Rattle.sm_product.specs.Rooms.{IsRoom, TellsBeyond}
 use Rattle.sm_product.proofs.RoomLemmas.{part_beyond, limit_beyond}
 use Rattle.sm_product.proofs.StraightLemmas.{one_drawn, moves_grow}
 

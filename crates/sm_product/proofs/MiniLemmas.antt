@@ -1,21 +1,8 @@
 -- A mini-product fits what is left of its copies, where their code has no hole.
-use Rattle.std.proofs.Common.{◌≡◌, ℕ, zero, suc, ◌≤◌, ◌<◌, Bool, true, false, if◌then◌else◌, refl, ap, sym, ◌∙◌, arith}
-use Rattle.sm_syntax.specs.claim.Syntax.{Code, End, Skip, Assign, Write, If, While, Hole, append}
-use Rattle.sm_syntax.specs.claim.ConflictFree.{Copy, O, A, B, M}
-use Rattle.sm_syntax.specs.text.Parts.{Parts}
-use Rattle.sm_syntax.proofs.Appends.{append-End}
-use Rattle.sm_plan.specs.Copies.{Copies, has, is_inhabited, with_copy}
-use Rattle.sm_plan.specs.Statements.{is_over, rest_after, is_loop, loop_body}
-use Rattle.sm_plan.proofs.CopiesLemmas.{one_copy}
+use Rattle.sm_product.proofs.Imports.{◌≡◌, ℕ, zero, suc, ◌≤◌, ◌<◌, Bool, true, false, if◌then◌else◌, refl, ap, sym, ◌∙◌, arith, Code, End, Skip, Assign, Write, If, While, Hole, append, Copy, O, A, B, M, Parts, append-End, Copies, has, is_inhabited, with_copy, is_over, rest_after, is_loop, loop_body, one_copy, has_hole, by_first_block, by_second_block, statements_in, Done, Steps, Summaries, Forks, Loops, move_of, moved_on, long_append, rest_append, simple_left, simple_append, fork_append, loop_left, loop_append, rest_no_hole, blocks_no_hole, fewer_after, fewer_ways, MoveSays, move_says, IsWithin, loop_templates, ends, drawn, mini_product}
 use Rattle.sm_plan.proofs.StatementsLemmas.{over_is}
-use Rattle.sm_moves.specs.CodeShapes.{has_hole, by_first_block, by_second_block, statements_in}
-use Rattle.sm_moves.specs.Moves.{Move, Done, Steps, Summaries, Forks, Loops, move_of, moved_on}
-use Rattle.sm_moves.proofs.CodesLemmas.{long_append, rest_append, simple_left, simple_append, fork_append, loop_left, loop_append, rest_no_hole, blocks_no_hole, fewer_after, fewer_ways}
-use Rattle.sm_moves.proofs.MovesLemmas.{MoveSays, move_says}
-use Rattle.sm_moves.proofs.SetsLemmas.{IsWithin}
-use Rattle.sm_template.specs.Templates.{loop_templates}
-use Rattle.sm_sketch.specs.Sketches.{Sketch, ends}
-use Rattle.sm_product.specs.MiniProducts.{drawn, mini_product}
+use Rattle.sm_moves.specs.Moves.{Move}
+use Rattle.sm_sketch.specs.Sketches.{Sketch}
 use Rattle.sm_product.proofs.DrawingLemmas.{summaries_fit, looped_fits, ends_fit}
 use Rattle.sm_product.proofs.FitsLemmas.{Fits, fits_same, bodies_left}
 use Rattle.sm_product.proofs.SmallerLemmas.{IsRest, one_smaller, moved_smaller, bodies_smaller}

@@ -1,22 +1,7 @@
 -- Each node of a product is a step, a summary, a fork or an end, or the site of loops or of a block.
-use Rattle.std.proofs.Common.{ℕ, zero, suc, Bool, true, false, not, ◌&&◌, ◌||◌, if◌then◌else◌, List, [], ◌∷◌}
-use Rattle.std.specs.List.{list_any}
-use Rattle.sm_syntax.specs.claim.Syntax.{Code, End, Skip, Assign, Write, If, While, Hole}
-use Rattle.sm_syntax.specs.claim.Fill.{filling, fill}
-use Rattle.sm_syntax.specs.claim.ConflictFree.{Copy}
-use Rattle.sm_syntax.specs.text.Parts.{Parts}
-use Rattle.sm_term.specs.Assertions.{Assertion}
-use Rattle.sm_plan.specs.Copies.{Copies, has, no_copies, is_inhabited, subsets, with_copy}
-use Rattle.sm_plan.specs.Nodes.{Node, Step, Abs, Fork, Ends}
-use Rattle.sm_plan.specs.Statements.{rest_after}
-use Rattle.sm_moves.specs.CodeShapes.{has_hole, has_fork, own_statements, by_first_block, by_second_block}
-use Rattle.sm_moves.specs.CopySets.{all_copies, members, with_member, without, only_in}
-use Rattle.sm_moves.specs.Moves.{Move, Done, Steps, Summaries, Forks, Loops, is_shared, move_of, moved_on}
-use Rattle.sm_moves.proofs.SetsLemmas.{Each, each_append}
-use Rattle.sm_template.specs.Templates.{block_templates, loop_templates}
-use Rattle.sm_sketch.specs.Sketches.{SketchNode, Plain, LoopSite, BlockSite, Sketch, Draw, Sketches, Over, More, ends, each_of, turns_then, looped, apart, site_at, sites_of, sites_below}
-use Rattle.sm_product.specs.MiniProducts.{drawn, mini_product, statements_left, side_by_side}
-use Rattle.sm_product.specs.Products.{where_any, forked, branched, product_if, product_while, filled, product, sketch_of}
+use Rattle.sm_product.proofs.Imports.{ℕ, zero, suc, Bool, true, false, not, ◌&&◌, ◌||◌, if◌then◌else◌, List, [], ◌∷◌, list_any, Code, End, Skip, Assign, Write, If, While, Hole, filling, fill, Copy, Parts, Assertion, Copies, has, no_copies, is_inhabited, subsets, with_copy, Node, Step, Abs, Fork, Ends, rest_after, has_hole, has_fork, own_statements, by_first_block, by_second_block, all_copies, members, with_member, without, only_in, Done, Steps, Summaries, Forks, Loops, is_shared, move_of, moved_on, Each, each_append, block_templates, loop_templates, SketchNode, Plain, LoopSite, BlockSite, Draw, Sketches, Over, More, ends, each_of, turns_then, looped, apart, site_at, sites_of, sites_below, drawn, mini_product, statements_left, side_by_side, where_any, forked, branched, product_if, product_while, filled, product, sketch_of}
+use Rattle.sm_moves.specs.Moves.{Move}
+use Rattle.sm_sketch.specs.Sketches.{Sketch}
 use Rattle.sm_product.proofs.FitsLemmas.{bodies_left}
 
 abbrev mutual

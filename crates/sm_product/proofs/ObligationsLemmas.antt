@@ -1,20 +1,8 @@
 -- Where a plan has obligations, each of its nodes has, and the formula kept at each site is within its limits.
-use Rattle.std.proofs.Common.{◌≡◌, ℕ, suc, ◌+◌, ◌==◌, Bool, true, false, not, ◌&&◌, ◌||◌, if◌then◌else◌, Some, Ok, Err, List, [], ◌∷◌, ◌++◌, length, refl, subst, arith}
-use Rattle.std.proofs.lemmas.Bool.{and_parts}
-use Rattle.sm_syntax.specs.claim.ConflictFree.{Copy}
-use Rattle.sm_syntax.specs.text.Parts.{Parts, task_of}
-use Rattle.sm_term.specs.Assertions.{Assertion}
-use Rattle.sm_plan.specs.Copies.{each, has, is_inhabited}
-use Rattle.sm_plan.specs.Limits.{is_kept, is_shallow}
-use Rattle.sm_plan.specs.Nodes.{Opened, opened_by, where_true, rule_of}
-use Rattle.sm_plan.specs.Plans.{Due, Fault, Wrong, Deep, due, joined, opened, expand, expand_all, count, size, branches, obligations}
-use Rattle.sm_plan.specs.States.{State, start_state}
-use Rattle.sm_plan.specs.Statements.{is_long, is_loop}
-use Rattle.sm_sketch.specs.Choices.{Choice, kept_by}
-use Rattle.sm_sketch.specs.Sketches.{SketchNode, Plain, LoopSite, BlockSite, Sketch, Draw, Sketches, Over, More, site_at, sites_of, sites_below, node_with, plan_with, plans_with}
-use Rattle.sm_product.specs.Laws.{AreKept, ProductExpands}
-use Rattle.sm_product.specs.ProductPlans.{plan_of}
-use Rattle.sm_product.specs.Products.{sketch_of}
+use Rattle.sm_product.proofs.Imports.{◌≡◌, ℕ, suc, ◌+◌, ◌==◌, Bool, true, false, not, ◌&&◌, ◌||◌, if◌then◌else◌, Some, List, [], ◌∷◌, ◌++◌, length, refl, subst, arith, and_parts, Copy, Parts, task_of, Assertion, each, has, is_inhabited, is_kept, is_shallow, Opened, opened_by, where_true, rule_of, Fault, Wrong, Deep, due, joined, opened, expand, expand_all, count, size, branches, obligations, State, start_state, is_long, is_loop, Choice, kept_by, SketchNode, Plain, LoopSite, BlockSite, Draw, Sketches, Over, More, site_at, sites_of, sites_below, node_with, plan_with, plans_with, AreKept, ProductExpands, plan_of, sketch_of}
+use Rattle.std.proofs.Common.{Ok, Err}
+use Rattle.sm_plan.specs.Plans.{Due}
+use Rattle.sm_sketch.specs.Sketches.{Sketch}
 use Rattle.sm_product.proofs.ProductLemmas.{plan_expands}
 use Rattle.sm_plan.proofs.PlanSound.{opened_is, passed, joined_is}
 

@@ -1,24 +1,8 @@
 -- What holds of the parts of a mini-product over a table, after it has more.
-use Rattle.std.proofs.Common.{◌≡◌, List, sym, ◌∙◌, subst}
-use Rattle.sm_syntax.specs.claim.Syntax.{Code}
-use Rattle.sm_syntax.specs.claim.ConflictFree.{Copy}
-use Rattle.sm_syntax.specs.text.Parts.{Parts}
-use Rattle.sm_syntax.specs.text.Sorts.{Sorts, IsWellSorted}
-use Rattle.sm_term.specs.Assertions.{Assertion}
-use Rattle.sm_term.specs.Tables.{TableValue, trees_in, sorts_in}
-use Rattle.sm_term.specs.TableLaws.{ExtendsTable}
-use Rattle.sm_plan.specs.Copies.{Copies, with_copy}
-use Rattle.sm_moves.specs.CodeShapes.{by_first_block, by_second_block}
-use Rattle.sm_moves.specs.Moves.{Forks, Loops, moved_on}
+use Rattle.sm_product.proofs.Imports.{◌≡◌, List, sym, ◌∙◌, subst, Code, Copy, Parts, Sorts, IsWellSorted, Assertion, TableValue, trees_in, sorts_in, ExtendsTable, Copies, with_copy, by_first_block, by_second_block, Forks, Loops, moved_on, IsSiteReady, loop_templates, sketch_in, IsSketchReady, forking, looped, sketch_stays, turn_of, drawn, side_by_side}
 use Rattle.sm_template.specs.declared.site.SiteContext.{SiteContext}
-use Rattle.sm_template.specs.Sites.{IsSiteReady}
-use Rattle.sm_template.specs.Templates.{loop_templates}
 use Rattle.sm_sketch.specs.declared.sketch.Sketch as own
-use Rattle.sm_sketch.specs.SketchViews.{sketch_in, IsSketchReady}
-use Rattle.sm_sketch.specs.Sketches.{Sketch, forking, looped}
-use Rattle.sm_sketch.proofs.SketchesWiden.{sketch_stays}
-use Rattle.sm_product.specs.LoopTurns.{turn_of}
-use Rattle.sm_product.specs.MiniProducts.{drawn, side_by_side}
+use Rattle.sm_sketch.specs.Sketches.{Sketch}
 
 module _ (v w : TableValue) (wider : ExtendsTable v w) where
   pub still_drawn : (s : own.Sketch) (p : Sketch) → IsSketchReady (sorts_in v) (trees_in v) s →

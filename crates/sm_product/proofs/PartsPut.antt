@@ -1,23 +1,9 @@
 -- What is drawn for an if and for a while of the shared code, put together of its parts.
-use Rattle.std.proofs.Common.{◌≡◌, ◌<◌, ◌+◌, ◌||◌, ℕ, Bool, true, false, if◌then◌else◌, Result, List, drop, sym, ap, ◌∙◌, subst}
+use Rattle.sm_product.proofs.Imports.{◌≡◌, ◌<◌, ◌+◌, ◌||◌, ℕ, Bool, true, false, if◌then◌else◌, List, drop, sym, ap, ◌∙◌, subst, filter, Copy, copy_of, Code, Parts, Assertion, TableValue, trees_in, sorts_in, Copies, copies, has, no_copies, has_hole, only_in, members, with_member, without, block_templates, loop_templates, TellsSketch, ProductError, sketch_in, IsSketchReady, IsDrawn, product, product_if, product_while, branched, forked, where_any}
+use Rattle.std.proofs.Common.{Result}
 use Rattle.std.specs.Prelude.{IfOk, IfErr, IsErrAnd}
-use Rattle.std.specs.List.{filter}
-use Rattle.sm_syntax.specs.claim.ConflictFree.{Copy, copy_of}
-use Rattle.sm_syntax.specs.claim.Syntax.{Code}
-use Rattle.sm_syntax.specs.text.Parts.{Parts}
-use Rattle.sm_term.specs.Assertions.{Assertion}
-use Rattle.sm_term.specs.Tables.{TableValue, trees_in, sorts_in}
-use Rattle.sm_plan.specs.Copies.{Copies, copies, has, no_copies}
-use Rattle.sm_moves.specs.CodeShapes.{has_hole}
-use Rattle.sm_moves.specs.CopySets.{only_in, members, with_member, without}
-use Rattle.sm_template.specs.Templates.{block_templates, loop_templates}
-use Rattle.sm_sketch.specs.Errors.{TellsSketch}
-use Rattle.sm_sketch.specs.declared.error.ProductError.{ProductError}
 use Rattle.sm_sketch.specs.Sketches as plain
-use Rattle.sm_sketch.specs.SketchViews.{sketch_in, IsSketchReady}
 use Rattle.sm_sketch.specs.declared.sketch.Sketch.{Sketch}
-use Rattle.sm_product.specs.Drawn.{IsDrawn}
-use Rattle.sm_product.specs.Products.{product, product_if, product_while, branched, forked, where_any}
 use Rattle.sm_product.proofs.BlocksDrawn.{forks_out, forks_in}
 use Rattle.sm_product.proofs.DrawnLemmas.{tells_whole, drawn_by, drawn_same, drawn_fault, apart_drawn, looped_drawn, forking_drawn}
 use Rattle.sm_product.proofs.GrowthLemmas.{after_any, first_of_fork, second_of_fork}

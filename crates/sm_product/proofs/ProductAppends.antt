@@ -1,15 +1,6 @@
 -- The product of code after code.
-use Rattle.std.proofs.Common.{◌≡◌, ◌||◌, refl, ap}
-use Rattle.sm_syntax.specs.claim.ConflictFree.{Copy}
-use Rattle.sm_syntax.specs.claim.Fill.{filling, fill}
-use Rattle.sm_syntax.specs.claim.Syntax.{Code, End, Skip, Assign, Write, If, While, Hole, append}
-use Rattle.sm_syntax.specs.text.Parts.{Parts}
-use Rattle.sm_plan.specs.Copies.{Copies}
-use Rattle.sm_plan.specs.Nodes.{Step}
-use Rattle.sm_moves.specs.CodeShapes.{has_hole}
-use Rattle.sm_moves.specs.CopySets.{members, only_in}
-use Rattle.sm_sketch.specs.Sketches.{Sketch, each_of}
-use Rattle.sm_product.specs.Products.{product_if, product_while, filled, product}
+use Rattle.sm_product.proofs.Imports.{◌≡◌, ◌||◌, refl, ap, Copy, filling, fill, Code, End, Skip, Assign, Write, If, While, Hole, append, Parts, Copies, Step, has_hole, members, only_in, each_of, product_if, product_while, filled, product}
+use Rattle.sm_sketch.specs.Sketches.{Sketch}
 
 -- the product of code after code
 pub product-append : (t : Parts) (c d : Code) (set : Copies) (next : Sketch) →

@@ -1,31 +1,8 @@
 -- The sketch of a task fits its programs, where its fillings have no hole, and so its plans have obligations.
-use Rattle.std.proofs.Common.{◌≡◌, ℕ, Bool, true, false, not, ◌&&◌, ◌||◌, if◌then◌else◌, Err, refl, ap, sym, ◌∙◌, subst, arith}
-use Rattle.std.specs.List.{list_any}
-use Rattle.sm_syntax.specs.claim.Syntax.{Condition, Code, End, Skip, Assign, Write, If, While, Hole, append}
-use Rattle.sm_syntax.specs.claim.Fill.{filling, fill}
-use Rattle.sm_syntax.specs.claim.ConflictFree.{Copy, O, A, B, M, program_of}
-use Rattle.sm_syntax.specs.text.Parts.{Parts, task_of}
-use Rattle.sm_syntax.proofs.Appends.{append_assoc, append-End}
-use Rattle.sm_plan.specs.Copies.{Copies, has, no_copies, is_inhabited}
-use Rattle.sm_plan.specs.Limits.{is_shallow}
-use Rattle.sm_plan.specs.Nodes.{Step, Abs}
-use Rattle.sm_plan.specs.Plans.{Deep, branches, expand, obligations}
-use Rattle.sm_plan.specs.Statements.{is_long, front, rest_after, is_loop, loop_body}
-use Rattle.sm_plan.specs.States.{start_state}
-use Rattle.sm_plan.proofs.CopiesLemmas.{has_that}
-use Rattle.sm_moves.specs.CodeShapes.{is_simple, has_hole, has_fork, own_statements}
-use Rattle.sm_moves.specs.CopySets.{all_copies, members, without, only_in}
-use Rattle.sm_moves.specs.Moves.{is_shared, moved_on}
-use Rattle.sm_moves.proofs.CodesLemmas.{own_long, own_front, own_rest}
-use Rattle.sm_moves.proofs.MovesLemmas.{uninhabited}
-use Rattle.sm_moves.proofs.SetsLemmas.{IsWithin}
-use Rattle.sm_template.specs.Templates.{block_templates, loop_templates}
-use Rattle.sm_sketch.specs.Choices.{Choice, kept_by}
-use Rattle.sm_sketch.specs.Sketches.{Sketch, ends, each_of, apart, sites_of}
-use Rattle.sm_product.specs.Laws.{HaveNoHole, AreKept}
-use Rattle.sm_product.specs.MiniProducts.{statements_left, side_by_side}
-use Rattle.sm_product.specs.ProductPlans.{plan_of}
-use Rattle.sm_product.specs.Products.{where_any, forked, branched, product_if, product_while, filled, product, sketch_of}
+use Rattle.sm_product.proofs.Imports.{◌≡◌, ℕ, Bool, true, false, not, ◌&&◌, ◌||◌, if◌then◌else◌, refl, ap, sym, ◌∙◌, subst, arith, list_any, Condition, Code, End, Skip, Assign, Write, If, While, Hole, append, filling, fill, Copy, O, A, B, M, program_of, Parts, task_of, append-End, Copies, has, no_copies, is_inhabited, is_shallow, Step, Abs, Deep, branches, expand, obligations, is_long, front, rest_after, is_loop, loop_body, start_state, has_that, is_simple, has_hole, has_fork, own_statements, all_copies, members, without, only_in, is_shared, moved_on, own_long, own_front, own_rest, uninhabited, IsWithin, block_templates, loop_templates, Choice, kept_by, ends, each_of, apart, sites_of, HaveNoHole, AreKept, statements_left, side_by_side, plan_of, where_any, forked, branched, product_if, product_while, filled, product, sketch_of}
+use Rattle.std.proofs.Common.{Err}
+use Rattle.sm_syntax.proofs.Appends.{append_assoc}
+use Rattle.sm_sketch.specs.Sketches.{Sketch}
 use Rattle.sm_product.proofs.DrawingLemmas.{steps_fit, summaries_fit, looped_fits, apart_fits, ends_fit}
 use Rattle.sm_product.proofs.FitsLemmas.{Fits, fits_same, bodies_left, IsExpanded, expanded}
 use Rattle.sm_product.proofs.ForksLemmas.{ifs_of, blocks_of, forks_fit}

@@ -1,17 +1,9 @@
 -- Where there is no room for a part, there is none for the whole.
-use Rattle.std.proofs.Common.{◌≡◌, ℕ, ◌+◌, ◌<◌, ◌≤◌, inl, inr, List, [], ◌∷◌, ◌++◌, map, sym, subst, arith}
+use Rattle.sm_product.proofs.Imports.{◌≡◌, ℕ, ◌+◌, ◌<◌, ◌≤◌, inl, inr, List, [], ◌∷◌, ◌++◌, map, sym, subst, arith, Copy, Assertion, Copies, subsets, TellsSketch, ProductError, turns_then, forking, looped, sketch_size, sizes_below, sketch_depth, deepest_below, Room, IsRoom, TellsBeyond, all_below, TellAllBeyond, IsTaken}
 use Rattle.std.specs.Prelude.{Result, Ok, Err, IfErr}
 use Rattle.std.specs.Result.{IsErrAnd}
-use Rattle.sm_syntax.specs.claim.ConflictFree.{Copy}
-use Rattle.sm_term.specs.Assertions.{Assertion}
-use Rattle.sm_plan.specs.Copies.{Copies, subsets}
 use Rattle.sm_sketch.specs.declared.error.ProductError.TheVariants as error
-use Rattle.sm_sketch.specs.Errors.{TellsSketch}
-use Rattle.sm_sketch.specs.declared.error.ProductError.{ProductError}
-use Rattle.sm_sketch.specs.Sketches.{Sketch, turns_then, forking, looped}
-use Rattle.sm_sketch.specs.SketchSizes.{sketch_size, sizes_below, sketch_depth, deepest_below}
-use Rattle.sm_product.specs.declared.rooms.Room.{Room}
-use Rattle.sm_product.specs.Rooms.{IsRoom, TellsBeyond, all_below, TellAllBeyond, IsTaken}
+use Rattle.sm_sketch.specs.Sketches.{Sketch}
 
 -- what is so of an error is so of that which is returned
 pub err_is : {T E : Type 0} (P : E → Type 0) (r : Result T E) (x : E) → IsErrAnd r (λ (e : E). e ≡ x) → P x → IfErr r P

@@ -1,22 +1,11 @@
 -- Goals and facts of obligations, counted one by one.
-use Rattle.std.proofs.Common.{Bool, false, ◌&&◌, nat_le, Result, Ok, Err, IfOk, ◌≡◌, ℕ, zero, suc, ◌+◌, ◌<◌, ◌≤◌, List, [], ◌∷◌, ◌++◌, length, take, get_or, refl, sym, ap, ◌∙◌, arith}
+use Rattle.sm_product.proofs.Imports.{Bool, false, ◌&&◌, nat_le, ◌≡◌, ℕ, zero, suc, ◌+◌, ◌<◌, ◌≤◌, List, [], ◌∷◌, ◌++◌, length, take, get_or, refl, sym, ap, ◌∙◌, arith, lt-leb, take_more, map-append, Sorts, Tree, forms_in, due_in, dues_in, Parts, task_of, Plan, size, Fault, obligations, kept_by, sketch_size, plan_of, full_choice, sketch_of, goals_in, facts_in, is_small}
+use Rattle.std.proofs.Common.{Result, Ok, Err, IfOk}
 use Rattle.std.specs.declared.alloc.AllocError.{AllocError}
-use Rattle.std.proofs.lemmas.Bool.{lt-leb}
-use Rattle.std.proofs.lemmas.List.{take_more, map-append}
-use Rattle.sm_syntax.specs.text.Sorts.{Sorts}
-use Rattle.sm_term.specs.Terms.{Tree}
 use Rattle.sm_plan.specs.Plans as plain
-use Rattle.sm_plan.specs.Views.{forms_in}
-use Rattle.sm_expand.specs.Views.{due_in, dues_in}
 use Rattle.sm_expand.specs.declared.due.Due.{Due}
-use Rattle.sm_syntax.specs.text.Parts.{Parts, task_of}
-use Rattle.sm_plan.specs.Plans.{Plan, size, Fault, obligations}
-use Rattle.sm_sketch.specs.Choices.{kept_by}
-use Rattle.sm_sketch.specs.SketchSizes.{sketch_size}
 use Rattle.sm_sketch.proofs.AllChosen.{forms_length}
-use Rattle.sm_product.specs.ProductPlans.{plan_of, full_choice}
-use Rattle.sm_product.specs.Products.{sketch_of}
-use Rattle.sm_product.specs.Sizes.{goals_in, facts_in, is_within, is_small}
+use Rattle.sm_product.specs.Sizes.{is_within}
 use Rattle.sm_product.proofs.LargeTasks.{plan_size}
 
 module _ (sorts : Sorts) (trees : List Tree) where

@@ -1,15 +1,5 @@
 -- After each move fewer statements are left.
-use Rattle.std.proofs.Common.{◌≡◌, ℕ, suc, ◌+◌, ◌<◌, ◌≤◌, Bool, true, false, ◌||◌, if◌then◌else◌, refl, ap, arith}
-use Rattle.sm_syntax.specs.claim.Syntax.{Code, End}
-use Rattle.sm_syntax.specs.claim.ConflictFree.{Copy, O, A, B, M}
-use Rattle.sm_plan.specs.Copies.{Copies, has, is_inhabited, with_copy}
-use Rattle.sm_plan.specs.Statements.{is_over, rest_after, is_loop, loop_body}
-use Rattle.sm_plan.proofs.CopiesLemmas.{one_copy}
-use Rattle.sm_moves.specs.CodeShapes.{has_hole, statements_in}
-use Rattle.sm_moves.specs.Moves.{moved_on}
-use Rattle.sm_moves.proofs.CodesLemmas.{loop_left, rest_no_hole, body_no_hole, fewer_after, fewer_inside}
-use Rattle.sm_moves.proofs.SetsLemmas.{IsWithin}
-use Rattle.sm_product.specs.MiniProducts.{statements_left}
+use Rattle.sm_product.proofs.Imports.{◌≡◌, ℕ, suc, ◌+◌, ◌<◌, ◌≤◌, Bool, true, false, ◌||◌, if◌then◌else◌, refl, ap, arith, Code, End, Copy, O, A, B, M, Copies, has, is_inhabited, with_copy, is_over, rest_after, is_loop, loop_body, one_copy, has_hole, statements_in, moved_on, loop_left, rest_no_hole, body_no_hole, fewer_after, fewer_inside, IsWithin, statements_left}
 use Rattle.sm_product.proofs.FitsLemmas.{bodies_left}
 
 -- code of a set's copies, with no hole and nothing for the others, and at most n statements

@@ -1,30 +1,10 @@
 -- What straight moves leave, and what is drawn for them.
-use Rattle.std.proofs.Common.{◌≡◌, ℕ, suc, ◌<◌, true, if◌then◌else◌, List, [], ◌∷◌, ◌++◌, map, refl, ap, sym, ◌∙◌, subst, arith}
-use Rattle.std.proofs.lemmas.List.{map-append}
-use Rattle.sm_syntax.specs.claim.Syntax.{Code}
-use Rattle.sm_syntax.specs.claim.ConflictFree.{Copy, O, A, B, M}
-use Rattle.sm_syntax.specs.text.Parts.{Parts}
-use Rattle.sm_syntax.specs.text.Sorts.{Sorts, IsWellSorted}
-use Rattle.sm_plan.specs.Copies.{Copies, has, with_copy}
-use Rattle.sm_plan.specs.Masks.{bit_of, set_of}
-use Rattle.sm_plan.specs.Nodes.{Step, Abs}
-use Rattle.sm_plan.specs.Statements.{rest_after}
-use Rattle.sm_plan.proofs.CopiesLemmas.{one_copy}
-use Rattle.sm_plan.proofs.SortedCode.{rest_well}
-use Rattle.sm_plan.proofs.TurnsMade.{passed_ready}
-use Rattle.sm_moves.specs.CopySets.{members}
-use Rattle.sm_moves.specs.Moves.{Move, Done, Steps, Summaries, Forks, Loops, move_of, moved_on}
+use Rattle.sm_product.proofs.Imports.{◌≡◌, ℕ, suc, ◌<◌, true, if◌then◌else◌, List, [], ◌∷◌, ◌++◌, map, refl, ap, sym, ◌∙◌, subst, arith, map-append, Code, Copy, O, A, B, M, Parts, Sorts, IsWellSorted, Copies, has, with_copy, bit_of, set_of, Step, Abs, rest_after, one_copy, rest_well, passed_ready, members, Done, Steps, Summaries, Forks, Loops, move_of, moved_on, move_in, simple_left, rest_no_hole, fewer_after, MoveSays, move_says, TellsSketch, ProductError, drawn, side_by_side, statements_left, IsFilled, is_straight, after_move, move_before, moves_before}
+use Rattle.sm_moves.specs.Moves.{Move}
 use Rattle.sm_moves.specs.declared.moves.Move as own
-use Rattle.sm_moves.specs.ProgramMoves.{move_in}
 use Rattle.sm_moves.proofs.CopiesLemmas.{forked_at}
-use Rattle.sm_moves.proofs.CodesLemmas.{simple_left, rest_no_hole, fewer_after}
-use Rattle.sm_moves.proofs.MovesLemmas.{MoveSays, move_says}
 use Rattle.sm_sketch.specs.declared.error.ProductError.TheVariants as error
-use Rattle.sm_sketch.specs.Errors.{TellsSketch}
-use Rattle.sm_sketch.specs.declared.error.ProductError.{ProductError}
 use Rattle.sm_sketch.specs.Sketches.{Sketch}
-use Rattle.sm_product.specs.MiniProducts.{drawn, side_by_side, statements_left}
-use Rattle.sm_product.specs.Paths.{IsFilled, is_straight, after_move, move_before, moves_before}
 use Rattle.sm_product.proofs.FuelLemmas.{side_by_side_is}
 use Rattle.sm_product.proofs.GrowthLemmas.{IsNoLarger, part_large, itself, through, under_node, under_each}
 use Rattle.sm_product.proofs.SmallerLemmas.{IsRest, fewer_in, fewer_of, one_smaller, moved_less, moved_smaller}

@@ -1,21 +1,10 @@
 -- The turns of loops, one mask after the other.
-use Rattle.std.proofs.Common.{◌≡◌, ℕ, zero, suc, ◌+◌, ◌-◌, ◌==◌, ◌<◌, ◌≤◌, bit_and, inl, inr, Bool, if◌then◌else◌, List, [], ◌∷◌, ◌++◌, map, refl, ap, sym, ◌∙◌, subst, arith, append_assoc}
-use Rattle.std.specs.List.{filter, range_with_len}
-use Rattle.std.proofs.lemmas.List.{map-append}
+use Rattle.sm_product.proofs.Imports.{◌≡◌, ℕ, zero, suc, ◌+◌, ◌-◌, ◌==◌, ◌<◌, ◌≤◌, bit_and, inl, inr, Bool, if◌then◌else◌, List, [], ◌∷◌, ◌++◌, map, refl, ap, sym, ◌∙◌, subst, arith, filter, range_with_len, map-append, Sorts, Tree, Copies, subsets, set_of, filter_push, masked, ProductError, sketch_size, IsSketchReady, AreSketchesReady, Room, TellsBeyond, TellAllBeyond, IsTaken}
+use Rattle.std.proofs.Common.{append_assoc}
 use Rattle.std.proofs.lemmas.List.Elements.{filter-append}
-use Rattle.sm_syntax.specs.text.Sorts.{Sorts}
-use Rattle.sm_term.specs.Terms.{Tree}
-use Rattle.sm_plan.specs.Copies.{Copies, subsets}
-use Rattle.sm_plan.specs.Masks.{set_of}
-use Rattle.sm_plan.proofs.TurnsMade.{filter_push, masked}
-use Rattle.sm_sketch.specs.declared.error.ProductError.{ProductError}
 use Rattle.sm_sketch.specs.declared.error.ProductError.TheVariants as error
 use Rattle.sm_sketch.specs.declared.sketch.Sketch as own
 use Rattle.sm_sketch.specs.Sketches.{Sketch}
-use Rattle.sm_sketch.specs.SketchSizes.{sketch_size}
-use Rattle.sm_sketch.specs.SketchViews.{IsSketchReady, AreSketchesReady}
-use Rattle.sm_product.specs.declared.rooms.Room.{Room}
-use Rattle.sm_product.specs.Rooms.{TellsBeyond, TellAllBeyond, IsTaken}
 use Rattle.sm_product.proofs.RoomLemmas.{sizes_append, depth_append}
 
 -- room that is taken twice

@@ -1,14 +1,7 @@
 -- One turn more behind others, over a wider table.
-use Rattle.std.proofs.Common.{◌≡◌, ℕ, Bool, true, false, if◌then◌else◌, List, [], ◌∷◌, ◌++◌, map, sym, ap, ◌∙◌, subst, append-nil}
-use Rattle.std.proofs.lemmas.List.{map-append}
-use Rattle.sm_syntax.specs.text.Sorts.{Sorts}
-use Rattle.sm_term.specs.Tables.{TableValue, trees_in, sorts_in}
-use Rattle.sm_term.specs.TableLaws.{ExtendsTable}
-use Rattle.sm_term.specs.Terms.{Tree}
+use Rattle.sm_product.proofs.Imports.{◌≡◌, ℕ, Bool, true, false, if◌then◌else◌, List, [], ◌∷◌, ◌++◌, map, sym, ap, ◌∙◌, subst, append-nil, map-append, Sorts, TableValue, trees_in, sorts_in, ExtendsTable, Tree, sketch_in, IsSketchReady, AreSketchesReady, sketches_stay, sketches_ready}
 use Rattle.sm_sketch.specs.Sketches as plain
-use Rattle.sm_sketch.specs.SketchViews.{sketch_in, IsSketchReady, AreSketchesReady}
 use Rattle.sm_sketch.specs.declared.sketch.Sketch.{Sketch}
-use Rattle.sm_sketch.proofs.SketchesWiden.{sketches_stay, sketches_ready}
 
 push_ready : (sorts : Sorts) (trees : List Tree) (ss : List Sketch) (s : Sketch) → AreSketchesReady sorts trees ss →
     IsSketchReady sorts trees s → AreSketchesReady sorts trees (ss ++ s ∷ [])

@@ -1,15 +1,11 @@
 -- The verdicts worked by hand.
-use Rattle.std.proofs.Common.{◌≡◌, ◌<◌, ℕ, zero, suc, Bool, false, not, Result, Ok, Err, List, [], ◌∷◌, ◌++◌, take, refl, ap, ◌∙◌, arith}
-use Rattle.std.proofs.lemmas.Bool.{ne_eqb}
-use Rattle.sm_theory.specs.Named.{reads_all}
+use Rattle.sm_proof.proofs.Imports.{◌≡◌, ◌<◌, ℕ, zero, suc, Bool, false, not, Ok, Err, List, [], ◌∷◌, ◌++◌, take, refl, ap, ◌∙◌, arith, ne_eqb, reads_all, NumberedLine, ProofLine, Header, Cert, tested_or, Truncated, BadVersion, BadLine, Extra, has_exact, Subject, Standing, Reached, next_standing, reached_after, reached, lines_in, verdict_at_end, Rejected, Unopened, Before, passes_version, opens_if, reached_on, verdict_on, AreRead, FilesAreLines, whole, plain, WholeComesOut, VersionsComeOut, WordsComeOut, ExactComesOut, CasesComeOut}
+use Rattle.std.proofs.Common.{Result}
 use Rattle.sm_num.specs.Eliminating.{gcd}
 use Rattle.sm_omega.specs.Exact.{exact}
 use Rattle.sm_plan.specs.Limits.{is_shallow}
-use Rattle.sm_proof.specs.Lines.{NumberedLine, ProofLine, Header, Cert, TermLine, NodeLine, FormLine}
-use Rattle.sm_proof.specs.Named.{tested_or, Word, Truncated, BadVersion, BadLine, Extra}
-use Rattle.sm_proof.specs.Versions.{has_exact}
-use Rattle.sm_proof.specs.Verdicts.{Subject, Standing, Reached, next_standing, reached_after, reached, lines_in, verdict_at_end, Rejected, Unopened, Before, passes_version, opens_if}
-use Rattle.sm_proof.specs.Cases.{reached_on, verdict_on, AreRead, FilesAreLines, whole, plain, WholeComesOut, VersionsComeOut, WordsComeOut, ExactComesOut, CasesComeOut}
+use Rattle.sm_proof.specs.Lines.{TermLine, NodeLine, FormLine}
+use Rattle.sm_proof.specs.Named.{Word}
 use Rattle.sm_proof.proofs.ExactLines.{goes_alike}
 use Rattle.sm_proof.proofs.TextCases.{texts_come_out}
 

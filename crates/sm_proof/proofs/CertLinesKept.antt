@@ -1,26 +1,13 @@
 -- A line of a certificate keeps a proof fine, and its branch is contradictory where each way in which it goes on is.
-use Rattle.std.proofs.Common.{◌≡◌, ℕ, suc, if◌then◌else◌, Some, Result, Ok, List, [], ◌∷◌, ◌++◌, map, length, subst, sym}
-use Rattle.sm_syntax.specs.claim.ConflictFree.{Copy}
-use Rattle.sm_syntax.specs.text.Sorts.{Sorts}
-use Rattle.sm_term.specs.Terms.{Tree}
-use Rattle.sm_term.specs.Structures.{Structure}
+use Rattle.sm_proof.proofs.Imports.{◌≡◌, ℕ, suc, if◌then◌else◌, Some, Ok, List, [], ◌∷◌, ◌++◌, map, length, subst, sym, Copy, Sorts, Tree, Structure, IsSorted, IsStoreSorted, IsBelow, BranchFact, AreFacts, CertificateLine, AreFactsSorted, AreFactsBelow, IsLineSorted, IsLineBelow, is_split, facts_append, sorted_append, is_shallow, NumberedLine, found_or, named_line, line_head, BadNumber, Deep, First, Pending, Branch, Progress, branches_before, after_line}
+use Rattle.std.proofs.Common.{Result}
 use Rattle.sm_term.specs.Symbolic.{SymbolicStore}
-use Rattle.sm_term.specs.Sorted.{IsSorted, IsStoreSorted}
-use Rattle.sm_term.specs.Fresh.{IsBelow}
-use Rattle.sm_theory.specs.Facts.{BranchFact, AreFacts}
-use Rattle.sm_theory.specs.Lines.{CertificateLine}
 use Rattle.sm_theory.specs.Ways.{ways}
-use Rattle.sm_theory.specs.SortedFacts.{AreFactsSorted, AreFactsBelow, IsLineSorted, IsLineBelow}
 use Rattle.sm_theory.specs.Laws.{NoWayHolds, EachWay}
 use Rattle.sm_theory.proofs.ArithmeticSound.{arithmetic_holds}
 use Rattle.sm_theory.proofs.ArithmeticKept.{arithmetic_sorted, arithmetic_below}
 use Rattle.sm_theory.proofs.TheoriesLemmas.{some_way_holds_from, ways_are_sorted_from, ways_are_below_from}
-use Rattle.sm_theory.specs.Named.{is_split}
-use Rattle.sm_cert.proofs.CertificateSound.{facts_append, sorted_append}
-use Rattle.sm_plan.specs.Limits.{is_shallow}
-use Rattle.sm_proof.specs.Lines.{NumberedLine}
-use Rattle.sm_proof.specs.Named.{found_or, named_line, line_head, Word, BadNumber, Deep, First}
-use Rattle.sm_proof.specs.Passing.{Pending, Branch, Progress, branches_before, after_line}
+use Rattle.sm_proof.specs.Named.{Word}
 use Rattle.sm_proof.proofs.ProgressLemmas.{Each, IsTreeFine, IsPendingFine, IsFine, IsShown, GoesOn, each_append, each_parts, each_gives, found_from, tested_from, same_end, facts_below_append}
 use Rattle.sm_proof.proofs.NamedKept.{named_line_fine}
 

@@ -1,24 +1,13 @@
 -- No word of a line has a space.
-use Rattle.std.proofs.Common.{◌≡◌, ℕ, ℤ, ◌<◌, ◌≤◌, ◌^◌, Bool, true, false, if◌then◌else◌, List, [], ◌∷◌, map, refl, ap, ◌∙◌, arith, pos, negsuc, suc}
-use Rattle.std.specs.Fmt.{decimal, signed_decimal}
+use Rattle.sm_proof.proofs.Imports.{◌≡◌, ℕ, ◌<◌, ◌≤◌, ◌^◌, Bool, true, false, if◌then◌else◌, List, [], ◌∷◌, map, refl, ap, ◌∙◌, arith, pos, negsuc, suc, decimal, signed_decimal, IsWithinFields, AreNumbers, numbers_of, copy, side, set, version_word, head_word, term_word, form_word, ProofLine, Header, Term, Form, Node, Cert, line_words, AllDigits, ne_eqb, Decides-ltb, decimal_is_IsNumeral_wide, digit_from_value, fits, line_head}
+use Rattle.std.proofs.Common.{ℤ}
 use Rattle.sm_proof.specs.declared.kind.FormKind.TheVariants as kind
 use Rattle.sm_proof.specs.declared.kind.TermKind.TheVariants as kinds
 use Rattle.sm_proof.specs.declared.line.FormLine.TheVariants as form
 use Rattle.sm_proof.specs.declared.line.NodeLine.TheVariants as node
 use Rattle.sm_proof.specs.declared.line.TermLine.TheVariants as term
 use Rattle.sm_proof.specs.declared.word.Head.TheVariants as head
-use Rattle.sm_proof.specs.FieldRanges.{IsWithinFields, AreNumbers, numbers_of}
-use Rattle.sm_proof.specs.Fields.{copy, side, set}
-use Rattle.sm_proof.specs.HeadWords.{version_word, head_word, term_word, form_word}
-use Rattle.sm_proof.specs.Lines.{ProofLine, Header, Term, Form, Node, Cert}
-use Rattle.sm_proof.specs.Spelling.{line_words}
-use Rattle.std.specs.Str.Parse.{AllDigits}
-use Rattle.std.proofs.lemmas.Bool.{ne_eqb}
-use Rattle.std.proofs.lemmas.Bool.Decides.{Decides-ltb}
-use Rattle.std.proofs.lemmas.Fmt.{decimal_is_IsNumeral_wide}
-use Rattle.std.proofs.lemmas.Str.Parse.{digit_from_value}
-use Rattle.sm_num.specs.Range.{fits}
-use Rattle.sm_proof.specs.Named.{line_head, Head}
+use Rattle.sm_proof.specs.Named.{Head}
 use Rattle.sm_proof.proofs.NumberLemmas.{literal_fits}
 use Rattle.sm_proof.proofs.SplitLemmas.{is_clear, are_clear}
 

@@ -1,15 +1,11 @@
 -- A line that was read is a line `exact` where its bytes begin so.
-use Rattle.std.proofs.Common.{◌≡◌, ℕ, Bool, true, false, not, if◌then◌else◌, Result, Ok, Err, List, refl, ap, sym, ◌∙◌}
+use Rattle.sm_proof.proofs.Imports.{◌≡◌, ℕ, Bool, true, false, not, if◌then◌else◌, Ok, Err, List, refl, ap, sym, ◌∙◌, NumberedLine, ProofLine, Header, Term, Form, Node, Cert, tested_or, and_then, BadLine, Progress, taken, read, line_words, ExactBegins, is_exact, may_stand, are_exact, read_with, Subject, Standing, Unopened, Underway, next_standing, reads_exact}
+use Rattle.std.proofs.Common.{Result}
 use Rattle.sm_proof.specs.declared.line.NodeLine.TheVariants as node
 use Rattle.sm_proof.specs.Lines as line
-use Rattle.sm_proof.specs.Lines.{NumberedLine, ProofLine, Header, Term, Form, Node, Cert, NodeLine}
-use Rattle.sm_proof.specs.Named.{tested_or, and_then, Word, BadLine}
-use Rattle.sm_proof.specs.Passing.{Progress, taken}
-use Rattle.sm_proof.specs.Reading.{read}
-use Rattle.sm_proof.specs.Spelling.{line_words}
-use Rattle.sm_proof.specs.SpellingLaws.{ExactBegins}
-use Rattle.sm_proof.specs.Versions.{is_exact, may_stand, are_exact, begins_exact, read_with}
-use Rattle.sm_proof.specs.Verdicts.{Subject, Standing, Unopened, Underway, next_standing, reads_exact}
+use Rattle.sm_proof.specs.Lines.{NodeLine}
+use Rattle.sm_proof.specs.Named.{Word}
+use Rattle.sm_proof.specs.Versions.{begins_exact}
 use Rattle.sm_proof.proofs.ReadIsSpelled.{read_text}
 
 -- the words of a node's line

@@ -1,12 +1,8 @@
 -- The numbers of a line, field by field.
-use Rattle.std.proofs.Common.{◌≡◌, ℕ, suc, ◌<◌, ◌≤◌, ◌^◌, Bool, true, false, ◌==◌, Option, Some, None, Ok, Err, List, [], ◌∷◌, length, map, refl, sym, ap, subst, ◌∙◌, arith}
-use Rattle.std.proofs.lemmas.Bool.Decides.{Decides-eqb}
-use Rattle.std.specs.Fmt.{decimal}
+use Rattle.sm_proof.proofs.Imports.{◌≡◌, ℕ, suc, ◌<◌, ◌≤◌, ◌^◌, Bool, true, false, ◌==◌, Option, Some, None, Ok, Err, List, [], ◌∷◌, length, map, refl, sym, ap, subst, ◌∙◌, arith, Decides-eqb, decimal, Takes, filled, ProofLine, found_or, tested_or, BadLine, BadNumber, number_in}
 use Rattle.std.specs.Prelude.{Result}
-use Rattle.sm_proof.specs.Fields.{Takes, filled, taking}
-use Rattle.sm_proof.specs.Lines.{ProofLine}
-use Rattle.sm_proof.specs.Named.{found_or, tested_or, Word, BadLine, BadNumber}
-use Rattle.sm_proof.specs.Numbers.{number_in}
+use Rattle.sm_proof.specs.Fields.{taking}
+use Rattle.sm_proof.specs.Named.{Word}
 use Rattle.sm_proof.proofs.NumberLemmas.{number_back, number_spelled}
 
 -- a fact of each line that numbers within the fields make, and of their texts

@@ -1,15 +1,10 @@
 -- The kinds that words name.
-use Rattle.std.proofs.Common.{◌≡◌, ℕ, Bool, true, false, if◌then◌else◌, Some, List, [], ◌∷◌, refl, subst}
-use Rattle.std.specs.Str.{bytes_eq}
-use Rattle.std.specs.List.{find}
-use Rattle.std.proofs.lemmas.Slice.Eq.{bytes_eq-Decides}
-use Rattle.sm_proof.specs.declared.kind.FormKind.{FormKind}
+use Rattle.sm_proof.proofs.Imports.{◌≡◌, ℕ, Bool, true, false, if◌then◌else◌, Some, List, [], ◌∷◌, refl, subst, bytes_eq, find, bytes_eq-Decides, FormKind, TermKind, version_word, head_word, term_word, form_word, heads, term_kinds, form_kinds}
 use Rattle.sm_proof.specs.declared.kind.FormKind.TheVariants as kind
-use Rattle.sm_proof.specs.declared.kind.TermKind.{TermKind}
 use Rattle.sm_proof.specs.declared.kind.TermKind.TheVariants as kinds
 use Rattle.sm_proof.specs.declared.word.Head.{Head}
 use Rattle.sm_proof.specs.declared.word.Head.TheVariants as head
-use Rattle.sm_proof.specs.HeadWords.{version_word, head_word, term_word, form_word, heads, term_kinds, form_kinds, head_of, term_kind_of, form_kind_of}
+use Rattle.sm_proof.specs.HeadWords.{head_of, term_kind_of, form_kind_of}
 
 -- a kind that is found has the word
 found_is : {K : Type 0} (word_of : K → List ℕ) (kinds : List K) (word : List ℕ) (k : K)

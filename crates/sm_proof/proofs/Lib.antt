@@ -1,3 +1,4 @@
+mod Imports
 pub mod ProgressLemmas
 pub mod TermLinesKept
 pub mod NamedKept

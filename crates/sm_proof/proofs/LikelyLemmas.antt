@@ -1,12 +1,9 @@
 -- The one kind that a word may name, and the one that it names.
-use Rattle.std.proofs.Common.{◌≡◌, ◌≢◌, ℕ, Option, Some, None, List, refl, sym, ap, ◌∙◌}
-use Rattle.sm_proof.specs.declared.kind.FormKind.{FormKind}
+use Rattle.sm_proof.proofs.Imports.{◌≡◌, ◌≢◌, ℕ, Option, Some, None, List, refl, sym, ap, ◌∙◌, FormKind, TermKind, head_word, term_word, form_word}
 use Rattle.sm_proof.specs.declared.kind.FormKind.TheVariants as form
-use Rattle.sm_proof.specs.declared.kind.TermKind.{TermKind}
 use Rattle.sm_proof.specs.declared.kind.TermKind.TheVariants as term
 use Rattle.sm_proof.specs.declared.word.Head.{Head}
 use Rattle.sm_proof.specs.declared.word.Head.TheVariants as head
-use Rattle.sm_proof.specs.HeadWords.{head_word, term_word, form_word}
 use Rattle.sm_proof.specs.Likely.{likely_head, head_of_one, head_of_three, head_of_four, head_of_five, head_of_c, likely_term, term_of_three, term_of_four, likely_form, form_of_two}
 
 -- a search that goes by the one likely kind finds what is there

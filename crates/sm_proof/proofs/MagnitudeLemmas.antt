@@ -1,18 +1,9 @@
 -- What the loop over the digits of a word finds.
-use Rattle.std.proofs.Common.{◌≡◌, ℕ, zero, suc, ◌+◌, ◌*◌, ◌-◌, ◌<◌, ◌≤◌, ◌^◌, true, false, nat_lt, ℤ, pos, negsuc, ◌-ℤ◌, to_z, of_z, Option, Some, None, List, ◌∷◌, length, take, drop, get_or, refl, sym, ap, subst, ◌∙◌, arith}
-use Rattle.std.proofs.lemmas.Bool.Decides.{Decides-ltb, nat_tests}
-use Rattle.std.proofs.lemmas.Fmt.{decimal_is_IsNumeral_wide, decimal_digit}
-use Rattle.std.proofs.lemmas.Int.{ints, to_z-of_z}
+use Rattle.sm_proof.proofs.Imports.{◌≡◌, ℕ, zero, suc, ◌+◌, ◌*◌, ◌-◌, ◌<◌, ◌≤◌, ◌^◌, true, false, nat_lt, pos, negsuc, ◌-ℤ◌, to_z, of_z, Option, Some, None, List, ◌∷◌, length, take, drop, get_or, refl, sym, ap, subst, ◌∙◌, arith, Decides-ltb, nat_tests, decimal_is_IsNumeral_wide, decimal_digit, ints, to_z-of_z, digit_at, digit_from_value, digits_value-take-le, is_ascii_digit, digit_value, decimal, signed_decimal, IsInRange, w128, AllDigits, digits_value, fits, number_in, literal_in}
+use Rattle.std.proofs.Common.{ℤ}
 use Rattle.std.proofs.lemmas.Int.Digits.{digits_value_more, digits_more}
-use Rattle.std.proofs.lemmas.Str.Parse.{digit_at, digit_from_value, digits_value-take-le}
-use Rattle.std.specs.Char.{is_ascii_digit, digit_value}
-use Rattle.std.specs.Fmt.{decimal, signed_decimal}
-use Rattle.std.specs.Int.{IsInRange, w128}
-use Rattle.std.specs.Str.Parse.{AllDigits, digits_value}
-use Rattle.sm_num.specs.Range.{fits}
 use Rattle.sm_proof.proofs.DecimalLemmas.{first_decimal_wide, decimal_of_value}
 use Rattle.sm_proof.proofs.NumberLemmas.{number_back, number_spelled, literal_back, literal_spelled}
-use Rattle.sm_proof.specs.Numbers.{number_in, literal_in}
 
 -- a word spells no number where it is no text
 none_where : (most : ℕ) (word : List ℕ) → ((n : ℕ) → n ≤ most → word ≡ decimal n → ⊥) → None ≡ number_in most word

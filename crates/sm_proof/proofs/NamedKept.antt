@@ -1,27 +1,13 @@
 -- Lines of certificates name terms that are there, and nodes keep formulas that are there.
-use Rattle.std.proofs.Common.{◌≡◌, ℕ, ◌<◌, Bool, ◌&&◌, true, false, nat_lt, nat_le, if◌then◌else◌, Some, None, slice_get, List, [], ◌∷◌, length, refl, ap, subst}
-use Rattle.std.proofs.lemmas.Bool.{and_from, ltb-true, lt-ltb}
-use Rattle.std.proofs.lemmas.Option.{same_Some, slice_get-get_or}
-use Rattle.sm_syntax.specs.claim.ConflictFree.{copy_of}
-use Rattle.sm_syntax.specs.text.Parts.{by_copy}
-use Rattle.sm_syntax.specs.text.Sorts.{Sorts}
-use Rattle.sm_term.specs.Terms.{Tree}
-use Rattle.sm_term.specs.Assertions.{Assertion}
+use Rattle.sm_proof.proofs.Imports.{◌≡◌, ℕ, ◌<◌, Bool, ◌&&◌, true, false, nat_lt, nat_le, if◌then◌else◌, Some, None, slice_get, List, [], ◌∷◌, length, refl, ap, subst, and_from, ltb-true, lt-ltb, same_Some, slice_get-get_or, copy_of, by_copy, Sorts, Tree, Assertion, CertificateLine, facts_named, terms_named, with_terms, EachOf, EachNamed, followed_from, IsFreshAt, IsNodeSorted, NumberedLine, are_there, named_line, named_node, both_pass}
 use Rattle.sm_term.specs.Tables.{tree_at}
-use Rattle.sm_theory.specs.Lines.{CertificateLine}
-use Rattle.sm_theory.specs.Named.{facts_named, terms_named, with_terms, EachOf, EachNamed}
 use Rattle.sm_theory.proofs.LinesOver.{each_with, each_more}
-use Rattle.sm_theory.proofs.FactsLemmas.{followed_from}
 use Rattle.sm_plan.specs.Copies.{Copies}
 use Rattle.sm_plan.specs.Masks.{set_of}
 use Rattle.sm_plan.specs.Nodes as plan
-use Rattle.sm_plan.specs.Nodes.{IsFreshAt}
-use Rattle.sm_plan.specs.SortedStates.{IsNodeSorted}
 use Rattle.sm_proof.specs.declared.line.NodeLine.TheVariants as node
-use Rattle.sm_proof.specs.Lines.{NumberedLine, NodeLine}
-use Rattle.sm_proof.specs.Named.{are_there, named_line, named_node}
+use Rattle.sm_proof.specs.Lines.{NodeLine}
 use Rattle.sm_proof.proofs.ProgressLemmas.{Each, IsFormFine, each_at}
-use Rattle.sm_lemmas.proofs.Tests.{both_pass}
 
 -- numbers that are there are below the count
 pub there_below : (count : ℕ) (ns : List ℕ) → are_there count ns ≡ true → EachOf (λ (n : ℕ). n < count) ns

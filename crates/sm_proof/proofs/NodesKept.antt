@@ -1,27 +1,14 @@
 -- A node keeps a proof fine. Its state is sound where the branches of its goals are contradictory and the states that it opens are sound.
-use Rattle.std.proofs.Common.{◌≡◌, ℕ, suc, Some, Result, Ok, List, [], ◌∷◌, ◌++◌, map, subst, sym, arith}
-use Rattle.sm_syntax.specs.text.Sorts.{Sorts}
-use Rattle.sm_term.specs.Structures.{Structure}
-use Rattle.sm_term.specs.Assertions.{Assertion, AllHold, negate}
-use Rattle.sm_term.specs.Sorted.{AreFormsSorted}
-use Rattle.sm_term.specs.Fresh.{AreFormsBelow}
+use Rattle.sm_proof.proofs.Imports.{◌≡◌, ℕ, suc, Some, Ok, List, [], ◌∷◌, ◌++◌, map, subst, sym, arith, Sorts, Structure, Assertion, AllHold, negate, AreFormsSorted, AreFormsBelow, AreFacts, Formal, as_facts, sorted_append, is_shallow, State, Opened, opened_by, AreSound, IsStateBelow, AreStatesBelow, IsStateSorted, AreStatesSorted, negate_below, state_later, found_or, named_node, node_head, BadNumber, Deep, First, Pending, Due, Progress, goal_branch, opened_before, after_node}
+use Rattle.std.proofs.Common.{Result}
 use Rattle.sm_term.proofs.AssertionsLemmas.{refuted}
-use Rattle.sm_theory.specs.Facts.{AreFacts, Formal, as_facts}
-use Rattle.sm_cert.proofs.CertificateSound.{sorted_append}
-use Rattle.sm_plan.specs.Limits.{is_shallow}
-use Rattle.sm_plan.specs.States.{State}
 use Rattle.sm_plan.specs.NodeLists.{above_opened}
 use Rattle.sm_plan.specs.Nodes as plan
-use Rattle.sm_plan.specs.Nodes.{Opened, opened_by}
 use Rattle.sm_plan.specs.Plans.{AllValid}
-use Rattle.sm_plan.specs.SoundStates.{AreSound, IsStateBelow, AreStatesBelow}
-use Rattle.sm_plan.specs.SortedStates.{IsStateSorted, AreStatesSorted}
-use Rattle.sm_plan.proofs.BelowLemmas.{negate_below, state_later}
 use Rattle.sm_plan.proofs.NodeSound.{node_sound, node_below, node_goals_below}
 use Rattle.sm_plan.proofs.NodeSorted.{node_sorted}
 use Rattle.sm_proof.specs.declared.line.NodeLine.{NodeLine}
-use Rattle.sm_proof.specs.Named.{found_or, named_node, node_head, Word, BadNumber, Deep, First}
-use Rattle.sm_proof.specs.Passing.{Pending, Due, Progress, goal_branch, opened_before, after_node}
+use Rattle.sm_proof.specs.Named.{Word}
 use Rattle.sm_proof.proofs.ProgressLemmas.{Each, IsPendingFine, IsFine, IsShown, GoesOn, each_append, each_parts, found_from, tested_from, same_end, as_facts_below, facts_below_append, terms_later, forms_later, all_later}
 use Rattle.sm_proof.proofs.NamedKept.{IsNodeFine, named_node_fine}
 use Rattle.sm_term.proofs.SortedForms.{negate_sorted}

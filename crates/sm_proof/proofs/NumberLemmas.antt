@@ -1,19 +1,8 @@
 -- Numbers and the words that spell them.
-use Rattle.std.proofs.Common.{◌≡◌, ℕ, suc, ◌<◌, ◌≤◌, ◌^◌, ◌&&◌, ℤ, pos, negsuc, neg_ℤ, Bool, true, false, cond, if◌then◌else◌, Option, Some, None, List, [], ◌∷◌, map, nat_le, refl, sym, ap, subst, ◌∙◌, arith}
-use Rattle.std.proofs.lemmas.Bool.Decides.{Decides-ltb}
-use Rattle.std.proofs.lemmas.Fmt.{decimal_is_IsNumeral_wide}
-use Rattle.std.proofs.lemmas.Int.{ints}
-use Rattle.std.proofs.lemmas.Slice.Eq.{bytes_eq-Decides}
-use Rattle.std.specs.Fmt.{decimal, signed_decimal}
-use Rattle.std.specs.Str.{bytes_eq}
-use Rattle.std.specs.Str.Parse.{digits_value, without_leading_sign, signed_digits_value}
-use Rattle.sm_num.specs.Range.{fits}
-use Rattle.sm_theory.specs.Lines.{followed}
-use Rattle.sm_proof.specs.FieldRanges.{IsLiteral, AreNumbers}
-use Rattle.sm_proof.specs.Fields.{any}
+use Rattle.sm_proof.proofs.Imports.{◌≡◌, ℕ, suc, ◌<◌, ◌≤◌, ◌^◌, ◌&&◌, pos, negsuc, neg_ℤ, Bool, true, false, cond, if◌then◌else◌, Option, Some, None, List, [], ◌∷◌, map, nat_le, refl, sym, ap, subst, ◌∙◌, arith, Decides-ltb, decimal_is_IsNumeral_wide, ints, bytes_eq-Decides, decimal, signed_decimal, bytes_eq, digits_value, without_leading_sign, signed_digits_value, fits, followed, IsLiteral, AreNumbers, any, le_from_test, le_true}
+use Rattle.std.proofs.Common.{ℤ}
 use Rattle.sm_proof.specs.Numbers.{number_in, literal_in, numbers_in}
 use Rattle.sm_lemmas.proofs.Numbers.{no_minus, unsigned}
-use Rattle.sm_lemmas.proofs.Tests.{le_from_test, le_true}
 
 -- the choice of two tests
 both_true : {T : Type 0} (a b : Bool) (x y : T) → (if a && b then Some x else None) ≡ Some y → (a ≡ true) × (b ≡ true) × (x ≡ y)

@@ -1,25 +1,11 @@
 -- A file that passes makes the start of its task sound: each line keeps the proof fine, and where nothing is pending in the end, all that
 -- ever was is shown.
-use Rattle.std.proofs.Common.{◌≡◌, ℕ, suc, Bool, true, false, if◌then◌else◌, Result, Ok, Err, List, [], ◌∷◌, ◌++◌, refl, subst, sym}
-use Rattle.sm_syntax.specs.claim.ConflictFree.{Task}
-use Rattle.sm_syntax.specs.text.Parts.{sort_of, task_of}
-use Rattle.sm_syntax.specs.text.Sorts.{Sorts}
-use Rattle.sm_term.specs.Terms.{Tree}
-use Rattle.sm_term.specs.Assertions.{Assertion}
-use Rattle.sm_plan.specs.States.{start_state}
-use Rattle.sm_plan.specs.SoundStates.{IsSound}
-use Rattle.sm_plan.specs.SortedStates.{IsTaskSorted}
-use Rattle.sm_plan.proofs.BelowLemmas.{start_below}
+use Rattle.sm_proof.proofs.Imports.{◌≡◌, ℕ, suc, Bool, true, false, if◌then◌else◌, Ok, Err, List, [], ◌∷◌, ◌++◌, refl, subst, sym, Task, sort_of, task_of, Sorts, Tree, Assertion, start_state, IsSound, IsTaskSorted, start_below, ProofLine, Header, Term, Form, Node, Cert, Pending, Due, Branch, Progress, start_progress, term_made, form_made, taken_at, taken, Subject, subject_of, passes_version, Standing, Unopened, Underway, opens_if, next_standing, Reached, Refused, Before, reached_after, reached, lines_in, Pass, Rejected, none_waits, verdict_at_end, and_then, read, has_exact, may_stand, read_with, PassIsFree}
+use Rattle.std.proofs.Common.{Result}
 use Rattle.sm_plan.proofs.SortedStates.{start_sorted}
 use Rattle.sm_plan.proofs.PlanSound.{start_conflict_free}
 use Rattle.sm_proof.specs.declared.word.Word.TheVariants as word
-use Rattle.sm_proof.specs.Lines.{ProofLine, Header, Term, Form, Node, Cert}
-use Rattle.sm_proof.specs.Passing.{Pending, Due, Branch, Progress, start_progress, term_made, form_made, taken_at, taken}
-use Rattle.sm_proof.specs.Verdicts.{Subject, subject_of, passes_version, Standing, Unopened, Underway, opens_if, next_standing, Reached, Refused, Before, reached_after, reached, lines_in, Pass, Rejected, none_waits, verdict_at_end}
-use Rattle.sm_proof.specs.Named.{and_then, Word}
-use Rattle.sm_proof.specs.Reading.{read}
-use Rattle.sm_proof.specs.Versions.{has_exact, may_stand, read_with}
-use Rattle.sm_proof.specs.Laws.{PassIsFree}
+use Rattle.sm_proof.specs.Named.{Word}
 use Rattle.sm_proof.proofs.ProgressLemmas.{Each, IsTreeFine, IsFormFine, IsPendingFine, IsFine, IsShown, GoesOn, each_append, tested_from, made_from, same_end}
 use Rattle.sm_proof.proofs.TermLinesKept.{term_made_fine, form_made_fine}
 use Rattle.sm_proof.proofs.NodesKept.{node_goes}

@@ -1,12 +1,8 @@
 -- A front of bytes that pass that isn't all of them doesn't pass: once a proof is done, each further line is refused, and so are bytes
 -- without an end.
-use Rattle.std.proofs.Common.{◌≡◌, ◌==◌, ℕ, suc, Bool, true, false, if◌then◌else◌, Result, Ok, List, [], ◌∷◌, ◌++◌, refl, ap, sym, subst, ◌∙◌}
+use Rattle.sm_proof.proofs.Imports.{◌≡◌, ◌==◌, ℕ, suc, Bool, true, false, if◌then◌else◌, Ok, List, [], ◌∷◌, ◌++◌, refl, ap, sym, subst, ◌∙◌, ProofLine, Header, Term, Form, Node, Cert, Pending, Progress, taken_at, Subject, subject_of, Standing, Unopened, Underway, next_standing, reads_exact, Before, reached_after, reached, FileLines, in_first_line, lines_in, Pass, none_waits, verdict_at_end, read_with, PrefixesFail}
+use Rattle.std.proofs.Common.{Result}
 use Rattle.sm_proof.specs.declared.word.Word.{Word}
-use Rattle.sm_proof.specs.Lines.{ProofLine, Header, Term, Form, Node, Cert}
-use Rattle.sm_proof.specs.Passing.{Pending, Progress, taken_at}
-use Rattle.sm_proof.specs.Verdicts.{Subject, subject_of, Standing, Unopened, Underway, next_standing, reads_exact, Before, reached_after, reached, FileLines, in_first_line, lines_in, Pass, none_waits, verdict_at_end}
-use Rattle.sm_proof.specs.Versions.{read_with}
-use Rattle.sm_proof.specs.Laws.{PrefixesFail}
 use Rattle.sm_proof.proofs.PassSound.{underway_from, reached_from, pass_from}
 
 -- where nothing is pending, no line is taken

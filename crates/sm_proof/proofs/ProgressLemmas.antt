@@ -1,22 +1,10 @@
 -- What is kept of a proof on its way: each term, formula and pending thing is sorted, and names new values of earlier nodes alone.
 -- And what is shown of it in the end: each pending state is sound, and each pending branch is contradictory.
-use Rattle.std.proofs.Common.{◌≡◌, ◌≤◌, ℕ, zero, suc, Bool, true, false, Option, Some, None, Result, Ok, Err, slice_get, List, [], ◌∷◌, ◌++◌, refl, subst, arith}
+use Rattle.sm_proof.proofs.Imports.{◌≡◌, ◌≤◌, ℕ, zero, suc, Bool, true, false, Option, Some, None, Ok, Err, slice_get, List, [], ◌∷◌, ◌++◌, refl, subst, arith, same_Some, Copy, Sorts, Tree, Assertion, IsSorted, IsFormSorted, IsStoreSorted, IsBelow, IsFormBelow, AreFormsBelow, BranchFact, Formal, Sum, IsContradictory, as_facts, EachAtom, AreFactsSorted, IsFactBelow, AreFactsBelow, IsSound, IsStateBelow, IsStateSorted, state_later, found_or, tested_or, and_then, Pending, Due, Branch, Progress}
+use Rattle.std.proofs.Common.{Result}
 use Rattle.std.specs.Prelude.{ℤ}
-use Rattle.std.proofs.lemmas.Option.{same_Some}
-use Rattle.sm_syntax.specs.claim.ConflictFree.{Copy}
-use Rattle.sm_syntax.specs.text.Sorts.{Sorts}
-use Rattle.sm_term.specs.Terms.{Tree}
-use Rattle.sm_term.specs.Assertions.{Assertion}
-use Rattle.sm_term.specs.Sorted.{IsSorted, IsFormSorted, IsStoreSorted}
-use Rattle.sm_term.specs.Fresh.{IsBelow, IsFormBelow, AreFormsBelow}
 use Rattle.sm_term.proofs.FreshLemmas.{tree_later, form_later}
-use Rattle.sm_theory.specs.Facts.{BranchFact, Formal, Sum, IsContradictory, as_facts}
-use Rattle.sm_theory.specs.SortedFacts.{EachAtom, AreFactsSorted, IsFactBelow, AreFactsBelow}
-use Rattle.sm_plan.specs.SoundStates.{IsSound, IsStateBelow}
-use Rattle.sm_plan.specs.SortedStates.{IsStateSorted}
-use Rattle.sm_plan.proofs.BelowLemmas.{state_later}
-use Rattle.sm_proof.specs.Named.{found_or, tested_or, and_then, Word}
-use Rattle.sm_proof.specs.Passing.{Pending, Due, Branch, Progress}
+use Rattle.sm_proof.specs.Named.{Word}
 
 -- something is so of each element
 abbrev pub Each : {T : Type 0} → (T → Type 0) → List T → Type 0

@@ -1,28 +1,16 @@
 -- What is read is a line within its fields, and the bytes are its text.
-use Rattle.std.proofs.Common.{◌≡◌, ℕ, ℤ, ◌<◌, ◌≤◌, ◌^◌, Bool, true, false, nat_le, if◌then◌else◌, Option, Some, None, Ok, Err, List, [], ◌∷◌, length, refl, sym, ap, subst, ◌∙◌, arith}
-use Rattle.std.specs.Prelude.{codes}
-use Rattle.std.specs.Str.{bytes_eq}
-use Rattle.std.specs.Fmt.{decimal}
-use Rattle.std.proofs.lemmas.Fmt.{decimal_digit}
-use Rattle.std.proofs.lemmas.Slice.Eq.{bytes_eq-Decides}
-use Rattle.sm_proof.specs.declared.kind.FormKind.{FormKind}
+use Rattle.sm_proof.proofs.Imports.{◌≡◌, ℕ, ◌<◌, ◌≤◌, ◌^◌, Bool, true, false, nat_le, if◌then◌else◌, Option, Some, None, Ok, Err, List, [], ◌∷◌, length, refl, sym, ap, subst, ◌∙◌, arith, codes, bytes_eq, decimal, decimal_digit, bytes_eq-Decides, FormKind, TermKind, IsWithinFields, any, copy, side, set, version_word, head_word, term_word, form_word, head_of, term_kind_of, form_kind_of, ProofLine, NumberedLine, Header, Term, Form, Node, Cert, found_or, tested_or, BadLine, BadNumber, words_of, number_in, numbers_in, literal_in, read_rest, read_term, read_form, spaced, line_words, HasKnownVersion, ReadIsSpelled}
+use Rattle.std.proofs.Common.{ℤ}
 use Rattle.sm_proof.specs.declared.kind.FormKind.TheVariants as kind
-use Rattle.sm_proof.specs.declared.kind.TermKind.{TermKind}
 use Rattle.sm_proof.specs.declared.kind.TermKind.TheVariants as kinds
 use Rattle.sm_proof.specs.declared.line.FormLine.TheVariants as form
 use Rattle.sm_proof.specs.declared.line.NodeLine.TheVariants as node
 use Rattle.sm_proof.specs.declared.line.TermLine.TheVariants as term
 use Rattle.sm_proof.specs.declared.word.Head.TheVariants as head
-use Rattle.sm_proof.specs.FieldRanges.{IsWithinFields}
-use Rattle.sm_proof.specs.Fields.{any, copy, side, set}
-use Rattle.sm_proof.specs.HeadWords.{version_word, head_word, term_word, form_word, head_of, term_kind_of, form_kind_of}
 use Rattle.sm_proof.specs.Lines as line
-use Rattle.sm_proof.specs.Lines.{ProofLine, NumberedLine, Header, Term, Form, Node, Cert}
-use Rattle.sm_proof.specs.Named.{found_or, tested_or, BadLine, BadNumber, Head}
-use Rattle.sm_proof.specs.Numbers.{words_of, number_in, numbers_in, literal_in}
-use Rattle.sm_proof.specs.Reading.{read, read_words, read_rest, read_second, read_term, read_form, read_literal, read_cong, read_version}
-use Rattle.sm_proof.specs.Spelling.{spaced, spelled, line_words, HasKnownVersion}
-use Rattle.sm_proof.specs.SpellingLaws.{ReadIsSpelled}
+use Rattle.sm_proof.specs.Named.{Head}
+use Rattle.sm_proof.specs.Reading.{read, read_words, read_second, read_literal, read_cong, read_version}
+use Rattle.sm_proof.specs.Spelling.{spelled}
 use Rattle.sm_proof.proofs.FieldLemmas.{taking_back}
 use Rattle.sm_proof.proofs.KindLemmas.{head_is, term_kind_is, form_kind_is}
 use Rattle.sm_proof.proofs.NumberLemmas.{number_back, numbers_back, literal_back, fits_literal}

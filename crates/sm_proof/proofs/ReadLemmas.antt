@@ -1,27 +1,16 @@
 -- What a line is read as, as the code goes through its words.
-use Rattle.std.proofs.Common.{◌≡◌, ◌≢◌, ◌⊎◌, ℕ, suc, ◌+◌, ◌<◌, ◌≤◌, Bool, true, false, not, ◌==◌, cond, if◌then◌else◌, nat_le, Option, Some, None, option_map, Ok, Err, List, [], ◌∷◌, ◌++◌, length, take, refl, sym, ap, subst, ◌∙◌, inl, inr}
-use Rattle.std.proofs.Common.{arith, append_assoc, length-take-le}
-use Rattle.std.proofs.lemmas.Bool.Decides.{nat_tests}
+use Rattle.sm_proof.proofs.Imports.{◌≡◌, ◌≢◌, ◌⊎◌, ℕ, suc, ◌+◌, ◌<◌, ◌≤◌, Bool, true, false, not, ◌==◌, cond, if◌then◌else◌, nat_le, Option, Some, None, option_map, Ok, Err, List, [], ◌∷◌, ◌++◌, length, take, refl, sym, ap, subst, ◌∙◌, inl, inr, arith, append_assoc, length-take-le, nat_tests, prefix_len, IfOk, IfErr, codes, bytes_eq, followed, Fault, behind, fault_error, fault_word, IsAnswer, IsNextWord, IsNoNumber, IsWithinFields, any, head_of, version_word, ProofLine, Cert, found_or, tested_or, BadLine, BadNumber, words_of, number_in, read_rest, read_version, are_exact}
 use mathlib.Core.List.{append-nil}
-use Rattle.std.specs.List.{prefix_len}
-use Rattle.std.specs.Prelude.{Result, IfOk, IfErr, codes}
-use Rattle.std.specs.Str.{bytes_eq}
-use Rattle.sm_theory.specs.Lines.{followed}
-use Rattle.sm_proof.specs.declared.error.Fault.{Fault}
+use Rattle.std.specs.Prelude.{Result}
 use Rattle.sm_proof.specs.declared.error.Fault.TheVariants as fault
 use Rattle.sm_proof.specs.declared.error.LineError.{LineError}
 use Rattle.sm_proof.specs.declared.error.LineError.TheVariants as error
 use Rattle.sm_proof.specs.declared.word.Head.TheVariants as head
-use Rattle.sm_proof.specs.Behind.{behind, fault_error, fault_word, IsAnswer, IsNextWord, IsNoNumber}
-use Rattle.sm_proof.specs.FieldRanges.{IsWithinFields}
-use Rattle.sm_proof.specs.Fields.{any}
-use Rattle.sm_proof.specs.HeadWords.{head_of, version_word}
 use Rattle.sm_proof.specs.Lines as line
-use Rattle.sm_proof.specs.Lines.{ProofLine, Cert}
-use Rattle.sm_proof.specs.Named.{found_or, tested_or, Word, BadLine, BadNumber, Head}
-use Rattle.sm_proof.specs.Numbers.{words_of, number_in, numbers_in}
-use Rattle.sm_proof.specs.Reading.{first_line, read, read_cong, read_rest, read_version, read_words}
-use Rattle.sm_proof.specs.Versions.{are_exact, begins_exact}
+use Rattle.sm_proof.specs.Named.{Word, Head}
+use Rattle.sm_proof.specs.Numbers.{numbers_in}
+use Rattle.sm_proof.specs.Reading.{first_line, read, read_cong, read_words}
+use Rattle.sm_proof.specs.Versions.{begins_exact}
 use Rattle.sm_proof.proofs.ReadIsSpelled.{read_spelled}
 use Rattle.sm_proof.proofs.SplitLemmas.{some_words}
 use Rattle.sm_proof.proofs.TakingLemmas.{unequal}

@@ -1,23 +1,16 @@
 -- Bytes that are no line are refused by one of two words.
-use Rattle.std.proofs.Common.{◌≡◌, ◌⊎◌, ℕ, ℤ, Bool, true, false, nat_le, if◌then◌else◌, Option, Some, None, Ok, Err, List, [], ◌∷◌, length, inl, inr}
-use Rattle.std.specs.Prelude.{Result, codes}
-use Rattle.std.specs.Str.{bytes_eq}
-use Rattle.sm_proof.specs.declared.kind.FormKind.{FormKind}
+use Rattle.sm_proof.proofs.Imports.{◌≡◌, ◌⊎◌, ℕ, Bool, true, false, nat_le, if◌then◌else◌, Option, Some, None, Ok, Err, List, [], ◌∷◌, length, inl, inr, codes, bytes_eq, FormKind, TermKind, any, copy, side, set, version_word, head_of, term_kind_of, form_kind_of, ProofLine, NumberedLine, Header, Term, Form, Node, Cert, found_or, tested_or, BadLine, BadNumber, words_of, number_in, numbers_in, literal_in, read_rest, read_term, read_form, ReadRefuses}
+use Rattle.std.proofs.Common.{ℤ}
+use Rattle.std.specs.Prelude.{Result}
 use Rattle.sm_proof.specs.declared.kind.FormKind.TheVariants as kind
-use Rattle.sm_proof.specs.declared.kind.TermKind.{TermKind}
 use Rattle.sm_proof.specs.declared.kind.TermKind.TheVariants as kinds
 use Rattle.sm_proof.specs.declared.line.FormLine.TheVariants as form
 use Rattle.sm_proof.specs.declared.line.NodeLine.TheVariants as node
 use Rattle.sm_proof.specs.declared.line.TermLine.TheVariants as term
 use Rattle.sm_proof.specs.declared.word.Head.TheVariants as head
-use Rattle.sm_proof.specs.Fields.{any, copy, side, set}
-use Rattle.sm_proof.specs.HeadWords.{version_word, head_of, term_kind_of, form_kind_of}
 use Rattle.sm_proof.specs.Lines as line
-use Rattle.sm_proof.specs.Lines.{ProofLine, NumberedLine, Header, Term, Form, Node, Cert}
-use Rattle.sm_proof.specs.Named.{found_or, tested_or, Word, BadLine, BadNumber, Head}
-use Rattle.sm_proof.specs.Numbers.{words_of, number_in, numbers_in, literal_in}
-use Rattle.sm_proof.specs.Reading.{read, read_words, read_rest, read_second, read_term, read_form, read_literal, read_cong, read_version}
-use Rattle.sm_proof.specs.SpellingLaws.{ReadRefuses}
+use Rattle.sm_proof.specs.Named.{Word, Head}
+use Rattle.sm_proof.specs.Reading.{read, read_words, read_second, read_literal, read_cong, read_version}
 use Rattle.sm_proof.proofs.FieldLemmas.{IsRefusal, taking_refuses}
 
 literal_refuses : (words : List (List ℕ)) → IsRefusal (read_literal words)

@@ -1,32 +1,22 @@
 -- The text of a line is read as the line.
-use Rattle.std.proofs.Common.{◌≡◌, ℕ, ℤ, ◌<◌, ◌≤◌, ◌^◌, Bool, true, if◌then◌else◌, Option, Ok, List, [], ◌∷◌, length, map, refl, ap, ◌∙◌, arith, zero, suc}
-use Rattle.std.specs.Prelude.{codes}
-use Rattle.std.specs.Fmt.{decimal, signed_decimal}
-use Rattle.sm_proof.specs.declared.kind.FormKind.{FormKind}
+use Rattle.sm_proof.proofs.Imports.{◌≡◌, ℕ, ◌<◌, ◌≤◌, ◌^◌, Bool, true, if◌then◌else◌, Option, Ok, List, [], ◌∷◌, length, map, refl, ap, ◌∙◌, arith, zero, suc, codes, decimal, signed_decimal, FormKind, TermKind, IsWithinFields, IsLiteral, AreNumbers, any, copy, side, set, version_word, head_word, term_word, form_word, head_of, ProofLine, NumberedLine, Header, Term, Form, Node, Cert, found_or, tested_or, node_head, line_head, BadLine, BadNumber, words_of, number_in, numbers_in, read_rest, read_term, read_form, spaced, line_words, HasKnownVersion, SpelledReadsBack, decimal_digit, le_true}
+use Rattle.std.proofs.Common.{ℤ}
 use Rattle.sm_proof.specs.declared.kind.FormKind.TheVariants as kind
-use Rattle.sm_proof.specs.declared.kind.TermKind.{TermKind}
 use Rattle.sm_proof.specs.declared.kind.TermKind.TheVariants as kinds
 use Rattle.sm_proof.specs.declared.line.FormLine.TheVariants as form
 use Rattle.sm_proof.specs.declared.line.NodeLine.TheVariants as node
 use Rattle.sm_proof.specs.declared.line.TermLine.TheVariants as term
 use Rattle.sm_proof.specs.declared.word.Head.TheVariants as head
-use Rattle.sm_proof.specs.FieldRanges.{IsWithinFields, IsLiteral, AreNumbers}
-use Rattle.sm_proof.specs.Fields.{any, copy, side, set}
-use Rattle.sm_proof.specs.HeadWords.{version_word, head_word, term_word, form_word, head_of}
 use Rattle.sm_proof.specs.Lines as line
-use Rattle.sm_proof.specs.Lines.{ProofLine, NumberedLine, Header, Term, Form, Node, Cert, TermLine, NodeLine, FormLine}
-use Rattle.sm_proof.specs.Named.{found_or, tested_or, node_head, line_head, BadLine, BadNumber, Head}
-use Rattle.sm_proof.specs.Numbers.{words_of, number_in, numbers_in}
-use Rattle.sm_proof.specs.Reading.{read, read_words, read_rest, read_second, read_term, read_form, read_literal, read_cong, read_version}
-use Rattle.sm_proof.specs.Spelling.{spaced, spelled, line_words, HasKnownVersion}
-use Rattle.sm_proof.specs.SpellingLaws.{SpelledReadsBack}
-use Rattle.std.proofs.lemmas.Fmt.{decimal_digit}
+use Rattle.sm_proof.specs.Lines.{TermLine, NodeLine, FormLine}
+use Rattle.sm_proof.specs.Named.{Head}
+use Rattle.sm_proof.specs.Reading.{read, read_words, read_second, read_literal, read_cong, read_version}
+use Rattle.sm_proof.specs.Spelling.{spelled}
 use Rattle.sm_proof.proofs.ClearLemmas.{line_clear, small_copy, small_side, small_set}
 use Rattle.sm_proof.proofs.FieldLemmas.{taking_spelled}
 use Rattle.sm_proof.proofs.KindLemmas.{head_found, term_kind_found, form_kind_found, head_no_version}
 use Rattle.sm_proof.proofs.NumberLemmas.{number_spelled, numbers_spelled, literal_spelled, literal_fits}
 use Rattle.sm_proof.proofs.SplitLemmas.{are_clear, words_spaced}
-use Rattle.sm_lemmas.proofs.Tests.{le_true}
 
 upto : (n : ℕ) → n < 2 ^ 64 → n ≤ any
 upto n low = omega arith

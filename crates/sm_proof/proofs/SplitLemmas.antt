@@ -1,7 +1,6 @@
 -- Words and the single spaces between them.
-use Rattle.std.proofs.Common.{◌≡◌, ℕ, Bool, true, false, ◌==◌, if◌then◌else◌, List, [], ◌∷◌, ◌++◌, refl, sym, ap, ◌∙◌}
-use Rattle.std.proofs.lemmas.Bool.Decides.{Decides-eqb}
-use Rattle.sm_proof.specs.Numbers.{words_of, with_byte}
+use Rattle.sm_proof.proofs.Imports.{◌≡◌, ℕ, Bool, true, false, ◌==◌, if◌then◌else◌, List, [], ◌∷◌, ◌++◌, refl, sym, ap, ◌∙◌, Decides-eqb, with_byte}
+use Rattle.sm_proof.specs.Numbers.{words_of}
 use Rattle.sm_proof.specs.Spelling.{spaced}
 
 -- no space is in a word

@@ -1,22 +1,12 @@
 -- How lines are read, number by number.
-use Rattle.std.proofs.Common.{◌≡◌, ◌≢◌, ℕ, ◌<◌, ◌≤◌, ◌-◌, ◌^◌, Bool, true, false, pos, negsuc, to_z, of_z, Option, Some, Ok, Err, List, [], ◌∷◌, length, take, drop, refl, sym, ap, ◌∙◌, arith}
-use Rattle.std.proofs.lemmas.Bool.Decides.{Decides-eqb, Decides-ltb}
-use Rattle.std.proofs.lemmas.Bool.{ne_eqb}
-use Rattle.std.proofs.lemmas.Int.{to_z-of_z}
-use Rattle.std.proofs.lemmas.Slice.Eq.{bytes_eq-Decides}
-use Rattle.std.specs.Str.{bytes_eq}
-use Rattle.std.specs.Int.{w128}
+use Rattle.sm_proof.proofs.Imports.{◌≡◌, ◌≢◌, ℕ, ◌<◌, ◌≤◌, ◌-◌, ◌^◌, Bool, true, false, pos, negsuc, to_z, of_z, Option, Some, Ok, Err, List, [], ◌∷◌, length, take, drop, refl, sym, ap, ◌∙◌, arith, Decides-eqb, Decides-ltb, ne_eqb, to_z-of_z, bytes_eq-Decides, bytes_eq, w128, fits, MatchResult, codes, Fault, behind, fault_word, line_in, IsNextWord, IsNoNumber, Takes, filled, ProofLine, Header, Term, found_or, tested_or, BadLine, BadNumber, words_of, number_in, literal_in}
 use Rattle.std.specs.Int.RustNames.{FitsSigned}
-use Rattle.sm_num.specs.Range.{fits}
-use Rattle.std.specs.Prelude.{Result, MatchResult, ℤ, codes}
-use Rattle.sm_proof.specs.declared.error.Fault.{Fault}
+use Rattle.std.specs.Prelude.{Result, ℤ}
 use Rattle.sm_proof.specs.declared.error.Fault.TheVariants as fault
-use Rattle.sm_proof.specs.Behind.{behind, fault_word, line_in, IsNextWord, IsNoNumber}
-use Rattle.sm_proof.specs.Fields.{Takes, filled, taking}
-use Rattle.sm_proof.specs.Lines.{ProofLine, Header, Term, Lit}
+use Rattle.sm_proof.specs.Fields.{taking}
+use Rattle.sm_proof.specs.Lines.{Lit}
 use Rattle.sm_proof.specs.Reading.{read_literal, read_second, read_version}
-use Rattle.sm_proof.specs.Named.{found_or, tested_or, Word, BadLine, BadNumber}
-use Rattle.sm_proof.specs.Numbers.{words_of, number_in, literal_in}
+use Rattle.sm_proof.specs.Named.{Word}
 use Rattle.sm_proof.proofs.NumberLemmas.{number_back, literal_back}
 use Rattle.sm_proof.proofs.WordLemmas.{behind_from}
 

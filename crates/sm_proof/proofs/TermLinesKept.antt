@@ -1,28 +1,18 @@
 -- Lines that make terms and formulas keep a proof fine: what they make is sorted, and names only what is there.
-use Rattle.std.proofs.Common.{◌≡◌, ℕ, Bool, true, false, ◌&&◌, if◌then◌else◌, ◌==◌, Option, Some, Result, Ok, slice_get, List, is_some, refl, sym, subst}
-use Rattle.std.proofs.lemmas.Option.{same_Some}
-use Rattle.std.proofs.lemmas.Bool.{and_parts}
-use Rattle.sm_syntax.specs.claim.ConflictFree.{Copy, copy_of}
-use Rattle.sm_syntax.specs.text.Sorts.{Sorts}
+use Rattle.sm_proof.proofs.Imports.{◌≡◌, ℕ, Bool, true, false, ◌&&◌, if◌then◌else◌, ◌==◌, Option, Some, Ok, slice_get, List, is_some, refl, sym, subst, same_Some, and_parts, Copy, copy_of, Sorts, Tree, Start, Havoc, Slot, Cell, Read, Write, Neg, Add, Sub, Mul, Fun, Arguments, Over, Given, Assertion, Yes, No, Eq, Ne, Le, Lt, And, Or, IsDeclaredIn, tree_sort, IsSorted, AreArgumentsSorted, HasSort, IsBelow, AreBelow, BranchFact, Formal, followed, formula_in, fact_is_sorted, fact_is_below, followed_from, formula_stands, found_or, tested_or, BadNumber, First, Pending, Due, Branch, present_term, compared, side_of, term_of_fact, of_name, with_tree, is_of, of_two, term_made, form_about, form_from, have_one_sort, are_numbers, form_made}
+use Rattle.std.proofs.Common.{Result}
 use Rattle.sm_syntax.specs.declared.tree.Sort.{Sort}
 use Rattle.sm_syntax.specs.declared.tree.Sort.TheVariants.{Num, Arr}
-use Rattle.sm_term.specs.Terms.{Tree, Lit, Start, Havoc, Slot, Cell, Read, Write, Neg, Add, Sub, Mul, Fun, Arguments, Over, Given}
-use Rattle.sm_term.specs.Assertions.{Assertion, Yes, No, Eq, Ne, Le, Lt, And, Or}
+use Rattle.sm_term.specs.Terms.{Lit}
 use Rattle.sm_term.specs.Heads.{terms_given, arguments_of}
-use Rattle.sm_term.specs.Sorted.{IsDeclaredIn, tree_sort, IsSorted, AreArgumentsSorted, HasSort}
-use Rattle.sm_term.specs.Fresh.{IsBelow, AreBelow}
 use Rattle.sm_term.proofs.SameTermsLemmas.{same_sort_is}
-use Rattle.sm_theory.specs.Facts.{BranchFact, Formal}
-use Rattle.sm_theory.specs.Lines.{followed, formula_in}
-use Rattle.sm_theory.proofs.FactsLemmas.{fact_is_sorted, fact_is_below, followed_from, formula_stands}
 use Rattle.sm_plan.proofs.SortedTerms.{of_declared}
 use Rattle.sm_proof.specs.declared.line.FormLine.{FormLine}
 use Rattle.sm_proof.specs.declared.line.FormLine.TheVariants as form
 use Rattle.sm_proof.specs.declared.line.TermLine.{TermLine}
 use Rattle.sm_proof.specs.declared.line.TermLine.TheVariants as term
 use Rattle.sm_proof.specs.declared.word.Head.TheVariants as head
-use Rattle.sm_proof.specs.Named.{found_or, tested_or, Word, BadNumber, First}
-use Rattle.sm_proof.specs.Passing.{Pending, Due, Branch, present_term, compared, side_of, term_of_fact, of_name, with_tree, is_of, of_two, term_made, form_about, form_from, have_one_sort, are_numbers, form_made}
+use Rattle.sm_proof.specs.Named.{Word}
 use Rattle.sm_proof.proofs.ProgressLemmas.{Each, IsTreeFine, IsFormFine, IsPendingFine, each_at, found_from, tested_from, same_end}
 
 -- the arguments of a summary

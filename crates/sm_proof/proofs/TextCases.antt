@@ -1,22 +1,15 @@
 -- The verdicts on files worked by hand.
-use Rattle.std.proofs.Common.{◌≡◌, ℕ, ◌≤◌, Option, Some, None, Ok, List, [], refl, ap, sym, subst, arith}
-use Rattle.std.specs.Prelude.{Result, codes}
-use Rattle.std.specs.Fmt.{decimal}
-use Rattle.std.specs.Str.Parse.{AllDigits}
-use Rattle.std.proofs.lemmas.Fmt.{decimal_digit, decimal_is_IsNumeral_wide}
-use Rattle.std.proofs.lemmas.Str.Parse.{digit_from_value}
+use Rattle.sm_proof.proofs.Imports.{◌≡◌, ℕ, ◌≤◌, Option, Some, None, Ok, List, [], refl, ap, sym, subst, arith, codes, decimal, AllDigits, decimal_digit, decimal_is_IsNumeral_wide, digit_from_value, any, ProofLine, Exact, Close, Header, Node, Cert, End, found_or, BadNumber, Standing, Unopened, Before, next_standing, reached_after, Verdict, verdict_at_end, plain, TextsComeOut}
+use Rattle.std.specs.Prelude.{Result}
 use Rattle.sm_num.specs.Eliminating.{gcd}
 use Rattle.sm_omega.specs.Exact.{exact}
 use Rattle.sm_plan.specs.Limits.{is_shallow}
-use Rattle.sm_proof.specs.Fields.{any, taking}
+use Rattle.sm_proof.specs.Fields.{taking}
 use Rattle.sm_proof.specs.HeadWords.{head_of}
-use Rattle.sm_proof.specs.Lines.{ProofLine, Exact, Close, Header, Node, Cert, End}
-use Rattle.sm_proof.specs.Named.{found_or, Word, BadNumber}
+use Rattle.sm_proof.specs.Named.{Word}
 use Rattle.sm_proof.specs.Numbers.{words_of, number_in}
 use Rattle.sm_proof.specs.Reading.{read, read_words, read_version}
 use Rattle.sm_proof.specs.Versions.{begins_exact}
-use Rattle.sm_proof.specs.Verdicts.{Standing, Unopened, Before, next_standing, reached_after, Verdict, verdict_at_end}
-use Rattle.sm_proof.specs.Cases.{plain, TextsComeOut}
 use Rattle.sm_proof.proofs.DecimalLemmas.{decimal_of_value}
 use Rattle.sm_proof.proofs.NumberLemmas.{number_back, number_spelled}
 

@@ -1,10 +1,7 @@
 -- The first word of bytes and what is behind it, as the code finds them.
-use Rattle.std.proofs.Common.{◌≡◌, ℕ, suc, ◌+◌, ◌-◌, ◌<◌, Bool, true, false, not, ◌==◌, cond, if◌then◌else◌, List, [], ◌∷◌, length, take, drop, count_by, refl, sym, ap, ◌∙◌, arith}
-use Rattle.std.proofs.lemmas.List.{take_all}
+use Rattle.sm_proof.proofs.Imports.{◌≡◌, ℕ, suc, ◌+◌, ◌-◌, ◌<◌, Bool, true, false, not, ◌==◌, cond, if◌then◌else◌, List, [], ◌∷◌, length, take, drop, count_by, refl, sym, ap, ◌∙◌, arith, take_all, prefix_len, behind, with_byte}
 use Rattle.std.proofs.lemmas.List.Recursion.{is_count_by}
-use Rattle.std.specs.List.{prefix_len}
-use Rattle.sm_proof.specs.Behind.{behind}
-use Rattle.sm_proof.specs.Numbers.{words_of, with_byte}
+use Rattle.sm_proof.specs.Numbers.{words_of}
 
 -- bytes are split at the first space
 split_first : (bytes : List ℕ)

@@ -1,11 +1,5 @@
 -- Elements that stand in another list, under the new numbers that theirs get.
-use Rattle.std.proofs.Common.{◌≡◌, ◌⊎◌, ℕ, zero, suc, ◌<◌, Bool, true, false, nat_eq, Some, slice_get, get_or, List, [], ◌∷◌, ◌++◌, length, inl, inr, refl, ap, sym, ◌∙◌, arith}
-use Rattle.std.specs.List.{list_any, AllByRecursion}
-use Rattle.std.proofs.lemmas.Bool.Decides.{Decides-eqb}
-use Rattle.std.proofs.lemmas.List.{get_or_append_left}
-use Rattle.std.proofs.lemmas.Option.{same_Some}
-use Rattle.sm_prune.specs.LeftLines.{new_number}
-use Rattle.std.proofs.lemmas.Bool.{or_right, or_left}
+use Rattle.sm_prune.proofs.Imports.{◌≡◌, ◌⊎◌, ℕ, zero, suc, ◌<◌, Bool, true, false, nat_eq, Some, slice_get, get_or, List, [], ◌∷◌, ◌++◌, length, inl, inr, refl, ap, sym, ◌∙◌, arith, list_any, AllByRecursion, Decides-eqb, get_or_append_left, same_Some, new_number, or_right, or_left}
 use Rattle.sm_lemmas.proofs.Lists.{get_in_first, get_last}
 
 -- element n stands in the other list

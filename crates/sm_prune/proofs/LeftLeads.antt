@@ -1,23 +1,7 @@
 -- The lines that are left lead where all lines lead, with other terms and formulas.
-use Rattle.std.proofs.Common.{◌≡◌, ℕ, suc, Bool, true, false, ◌||◌, Result, Ok, length, List, [], ◌∷◌, ◌++◌, refl, ap, sym, subst, ◌∙◌, arith}
-use Rattle.std.proofs.lemmas.List.{length-append}
-use Rattle.sm_syntax.specs.text.Sorts.{Sorts}
-use Rattle.sm_term.specs.Assertions.{Assertion}
-use Rattle.sm_term.specs.Terms.{Tree}
-use Rattle.sm_proof.specs.Lines.{NumberedLine, ProofLine, Header, Term, Form, Node, Cert}
-use Rattle.sm_proof.specs.declared.line.TermLine.{TermLine}
-use Rattle.sm_proof.specs.declared.line.NodeLine.{NodeLine}
-use Rattle.sm_proof.specs.declared.line.FormLine.{FormLine}
-use Rattle.sm_proof.specs.Named.{and_then}
-use Rattle.sm_proof.specs.declared.word.Word.{Word}
-use Rattle.sm_proof.specs.Passing.{Progress, taken}
-use Rattle.sm_proof.proofs.ProgressLemmas.{made_from, same_end}
-use Rattle.sm_prune.specs.LineNumbers.{terms_of, forms_of, names_term, names_form}
-use Rattle.sm_prune.specs.LeftLines.{left_passes, terms_after, forms_after, AreTold, is_left, Numbering, numbers_after, new_number, line_by, line_before, left_lines}
-use Rattle.sm_prune.specs.Texts.{advanced}
+use Rattle.sm_prune.proofs.Imports.{◌≡◌, ℕ, suc, Bool, true, false, ◌||◌, Result, Ok, length, List, [], ◌∷◌, ◌++◌, refl, ap, sym, subst, ◌∙◌, arith, length-append, Sorts, Assertion, Tree, NumberedLine, ProofLine, Header, Term, Form, Node, Cert, TermLine, NodeLine, FormLine, and_then, Word, Progress, taken, made_from, same_end, terms_of, forms_of, names_term, names_form, left_passes, terms_after, forms_after, AreTold, is_left, Numbering, numbers_after, new_number, line_by, line_before, left_lines, advanced, or_left, or_right}
 use Rattle.sm_prune.proofs.CarriedLemmas.{AreCarried, EachStands, each_stands, carried_on, carried_past}
 use Rattle.sm_prune.proofs.LineTaken.{over, header_refused, term_taken, term_past, form_taken, form_past, node_taken, cert_taken}
-use Rattle.std.proofs.lemmas.Bool.{or_left, or_right}
 
 -- a proof and the one of the lines that are left, before these lines: so many terms and formulas stand before them, and those that
 -- are named by a line that is left are there under their new numbers

@@ -1,24 +1,10 @@
 -- Each line that is left and makes a term or a formula is named by a later one, and lines `exact` are left.
-use Rattle.std.proofs.Common.{◌≡◌, ◌⊎◌, ℕ, suc, ◌<◌, Bool, true, false, ◌&&◌, ◌||◌, nat_eq, IsTrue, List, [], ◌∷◌, ◌++◌, map, length, inl, inr, refl, ap, sym, subst, ◌∙◌, arith}
-use Rattle.std.specs.List.{list_any}
-use Rattle.std.proofs.lemmas.Bool.Decides.{Decides-eqb}
-use Rattle.std.proofs.lemmas.List.{length-append, get_or_append_left}
-use Rattle.sm_theory.specs.Named.{reads_all}
-use Rattle.sm_theory.proofs.LinesOver.{terms_with, reads_with}
+use Rattle.sm_prune.proofs.Imports.{◌≡◌, ◌⊎◌, ℕ, suc, ◌<◌, Bool, true, false, ◌&&◌, ◌||◌, nat_eq, IsTrue, List, [], ◌∷◌, ◌++◌, map, length, inl, inr, refl, ap, sym, subst, ◌∙◌, arith, list_any, Decides-eqb, length-append, get_or_append_left, reads_all, terms_with, reads_with, NumberedLine, ProofLine, Header, Term, Form, Node, Cert, TermLine, NodeLine, FormLine, is_exact, terms_of_term, terms_of_form, terms_of, forms_of_form, forms_of_node, forms_of, names_term, names_form, renumbered_term, renumbered_form, renumbered_node, renumbered, left_passes, terms_after, forms_after, AreTold, Numbering, numbers_after, new_number, line_by, line_before, left_lines, AreNamed, or_left, or_right}
 use Rattle.sm_proof.specs.declared.line.FormLine.TheVariants as form
 use Rattle.sm_proof.specs.declared.line.NodeLine.TheVariants as node
 use Rattle.sm_proof.specs.declared.line.TermLine.TheVariants as term
 use Rattle.sm_proof.specs.Lines as line
-use Rattle.sm_proof.specs.Lines.{NumberedLine, ProofLine, Header, Term, Form, Node, Cert}
-use Rattle.sm_proof.specs.declared.line.TermLine.{TermLine}
-use Rattle.sm_proof.specs.declared.line.NodeLine.{NodeLine}
-use Rattle.sm_proof.specs.declared.line.FormLine.{FormLine}
-use Rattle.sm_proof.specs.Versions.{is_exact}
-use Rattle.sm_prune.specs.LineNumbers.{terms_of_term, terms_of_form, terms_of, forms_of_form, forms_of_node, forms_of, names_term, names_form, renumbered_term, renumbered_form, renumbered_node, renumbered}
-use Rattle.sm_prune.specs.LeftLines.{left_passes, terms_after, forms_after, AreTold, Numbering, numbers_after, new_number, line_by, line_before, left_lines}
-use Rattle.sm_prune.specs.UsedLines.{AreNamed}
 use Rattle.sm_prune.proofs.CarriedLemmas.{number_last}
-use Rattle.std.proofs.lemmas.Bool.{or_left, or_right}
 
 -- a number among others is there where all are moved
 any_moved : (move : ℕ → ℕ) (n : ℕ) (ns : List ℕ) → list_any (nat_eq n) ns ≡ true → list_any (nat_eq (move n)) (map move ns) ≡ true

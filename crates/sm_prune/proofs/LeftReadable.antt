@@ -1,11 +1,9 @@
 -- Lines by new numbers, which are no greater, can be read back too.
-use Rattle.std.proofs.Common.{◌≡◌, ℕ, suc, ◌+◌, ◌^◌, ◌<◌, ◌≤◌, Bool, true, false, get_or, List, [], ◌∷◌, ◌++◌, map, length, refl, subst, arith, zero}
+use Rattle.sm_prune.proofs.Imports.{◌≡◌, ℕ, suc, ◌+◌, ◌^◌, ◌<◌, ◌≤◌, Bool, true, false, get_or, List, [], ◌∷◌, ◌++◌, map, length, refl, subst, arith, zero, length-append, with_terms, NumberedLine, ProofLine, Header, Term, Form, Node, Cert, TermLine, NodeLine, FormLine, line_head, renumbered_term, renumbered_form, renumbered_node, renumbered, AreTold, terms_after, forms_after, Numbering, more_if, numbers_after, new_number, line_by, line_before, left_lines, IsReadable, AreReadable}
 use Rattle.std.specs.Fmt.{decimal}
 use Rattle.std.specs.Str.Parse.{AllDigits, IsNumeral}
 use Rattle.std.proofs.lemmas.Fmt.{decimal_is_IsNumeral, decimal_nonempty, length-decimal-le}
-use Rattle.std.proofs.lemmas.List.{length-append}
 use Rattle.std.proofs.lemmas.Str.Parse.{numerals_by_value, tells_digits, digits_value_short}
-use Rattle.sm_theory.specs.Named.{with_terms}
 use Rattle.sm_proof.specs.declared.kind.FormKind.TheVariants as kind
 use Rattle.sm_proof.specs.declared.kind.TermKind.TheVariants as kinds
 use Rattle.sm_proof.specs.declared.line.FormLine.TheVariants as form
@@ -15,16 +13,8 @@ use Rattle.sm_proof.specs.declared.word.Head.TheVariants as head
 use Rattle.sm_proof.specs.FieldRanges.{IsNumber, AreNumbers, IsWithinFields, numbers_of}
 use Rattle.sm_proof.specs.HeadWords.{head_word, term_word, form_word}
 use Rattle.sm_proof.specs.Lines as line
-use Rattle.sm_proof.specs.Lines.{NumberedLine, ProofLine, Header, Term, Form, Node, Cert}
-use Rattle.sm_proof.specs.declared.line.TermLine.{TermLine}
-use Rattle.sm_proof.specs.declared.line.NodeLine.{NodeLine}
-use Rattle.sm_proof.specs.declared.line.FormLine.{FormLine}
-use Rattle.sm_proof.specs.Named.{line_head}
 use Rattle.sm_proof.specs.declared.word.Head.{Head}
 use Rattle.sm_proof.specs.Spelling.{spaced, spelled, line_words, HasKnownVersion}
-use Rattle.sm_prune.specs.LineNumbers.{renumbered_term, renumbered_form, renumbered_node, renumbered}
-use Rattle.sm_prune.specs.LeftLines.{AreTold, terms_after, forms_after, Numbering, more_if, numbers_after, new_number, line_by, line_before, left_lines}
-use Rattle.sm_prune.specs.Texts.{IsReadable, AreReadable}
 
 -- a lower number has no more digits
 decimal_shorter : (m n : ℕ) → m ≤ n → n < 2 ^ 64 → length (decimal m) ≤ length (decimal n)

@@ -1,3 +1,4 @@
+mod Imports
 pub mod CarriedLemmas
 pub mod LineMoves
 pub mod LineTaken

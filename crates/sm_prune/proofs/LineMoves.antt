@@ -1,28 +1,12 @@
 -- What a line makes or names is the same by other numbers, where all that it names stands under these.
-use Rattle.std.proofs.Common.{◌≡◌, ℕ, ◌<◌, Option, Some, slice_get, Result, Ok, List, [], ◌∷◌, length, ap, ◌∙◌}
-use Rattle.std.proofs.lemmas.Option.{slice_get-get_or, slice_get_within, get_or_from_slice_get}
-use Rattle.sm_syntax.specs.text.Sorts.{Sorts}
-use Rattle.sm_term.specs.Assertions.{Assertion}
+use Rattle.sm_prune.proofs.Imports.{◌≡◌, ℕ, ◌<◌, Option, Some, slice_get, Result, Ok, List, [], ◌∷◌, length, ap, ◌∙◌, slice_get-get_or, slice_get_within, get_or_from_slice_get, Sorts, Assertion, Tree, CertificateLine, followed, terms_named, with_terms, EachOf, EachNamed, facts_with, with_twice, with_same, each_with, NumberedLine, TermLine, NodeLine, FormLine, found_or, are_there, named_line, named_node, Word, Pending, term_made, form_made, found_from, terms_of_term, terms_of_form, forms_of_form, forms_of_node, renumbered_term, renumbered_form, renumbered_node}
 use Rattle.sm_term.specs.Tables.{tree_at}
-use Rattle.sm_term.specs.Terms.{Tree}
-use Rattle.sm_theory.specs.Lines.{CertificateLine, followed}
-use Rattle.sm_theory.specs.Named.{terms_named, with_terms, EachOf, EachNamed}
 use Rattle.sm_theory.proofs.FactsLemmas.{followed_from}
-use Rattle.sm_theory.proofs.LinesOver.{facts_with, with_twice, with_same, each_with}
 use Rattle.sm_plan.specs.Nodes as plan
 use Rattle.sm_proof.specs.declared.line.FormLine.TheVariants as form
 use Rattle.sm_proof.specs.declared.line.NodeLine.TheVariants as node
 use Rattle.sm_proof.specs.declared.line.TermLine.TheVariants as term
-use Rattle.sm_proof.specs.Lines.{NumberedLine}
-use Rattle.sm_proof.specs.declared.line.TermLine.{TermLine}
-use Rattle.sm_proof.specs.declared.line.NodeLine.{NodeLine}
-use Rattle.sm_proof.specs.declared.line.FormLine.{FormLine}
-use Rattle.sm_proof.specs.Named.{found_or, are_there, named_line, named_node}
-use Rattle.sm_proof.specs.declared.word.Word.{Word}
-use Rattle.sm_proof.specs.Passing.{Pending, term_made, form_made}
 use Rattle.sm_proof.proofs.NamedKept.{named_there, named_from, there_below}
-use Rattle.sm_proof.proofs.ProgressLemmas.{found_from}
-use Rattle.sm_prune.specs.LineNumbers.{terms_of_term, terms_of_form, forms_of_form, forms_of_node, renumbered_term, renumbered_form, renumbered_node}
 use Rattle.sm_prune.proofs.CarriedLemmas.{StandsAt, EachStands}
 
 -- what goes on with an element to a good end does so with it in the other list

@@ -1,30 +1,14 @@
 -- A line by other numbers takes a proof with other terms and formulas to where the line takes the proof.
-use Rattle.std.proofs.Common.{◌≡◌, ℕ, suc, Bool, true, if◌then◌else◌, Option, Some, None, slice_get, length, Result, Ok, List, [], ◌∷◌, ◌++◌, refl, ap, sym, ◌∙◌}
+use Rattle.sm_prune.proofs.Imports.{◌≡◌, ℕ, suc, Bool, true, if◌then◌else◌, Option, Some, None, slice_get, length, Result, Ok, List, [], ◌∷◌, ◌++◌, refl, ap, sym, ◌∙◌, Sorts, Assertion, Tree, CertificateLine, terms_named, with_terms, is_split, splits_with, State, NumberedLine, Header, Term, Form, Node, Cert, TermLine, NodeLine, FormLine, found_or, tested_or, and_then, named_line, named_node, node_head, line_head, Word, Pending, Due, Branch, Progress, term_made, form_made, taken_at, opened_before, branches_before, after_node, after_line, found_from, tested_from, made_from, same_end, terms_of_term, terms_of_form, forms_of_form, forms_of_node, renumbered_term, renumbered_form, renumbered_node}
 use Rattle.sm_syntax.specs.claim.ConflictFree.{Copy}
-use Rattle.sm_syntax.specs.text.Sorts.{Sorts}
-use Rattle.sm_term.specs.Assertions.{Assertion}
 use Rattle.sm_term.specs.Symbolic.{SymbolicStore}
-use Rattle.sm_term.specs.Terms.{Tree}
 use Rattle.sm_theory.specs.Facts.{BranchFact}
-use Rattle.sm_theory.specs.Lines.{CertificateLine}
 use Rattle.sm_theory.specs.Ways.{ways}
-use Rattle.sm_theory.specs.Named.{terms_named, with_terms, is_split}
-use Rattle.sm_theory.proofs.LinesOver.{splits_with}
 use Rattle.sm_plan.specs.Limits.{is_shallow}
 use Rattle.sm_plan.specs.NodeLists.{above_opened}
 use Rattle.sm_plan.specs.Nodes as plan
-use Rattle.sm_plan.specs.States.{State}
 use Rattle.sm_proof.specs.Lines as line
-use Rattle.sm_proof.specs.Lines.{NumberedLine, Header, Term, Form, Node, Cert}
-use Rattle.sm_proof.specs.declared.line.TermLine.{TermLine}
-use Rattle.sm_proof.specs.declared.line.NodeLine.{NodeLine}
-use Rattle.sm_proof.specs.declared.line.FormLine.{FormLine}
-use Rattle.sm_proof.specs.Named.{found_or, tested_or, and_then, named_line, named_node, node_head, line_head}
-use Rattle.sm_proof.specs.declared.word.Word.{Word}
 use Rattle.sm_proof.specs.declared.word.Word.TheVariants.{BadNumber, Deep, First}
-use Rattle.sm_proof.specs.Passing.{Pending, Due, Branch, Progress, term_made, form_made, taken_at, opened_before, branches_before, after_node, after_line}
-use Rattle.sm_proof.proofs.ProgressLemmas.{found_from, tested_from, made_from, same_end}
-use Rattle.sm_prune.specs.LineNumbers.{terms_of_term, terms_of_form, forms_of_form, forms_of_node, renumbered_term, renumbered_form, renumbered_node}
 use Rattle.sm_prune.proofs.CarriedLemmas.{EachStands}
 use Rattle.sm_prune.proofs.LineMoves.{term_moves, form_moves, node_moves, cert_moves}
 

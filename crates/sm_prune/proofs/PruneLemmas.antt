@@ -1,13 +1,5 @@
 -- What is left of all lines leads where they lead, from a start on.
-use Rattle.std.proofs.Common.{◌≡◌, ℕ, Bool, true, Ok, List, [], refl, subst, arith}
-use Rattle.std.proofs.lemmas.Bool.{cases_Bool}
-use Rattle.sm_syntax.specs.text.Sorts.{Sorts}
-use Rattle.sm_plan.specs.States.{State}
-use Rattle.sm_proof.specs.Lines.{ProofLine}
-use Rattle.sm_proof.specs.Passing.{Progress, start_progress}
-use Rattle.sm_prune.specs.Laws.{LeadAlike}
-use Rattle.sm_prune.specs.LeftLines.{AreTold, no_numbers, left_lines}
-use Rattle.sm_prune.specs.Texts.{advanced, AreReadable}
+use Rattle.sm_prune.proofs.Imports.{◌≡◌, ℕ, Bool, true, Ok, List, [], refl, subst, arith, cases_Bool, Sorts, State, ProofLine, Progress, start_progress, LeadAlike, AreTold, no_numbers, left_lines, advanced, AreReadable}
 use Rattle.sm_prune.proofs.LeftLeads.{Serves, left_lead}
 use Rattle.sm_prune.proofs.LeftReadable.{IsLowNumbering, left_readable}
 

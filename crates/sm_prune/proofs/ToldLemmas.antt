@@ -1,12 +1,5 @@
 -- It is told of one line after another whether it is left, the last first; then they are put down, the first first.
-use Rattle.std.proofs.Common.{◌≡◌, ◌<◌, ◌+◌, take, ℕ, zero, suc, Bool, true, false, ◌||◌, get_or, List, [], ◌∷◌, ◌++◌, length, map, reverse, refl, ap, sym, subst, ◌∙◌, arith, append_assoc, append-nil}
-use Rattle.std.proofs.lemmas.List.{map-append, reverse-append, length-append, take_more}
-use Rattle.sm_proof.specs.Lines.{ProofLine, Header, Term, Form, Node, Cert, line_of}
-use Rattle.sm_proof.specs.declared.line.Line.{Line}
-use Rattle.sm_prune.specs.declared.told.Told.{Told}
-use Rattle.sm_prune.specs.LineNumbers.{names_term, names_form}
-use Rattle.sm_prune.specs.LeftLines.{left_passes, terms_after, forms_after, is_left, AreTold, Numbering, numbers_after, line_by, line_before, left_lines}
-use Rattle.sm_prune.specs.Marks.{AreMarks, MarksMore, AreMarked, terms_past, forms_past, answers_of, lines_told, IsTelling}
+use Rattle.sm_prune.proofs.Imports.{◌≡◌, ◌<◌, ◌+◌, take, ℕ, zero, suc, Bool, true, false, ◌||◌, get_or, List, [], ◌∷◌, ◌++◌, length, map, reverse, refl, ap, sym, subst, ◌∙◌, arith, append_assoc, append-nil, map-append, reverse-append, length-append, take_more, ProofLine, Header, Term, Form, Node, Cert, line_of, Line, Told, names_term, names_form, left_passes, terms_after, forms_after, is_left, AreTold, Numbering, numbers_after, line_by, line_before, left_lines, AreMarks, MarksMore, AreMarked, terms_past, forms_past, answers_of, lines_told, IsTelling}
 
 -- the last that was put in is the first
 pub popped : {T : Type 0} (all rest : List T) (x : T) → all ≡ rest ++ x ∷ [] → reverse all ≡ x ∷ reverse rest

@@ -1,16 +1,9 @@
 -- Answers of conditions: the truth, or the first operation that leaves 128 bits.
-use Rattle.std.proofs.Common.{◌≡◌, ℤ, pos, Bool, true, false, if◌then◌else◌, Option, Some, None, Ok, Err, refl, subst}
+use Rattle.sm_replay.proofs.Imports.{◌≡◌, ℤ, pos, Bool, true, false, if◌then◌else◌, Option, Some, None, Ok, Err, refl, subst, exact, fits, value_of, truth_of, Store, Expression, Lit, Var, Read, Neg, Plus, Minus, Times, Condition, Yes, No, Compare, Not, And, Or, leaves, before, expression_event, condition_event, answer, EvalError, Tells, IsMet}
 use Rattle.sm_num.specs.declared.op.Op.{Op}
 use Rattle.sm_num.specs.declared.op.Op.TheVariants.{Add, Sub, Mul}
-use Rattle.sm_num.specs.Range.{exact, fits}
-use Rattle.sm_syntax.specs.claim.Meaning.{value_of, truth_of}
-use Rattle.sm_syntax.specs.claim.Stores.{Store, number}
-use Rattle.sm_syntax.specs.claim.Syntax.{Expression, Lit, Var, Read, Neg, Plus, Minus, Times, Condition, Yes, No, Compare, Not, And, Or}
+use Rattle.sm_syntax.specs.claim.Stores.{number}
 use Rattle.sm_eval.specs.declared.error.EvalError.TheVariants as eval
-use Rattle.sm_eval.specs.Events.{leaves, before, expression_event, condition_event, answer}
-use Rattle.sm_eval.specs.declared.error.EvalError.{EvalError}
-use Rattle.sm_replay.specs.Judging.{Tells}
-use Rattle.sm_replay.specs.Violations.{IsMet}
 
 -- a value is the answer only where nothing happens
 answer_ok : {T : Type 0} (o : Option EvalError) (v w : T) → answer o v ≡ Ok w → (o ≡ None) × (v ≡ w)

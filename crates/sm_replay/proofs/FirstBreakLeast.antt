@@ -1,14 +1,6 @@
 -- The least index at which Keeps fails, found among the cells of four arrays.
-use Rattle.std.proofs.Common.{◌≡◌, ◌⊎◌, ◌+◌, ◌<◌, ℕ, suc, ℤ, pos, Bool, true, false, if◌then◌else◌, Option, List, [], ◌∷◌, length, refl, sym, ap, subst, ◌∙◌, inl, inr, ⊎_elim, arith}
-use Rattle.std.specs.Ordering.{int_eq}
-use Rattle.std.proofs.lemmas.Bool.{cases_eq}
-use Rattle.std.proofs.lemmas.Bool.Decides.{Decides-int_eq}
-use Rattle.sm_syntax.specs.claim.ConflictFree.{Copy, O, A, B, M}
-use Rattle.sm_syntax.specs.claim.Keeps.{Keeps, Element, content}
-use Rattle.sm_syntax.specs.claim.Stores.{Value, Array, array, Store}
-use Rattle.sm_eval.specs.Cells.{listed, index_at}
-use Rattle.sm_replay.specs.FirstBreak.{IsUpTo}
-use Rattle.sm_replay.specs.Violations.{KeepsAt}
+use Rattle.sm_replay.proofs.Imports.{◌≡◌, ◌⊎◌, ◌+◌, ◌<◌, ℕ, suc, ℤ, pos, Bool, true, false, if◌then◌else◌, Option, List, [], ◌∷◌, length, refl, sym, ap, subst, ◌∙◌, inl, inr, ⊎_elim, arith, int_eq, cases_eq, Decides-int_eq, Copy, O, A, B, M, Keeps, Element, content, Array, Store, listed, index_at, IsUpTo, KeepsAt}
+use Rattle.sm_syntax.specs.claim.Stores.{Value, array}
 use Rattle.sm_lemmas.proofs.Options.{one_of_four}
 
 -- an index has 0, or a cell

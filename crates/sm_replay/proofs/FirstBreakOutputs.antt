@@ -1,19 +1,7 @@
 -- Outputs, one after the other.
-use Rattle.std.proofs.Common.{◌≡◌, ◌+◌, ◌<◌, ◌≤◌, ℕ, zero, suc, Some, List, [], ◌∷◌, length, map, get_or, refl, sym, ap, ◌∙◌, ⊎_elim, arith}
-use Rattle.std.proofs.lemmas.Bool.{cases_eq}
-use Rattle.std.proofs.lemmas.Option.{slice_get-get_or}
-use Rattle.std.specs.List.{Contains, slice_get}
+use Rattle.sm_replay.proofs.Imports.{◌≡◌, ◌+◌, ◌<◌, ◌≤◌, ℕ, zero, suc, Some, List, [], ◌∷◌, length, map, get_or, refl, sym, ap, ◌∙◌, ⊎_elim, arith, cases_eq, slice_get-get_or, Contains, Name, Copy, Cell, variable, Sorts, Sort, Num, Store, sorted_by, IsBreakOf, IsFirstBreak, KeepsAt}
+use Rattle.std.specs.List.{slice_get}
 use Rattle.std.specs.Option.{unwrap_or}
-use Rattle.sm_syntax.specs.declared.tree.Name.{Name}
-use Rattle.sm_syntax.specs.claim.ConflictFree.{Copy}
-use Rattle.sm_syntax.specs.claim.Keeps.{Cell, variable}
-use Rattle.sm_syntax.specs.text.Sorts.{Sorts}
-use Rattle.sm_syntax.specs.declared.tree.Sort.{Sort}
-use Rattle.sm_syntax.specs.declared.tree.Sort.TheVariants.{Num}
-use Rattle.sm_syntax.specs.claim.Stores.{Store}
-use Rattle.sm_replay.specs.FirstBreak.{sorted_by, IsBreakOf}
-use Rattle.sm_replay.specs.Verdicts.{IsFirstBreak}
-use Rattle.sm_replay.specs.Violations.{KeepsAt}
 
 -- Keeps holds at the outputs below a place
 abbrev pub KeptBelow : List (ℕ × Sort) → (Copy → Store) → ℕ → Type 0

@@ -1,24 +1,11 @@
 -- What is found at one output.
-use Rattle.std.proofs.Common.{◌≡◌, ◌⊎◌, ℕ, ℤ, pos, Some, None, refl, sym, ap, subst, ◌∙◌, ⊎_elim, arith, List}
-use Rattle.std.specs.Prelude.{◌<ℤ◌, ◌≤ℤ◌}
-use Rattle.std.proofs.lemmas.Int.{ints}
-use Rattle.sm_syntax.specs.declared.tree.Sort.{Sort}
-use Rattle.sm_syntax.specs.declared.tree.Sort.TheVariants.{Num, Arr}
-use Rattle.sm_syntax.specs.claim.ConflictFree.{Copy, O, A, B, M}
-use Rattle.sm_syntax.specs.claim.Keeps.{Cell, Scalar, Element, content, variable}
-use Rattle.sm_syntax.specs.claim.Stores.{number, zero_value, Store}
+use Rattle.sm_replay.proofs.Imports.{◌≡◌, ◌⊎◌, ℕ, ℤ, pos, Some, None, refl, sym, ap, subst, ◌∙◌, ⊎_elim, arith, List, ◌<ℤ◌, ◌≤ℤ◌, ints, Sort, Num, Arr, Copy, O, A, B, M, Cell, Scalar, Element, content, variable, zero_value, Store, held, sort, stored_value_of, StoredValue, of_copy, PerCopy, end_in, HaveSort, IsBreakOf, NamesBreak, Finds, cell_of, IsBelow, FailsAt, KeepsAt}
+use Rattle.sm_syntax.specs.claim.Stores.{number}
 use Rattle.sm_eval.specs.declared.stored_value.StoredValue.TheVariants as stored
 use Rattle.sm_eval.specs.declared.store.Store as code
-use Rattle.sm_eval.specs.StoredValues.{held, sort, stored_value_of, meaning, sorts_of}
-use Rattle.sm_eval.specs.declared.stored_value.StoredValue.{StoredValue}
-use Rattle.sm_syntax.specs.trees.Copies.{of_copy}
-use Rattle.sm_syntax.specs.declared.copies.PerCopy.{PerCopy}
+use Rattle.sm_eval.specs.StoredValues.{meaning, sorts_of}
 use Rattle.sm_replay.specs.declared.verdict.Verdict.{Verdict}
 use Rattle.sm_replay.specs.declared.verdict.Verdict.TheVariants as verdict
-use Rattle.sm_replay.specs.Runs.{end_in, HaveSort}
-use Rattle.sm_replay.specs.FirstBreak.{IsBreakOf, NamesBreak, Finds}
-use Rattle.sm_replay.specs.Verdicts.{cell_of, IsBelow, FailsAt}
-use Rattle.sm_replay.specs.Violations.{KeepsAt}
 use Rattle.sm_replay.proofs.FirstBreakLeast.{all_zero}
 use Rattle.sm_replay.proofs.FirstBreakOutputs.{KeptBelow, first_at}
 use Rattle.std.specs.List.{slice_get}

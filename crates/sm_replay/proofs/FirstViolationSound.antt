@@ -1,13 +1,7 @@
 -- The first trial that violates, by the answers to all.
-use Rattle.std.proofs.Common.{◌≡◌, ◌<◌, ℕ, Option, Some, None, List, length, subst, zero-add, arith}
-use Rattle.std.specs.List.{slice_index_or}
-use Rattle.std.specs.Option.{IfNone, IfSome}
+use Rattle.sm_replay.proofs.Imports.{◌≡◌, ◌<◌, ℕ, Option, Some, None, List, length, subst, zero-add, arith, slice_index_or, IfNone, IfSome, Task, Sorts, trial, trials, IsFirstViolation, Shows, IsFirstThere, Violates}
 use Rattle.sm_par.specs.Results.{StandInOrder}
-use Rattle.sm_syntax.specs.claim.ConflictFree.{Task}
-use Rattle.sm_syntax.specs.text.Sorts.{Sorts}
-use Rattle.sm_replay.specs.Trials.{trial, trials, IsFirstViolation, Verdict}
-use Rattle.sm_replay.specs.TrialJobs.{Shows, IsFirstThere}
-use Rattle.sm_replay.specs.Violations.{Violates}
+use Rattle.sm_replay.specs.Trials.{Verdict}
 
 -- the answers to all trials
 abbrev pub Answered : Task → Sorts → ℕ → List (Option Verdict) → Type 0

@@ -1,17 +1,7 @@
 -- What a read of bytes answers.
-use Rattle.std.proofs.Common.{◌≡◌, ◌≢◌, ℕ, ℤ, Option, Some, None, Result, Ok, Err, List, sym, ap, subst}
-use Rattle.std.specs.Option.{option_or}
-use Rattle.std.specs.Result.{IfOk, IfErr}
-use Rattle.serde_json.specs.Data.{Data, Members, no_members, member}
-use Rattle.serde_json.specs.Find.{as_object}
-use Rattle.sm_syntax.specs.text.Sorts.{Sorts}
-use Rattle.sm_syntax.specs.declared.tree.Sort.{Sort}
-use Rattle.sm_syntax.specs.declared.tree.Sort.TheVariants.{Num, Arr}
+use Rattle.sm_replay.proofs.Imports.{◌≡◌, ◌≢◌, ℕ, ℤ, Option, Some, None, Result, Ok, Err, List, sym, ap, subst, option_or, IfOk, IfErr, Data, Members, no_members, member, as_object, Sorts, Sort, Num, Arr, meaning, sorts_of, Texts, name_of, declared_name, missing, cells_fault, array_fault, value_fault, members_fault, input_fault, store_of, IsJson, Reads, reported, InputError, BadJson, NotObject, UnknownKey, BadValue, BadIndex, number_of_text, json_number}
 use Rattle.sm_eval.specs.declared.store.Store as code
-use Rattle.sm_eval.specs.StoredValues.{meaning, sorts_of}
-use Rattle.sm_replay.specs.Input.{Texts, name_of, declared_name, missing, cells_fault, array_fault, value_fault, members_fault, input_fault, store_of, IsJson, Reads, reported, InputError, BadJson, NotObject, UnknownKey, BadValue, BadIndex}
 use Rattle.sm_replay.specs.Input.{Memory}
-use Rattle.sm_replay.specs.Number.{number_of_text, json_number}
 
 -- an error that was reported is the fault
 pub reported_err : (o : Option InputError) (e : InputError) → Err e ≡ reported o → o ≡ Some e

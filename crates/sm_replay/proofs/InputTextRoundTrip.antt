@@ -1,36 +1,11 @@
 -- A written input is read back: the members that stand for a store are an input that gives it.
-use Rattle.std.proofs.Common.{◌≡◌, ◌≤◌, ℕ, ℤ, pos, Bool, true, false, ◌||◌, if◌then◌else◌, Option, Some, None, option_map, option_and_then, unwrap_or, List, [], ◌∷◌, Ordering, Less, Equal, Greater, is_eq, nat_cmp, refl, sym, ap, subst, ◌∙◌}
-use Rattle.std.proofs.Common.{true≢false, arith}
-use Rattle.std.proofs.Math.Path.{fun_ext}
-use Rattle.std.proofs.lemmas.Bool.Decides.{Decides-int_eq}
-use Rattle.std.proofs.lemmas.Cmp.{nat_list_cmp_total, tied_itself}
-use Rattle.std.proofs.lemmas.Map.Text.{is_eq-slice_cmp}
-use Rattle.std.proofs.lemmas.Slice.Eq.{bytes_eq-Decides}
-use Rattle.std.specs.Cmp.Lexicographic.{slice_cmp}
-use Rattle.std.specs.Fmt.{signed_decimal}
-use Rattle.std.specs.List.{AllByRecursion, position}
-use Rattle.std.specs.Option.{option_or}
-use Rattle.std.specs.Ordering.{int_eq, match_ordering}
-use Rattle.std.specs.Str.{bytes_eq}
-use Rattle.serde_json.specs.Data.{Data, object, Members, no_members, member, depth, members_depth}
-use Rattle.serde_json.specs.Find.{get, get_member}
-use Rattle.serde_json.specs.Read.{max_depth}
-use Rattle.serde_json.specs.Written.{has_float, members_have_float}
-use Rattle.sm_num.specs.Range.{fits}
-use Rattle.sm_syntax.specs.text.Sorts.{Sorts}
-use Rattle.sm_syntax.specs.declared.tree.Sort.{Sort}
-use Rattle.sm_syntax.specs.declared.tree.Sort.TheVariants.{Num, Arr}
-use Rattle.sm_syntax.specs.claim.Stores.{Value, Number, Array, zero_value, Store}
-use Rattle.sm_eval.specs.Cells.{listed}
+use Rattle.sm_replay.proofs.Imports.{◌≡◌, ◌≤◌, ℕ, ℤ, pos, Bool, true, false, ◌||◌, if◌then◌else◌, Option, Some, None, option_map, option_and_then, List, [], ◌∷◌, Ordering, Less, Equal, Greater, is_eq, refl, sym, ap, subst, ◌∙◌, true≢false, arith, fun_ext, Decides-int_eq, nat_list_cmp_total, tied_itself, is_eq-slice_cmp, bytes_eq-Decides, slice_cmp, signed_decimal, AllByRecursion, position, option_or, int_eq, match_ordering, bytes_eq, Data, object, Members, no_members, member, depth, members_depth, get, get_member, max_depth, has_float, members_have_float, fits, Sorts, Sort, Num, Arr, Number, Array, zero_value, Store, listed, StoredValue, Texts, name_of, declared_name, missing, cells_fault, value_fault, members_fault, number_or_zero, element, given, member_of, store_of, IsJson, IsInput, InputError, BadValue, BadIndex, IsInside, IsInsideAt, AreInside, number_of_text, json_number, StandsBefore, AreOrdered, number_text, cell_at, AreWrittenCells, IsWrittenAs, IsMemberOf, AreWritten, AreNamed}
+use Rattle.std.proofs.Common.{unwrap_or, nat_cmp}
+use Rattle.sm_syntax.specs.claim.Stores.{Value}
 use Rattle.sm_eval.specs.StoredValues as stored_values
 use Rattle.sm_eval.specs.StoredValues.{meaning, sorts_of}
-use Rattle.sm_eval.specs.declared.stored_value.StoredValue.{StoredValue}
 use Rattle.sm_eval.specs.declared.stored_value.StoredValue.TheVariants as stored
 use Rattle.sm_eval.specs.declared.store.Store as code
-use Rattle.sm_replay.specs.Input.{Texts, name_of, declared_name, missing, cells_fault, value_fault, members_fault, number_or_zero, element, given, member_of, store_of, IsJson, IsInput, InputError, BadValue, BadIndex}
-use Rattle.sm_replay.specs.Members.{IsInside, IsInsideAt, AreInside}
-use Rattle.sm_replay.specs.Number.{number_of_text, json_number}
-use Rattle.sm_replay.specs.InputText.{StandsBefore, AreOrdered, number_text, cell_at, AreWrittenCells, IsWrittenAs, IsMemberOf, AreWritten, AreNamed}
 use Rattle.sm_replay.proofs.MembersLemmas.{by_place}
 use Rattle.sm_replay.proofs.NumberUnique.{spells_itself}
 

@@ -1,36 +1,11 @@
 -- What is written for a store, member by member and cell by cell.
-use Rattle.std.proofs.Common.{◌≡◌, ◌≢◌, ◌⊎◌, ◌+◌, ◌<◌, ◌≤◌, ℕ, suc, ℤ, pos, Bool, true, false, if◌then◌else◌, Option, Some, None, option_and_then, Result, Ok, Err, List, [], ◌∷◌, length, drop, get_or, BTreeMap, String, Global, Ordering}
-use Rattle.std.proofs.Common.{Less, Equal, Greater, refl, sym, ap, subst, ◌∙◌, inl, inr, ⊎_elim, true≢false, add-one, drop-cons, arith}
-use Rattle.std.proofs.lemmas.Bool.{ne_eqb}
-use Rattle.std.proofs.lemmas.Bool.Decides.{Decides-int_eq}
-use Rattle.std.proofs.lemmas.Cmp.{nat_list_cmp_total}
-use Rattle.std.proofs.lemmas.List.{drop_all, get_or_default}
+use Rattle.sm_replay.proofs.Imports.{◌≡◌, ◌≢◌, ◌⊎◌, ◌+◌, ◌<◌, ◌≤◌, ℕ, suc, ℤ, pos, Bool, true, false, if◌then◌else◌, Option, Some, None, option_and_then, Result, Ok, Err, List, [], ◌∷◌, length, drop, get_or, BTreeMap, String, Global, Ordering, Less, Equal, Greater, refl, sym, ap, subst, ◌∙◌, inl, inr, ⊎_elim, true≢false, add-one, drop-cons, arith, ne_eqb, Decides-int_eq, nat_list_cmp_total, drop_all, get_or_default, none-some, slice_get-get_or, slice_get_within, bytes_eq-Decides, slice_cmp, signed_decimal, AllByRecursion, position, int_eq, match_ordering, ordering_reverse, IfOk, IsUtf8, bytes_eq, Data, object, Members, no_members, member, depth, get_member, read, max_depth, view, members_view, view-Object, get_member-put, get_member-put_other, Name, sort_of, Sorts, Sort, Array, Store, listed, AreCells, Texts, declared_name, IsJson, IsInside, IsInsideAt, AreInside, Writes, number_of_text, StandsBefore, AreOrdered, number_text, nonzero_text, cell_at, AreWrittenCells, IsMemberOf, AreWritten}
 use Rattle.std.proofs.lemmas.List.Quantifiers.{position-Some}
-use Rattle.std.proofs.lemmas.Option.{none-some, slice_get-get_or, slice_get_within}
-use Rattle.std.proofs.lemmas.Slice.Eq.{bytes_eq-Decides}
-use Rattle.std.specs.Cmp.Lexicographic.{slice_cmp}
-use Rattle.std.specs.Fmt.{signed_decimal}
-use Rattle.std.specs.List.{AllByRecursion, position, slice_get}
-use Rattle.std.specs.Ordering.{int_eq, nat_cmp, match_ordering, ordering_reverse}
-use Rattle.std.specs.Result.{IfOk}
-use Rattle.std.specs.Str.{IsUtf8, bytes_eq}
-use Rattle.serde_json.specs.Data.{Data, object, Members, no_members, member, put, depth}
-use Rattle.serde_json.specs.Find.{get_member}
-use Rattle.serde_json.specs.Read.{read, max_depth}
-use Rattle.serde_json.specs.View.{view, members_view}
+use Rattle.std.specs.List.{slice_get}
+use Rattle.std.specs.Ordering.{nat_cmp}
+use Rattle.serde_json.specs.Data.{put}
 use Rattle.serde_json.specs.declared.value.Value.{Object, Value as Json}
-use Rattle.serde_json.proofs.Views.{view-Object, get_member-put, get_member-put_other}
-use Rattle.sm_syntax.specs.declared.tree.Name.{Name}
-use Rattle.sm_syntax.specs.text.Parts.{sort_of}
-use Rattle.sm_syntax.specs.text.Sorts.{Sorts}
-use Rattle.sm_syntax.specs.declared.tree.Sort.{Sort}
-use Rattle.sm_syntax.specs.claim.Stores.{Array, Store}
-use Rattle.sm_eval.specs.Cells.{listed, AreCells}
 use Rattle.sm_eval.proofs.Ordered.{listed_at}
-use Rattle.sm_replay.specs.Input.{Texts, declared_name, IsJson}
-use Rattle.sm_replay.specs.Members.{IsInside, IsInsideAt, AreInside, Writes}
-use Rattle.sm_replay.specs.Number.{number_of_text}
-use Rattle.sm_replay.specs.InputText.{StandsBefore, AreOrdered, number_text, nonzero_text, cell_at, AreWrittenCells, IsMemberOf, AreWritten}
 use Rattle.sm_replay.proofs.UpdatesSound.{numbered}
 use Rattle.sm_replay.proofs.MembersLemmas.{by_place}
 use Rattle.sm_replay.proofs.NumberUnique.{spells_itself, spelled_back}

@@ -1,19 +1,9 @@
 -- Bytes give one store as an input, and a store has one text as an input.
-use Rattle.std.proofs.Common.{◌≡◌, ◌≢◌, ◌⊎◌, ℕ, Option, Some, None, Ok, Err, List, Ordering, Less, Equal, Greater, is_eq, nat_cmp, refl, sym, ap, subst, ◌∙◌, inl, inr}
-use Rattle.std.proofs.lemmas.Cmp.{nat_list_cmp_total}
-use Rattle.std.proofs.lemmas.Map.Text.{is_eq-slice_cmp}
-use Rattle.std.proofs.lemmas.Slice.Eq.{bytes_eq-Decides}
-use Rattle.std.specs.Cmp.Lexicographic.{slice_cmp}
-use Rattle.std.specs.Ordering.{match_ordering, ordering_reverse}
-use Rattle.serde_json.specs.Data.{Data, object, Members, no_members, member}
-use Rattle.serde_json.specs.Find.{as_object, get_member}
-use Rattle.sm_syntax.specs.text.Sorts.{Sorts}
-use Rattle.sm_syntax.specs.declared.tree.Sort.{Sort}
-use Rattle.sm_syntax.specs.claim.Stores.{Value, Number, Array, Store}
+use Rattle.sm_replay.proofs.Imports.{◌≡◌, ◌≢◌, ◌⊎◌, ℕ, Option, Some, None, Ok, Err, List, Ordering, Less, Equal, Greater, is_eq, refl, sym, ap, subst, ◌∙◌, inl, inr, nat_list_cmp_total, is_eq-slice_cmp, bytes_eq-Decides, slice_cmp, match_ordering, ordering_reverse, Data, object, Members, no_members, member, as_object, get_member, Sorts, Sort, Number, Array, Store, Texts, declared_name, input_fault, store_of, IsJson, IsInput, IsRefusedInput, Reads, InputError, BadJson, NotObject, UnknownKey, BadValue, BadIndex, ReadingIsOne, WrittenTextIsOne, StandsBefore, AreOrdered, IsWrittenAs, IsMemberOf}
+use Rattle.std.proofs.Common.{nat_cmp}
+use Rattle.sm_syntax.specs.claim.Stores.{Value}
 use Rattle.sm_eval.specs.declared.store.Store as code
-use Rattle.sm_replay.specs.Input.{Texts, declared_name, input_fault, store_of, IsJson, IsInput, IsRefusedInput, Reads, InputError, BadJson, NotObject, UnknownKey, BadValue, BadIndex, Memory}
-use Rattle.sm_replay.specs.Laws.{ReadingIsOne, WrittenTextIsOne}
-use Rattle.sm_replay.specs.InputText.{StandsBefore, AreOrdered, IsWrittenAs, IsMemberOf}
+use Rattle.sm_replay.specs.Input.{Memory}
 use Rattle.sm_replay.proofs.InputTextRoundTrip.{same_text, before_all}
 use Rattle.sm_replay.proofs.InputTextSound.{stands_below}
 

@@ -1,3 +1,4 @@
+mod Imports
 pub mod ViolationsSound
 pub mod RunnableTasks
 pub mod NamesFound

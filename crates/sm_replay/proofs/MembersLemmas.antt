@@ -1,30 +1,10 @@
 -- Members of JSON, and what they give an array.
-use Rattle.std.proofs.Common.{◌≡◌, ◌⊎◌, ◌<◌, ◌++◌, ℕ, zero, suc, ℤ, Bool, true, false, cond, not, ◌||◌, ◌+◌, if◌then◌else◌, nat_lt, Option, Some, None, option_map, option_and_then, List, [], ◌∷◌, length, String, Global, string_bytes, Less}
-use Rattle.std.proofs.Common.{refl, sym, ap, subst, ◌∙◌, inl, inr, ⊎_elim, true≢false, arith}
-use Rattle.std.proofs.lemmas.Bool.Decides.{Decides-ltb}
-use Rattle.std.proofs.lemmas.List.Elements.{Contains-append_left, Contains-append_right, Contains-append_cases}
+use Rattle.sm_replay.proofs.Imports.{◌≡◌, ◌⊎◌, ◌<◌, ◌++◌, ℕ, zero, suc, ℤ, Bool, true, false, cond, not, ◌||◌, ◌+◌, if◌then◌else◌, nat_lt, Option, Some, None, option_map, option_and_then, List, [], ◌∷◌, length, String, Global, string_bytes, Less, refl, sym, ap, subst, ◌∙◌, inl, inr, ⊎_elim, true≢false, arith, Decides-ltb, Contains-append_left, Contains-append_right, Contains-append_cases, slice_get_within, bytes_eq-Decides, slice_cmp, signed_decimal, AllByRecursion, Contains, position, position_or_len, IsPermutation, keys_of, match_ordering, bytes_eq, string_cmp, Data, object, Members, no_members, get_member, view, members_view, Entry, member_here, member_later, fits, Sorts, Sort, is_among, Lists, Texts, declared_name, number_or_zero, elements, cell_given, number_of_text}
 use Rattle.std.proofs.lemmas.List.Sorted.{IsPermutation-sym, Contains-permutation}
-use Rattle.std.proofs.lemmas.Option.{slice_get_within}
-use Rattle.std.proofs.lemmas.Slice.Eq.{bytes_eq-Decides}
-use Rattle.std.specs.Cmp.Lexicographic.{slice_cmp}
-use Rattle.std.specs.Fmt.{signed_decimal}
-use Rattle.std.specs.List.{AllByRecursion, Contains, position, position_or_len, slice_get}
-use Rattle.std.specs.List.Sorted.{IsPermutation, IsStrictlySortedBy}
-use Rattle.std.specs.Map.{keys_of}
-use Rattle.std.specs.Ordering.{nat_cmp, match_ordering}
-use Rattle.std.specs.Str.{bytes_eq}
-use Rattle.std.specs.String.{string_cmp}
-use Rattle.serde_json.specs.Data.{Data, number, object, Members, no_members}
-use Rattle.serde_json.specs.Find.{get_member}
-use Rattle.serde_json.specs.View.{view, members_view}
-use Rattle.serde_json.proofs.Views.{Entry, member_here, member_later}
-use Rattle.sm_num.specs.Range.{fits}
-use Rattle.sm_syntax.specs.text.Sorts.{Sorts}
-use Rattle.sm_syntax.specs.declared.tree.Sort.{Sort}
-use Rattle.sm_syntax.specs.text.Symbols.{is_among}
-use Rattle.sm_replay.specs.Updates.{Lists}
-use Rattle.sm_replay.specs.Input.{Texts, declared_name, number_or_zero, elements, cell_given}
-use Rattle.sm_replay.specs.Number.{number_of_text}
+use Rattle.std.specs.List.{slice_get}
+use Rattle.std.specs.List.Sorted.{IsStrictlySortedBy}
+use Rattle.std.specs.Ordering.{nat_cmp}
+use Rattle.serde_json.specs.Data.{number}
 use Rattle.sm_replay.proofs.NumberUnique.{spells_itself, spelled_back}
 
 -- a text that isn't among names has no place

@@ -1,18 +1,11 @@
 -- The declared names of a text's task are found by their texts.
-use Rattle.std.proofs.Common.{◌≡◌, ◌==◌, ℕ, Bool, true, false, if◌then◌else◌, Some, List, [], ◌∷◌, ◌++◌, slice_get, refl, sym, ap, subst, ◌∙◌}
-use Rattle.std.proofs.lemmas.Bool.Decides.{Decides-eqb}
-use Rattle.std.specs.List.{position, position_or_len}
+use Rattle.sm_replay.proofs.Imports.{◌≡◌, ◌==◌, ℕ, Bool, true, false, if◌then◌else◌, Some, List, [], ◌∷◌, ◌++◌, refl, sym, ap, subst, ◌∙◌, Decides-eqb, position, position_or_len, bytes_eq, Sort, sort_of, is_among, names_of, SpelledNamesAreFound, AreNamed}
+use Rattle.std.proofs.Common.{slice_get}
 use Rattle.std.specs.Prelude.{unwrap_or}
-use Rattle.std.specs.Str.{bytes_eq}
 use Rattle.sm_syntax.specs.declared.symbol.Symbol.{Symbol}
-use Rattle.sm_syntax.specs.declared.tree.Sort.{Sort}
-use Rattle.sm_syntax.specs.text.Parts.{sort_of}
-use Rattle.sm_syntax.specs.text.Symbols.{is_among, names_of}
 use Rattle.sm_syntax.proofs.Numbering.{slice_get-number}
 use Rattle.sm_text.proofs.RoundTrip.Content.{content_declared, content_of_task, task_content}
 use Rattle.sm_text.proofs.RoundTrip.Tasks.{AllIn, text_content}
-use Rattle.sm_replay.specs.Laws.{SpelledNamesAreFound}
-use Rattle.sm_replay.specs.InputText.{AreNamed}
 use Rattle.sm_replay.proofs.MembersLemmas.{place_of}
 
 -- a name has a text, by which it is found

@@ -1,8 +1,6 @@
 -- The number that a value of JSON gives, as the code asks for it.
-use Rattle.std.proofs.Common.{◌≡◌, None, option_and_then, refl}
-use Rattle.serde_json.specs.Data.{unsigned, negative, float, Data, null, boolean, number, string, array, object}
-use Rattle.serde_json.specs.Find.{as_number, as_u64, as_i64, as_str}
-use Rattle.sm_replay.specs.Number.{json_number}
+use Rattle.sm_replay.proofs.Imports.{◌≡◌, None, option_and_then, refl, negative, float, Data, null, boolean, string, object, as_number, as_u64, as_i64, as_str, json_number}
+use Rattle.serde_json.specs.Data.{unsigned, number, array}
 
 -- anything else
 pub no_number : (d : Data) → None ≡ option_and_then as_u64 (as_number d) → None ≡ option_and_then as_i64 (as_number d) → None ≡ as_str d

@@ -1,18 +1,11 @@
 -- Decimal texts and the numbers that they spell.
-use Rattle.std.proofs.Common.{◌≡◌, ◌+◌, ◌<◌, ◌^◌, ◌&&◌, ℕ, suc, ℤ, pos, negsuc, neg_ℤ, Bool, true, false, cond, if◌then◌else◌, Some, None, List, [], to_z, of_z, refl, sym, ap, subst, ◌∙◌, arith}
-use Rattle.std.proofs.lemmas.Bool.Decides.{Decides-ltb}
+use Rattle.sm_replay.proofs.Imports.{◌≡◌, ◌+◌, ◌<◌, ◌^◌, ◌&&◌, ℕ, suc, ℤ, pos, negsuc, neg_ℤ, Bool, true, false, cond, if◌then◌else◌, Some, None, List, [], to_z, of_z, refl, sym, ap, subst, ◌∙◌, arith, Decides-ltb, to_z-of_z, bytes_eq-Decides, decimal, signed_decimal, w128, bytes_eq, fits, no_minus}
 use Rattle.std.proofs.lemmas.Fmt.{decimal_is_IsNumeral_wide}
-use Rattle.std.proofs.lemmas.Int.{to_z-of_z}
-use Rattle.std.proofs.lemmas.Slice.Eq.{bytes_eq-Decides}
-use Rattle.std.specs.Fmt.{decimal, signed_decimal}
-use Rattle.std.specs.Int.{w128}
 use Rattle.std.specs.Int.RustNames.{FitsSigned}
-use Rattle.std.specs.Str.{bytes_eq}
 use Rattle.std.specs.Str.Parse.{IsNumeral, digits_value, without_leading_sign, signed_digits_value}
 use lib.Signed.{mag}
-use Rattle.sm_num.specs.Range.{fits}
 use Rattle.sm_replay.specs.Number.{number_of_text}
-use Rattle.sm_lemmas.proofs.Numbers.{no_minus, unsigned}
+use Rattle.sm_lemmas.proofs.Numbers.{unsigned}
 
 -- a number that fits is small
 fits_small : (z : ℤ) → fits z ≡ true → mag z < 2 ^ 127

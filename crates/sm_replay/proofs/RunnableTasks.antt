@@ -1,21 +1,11 @@
 -- Which tasks may be run.
-use Rattle.std.proofs.Common.{◌≡◌, ℕ, Option, Some, None, List, [], ◌∷◌, length, refl, sym, ap, subst, ◌∙◌}
-use Rattle.sm_syntax.specs.declared.copies.PerCopy.{PerCopy}
-use Rattle.sm_syntax.specs.declared.tree.Block.{Block}
+use Rattle.sm_replay.proofs.Imports.{◌≡◌, ℕ, Option, Some, None, List, [], ◌∷◌, length, refl, sym, ap, subst, ◌∙◌, PerCopy, Block, Copy, O, A, B, M, program_of, Parts, sort_of, task_of, Sorts, IsWellSorted, Sort, Condition, Code, AreFilled, code_in, AreSorted, IsWellSortedAssumption}
 use Rattle.sm_syntax.specs.text.Conditions.{TooMany, first_of_all, first_of_lists, first_sort_fault, double_name, first_output_fault, over, size_fault, program_fault, double_hole, hole_in_filling, unknown_hole, missing_filling, ill_formed}
 use Rattle.sm_syntax.specs.text.Conditions.{ill_assumed, first_refusal, code_nodes, code_depth, condition_nodes, condition_depth}
 use Rattle.sm_syntax.specs.text.Uses.{names_used}
-use Rattle.sm_syntax.specs.claim.ConflictFree.{Copy, O, A, B, M, program_of}
 use Rattle.sm_syntax.specs.claim.Fill.{fill}
-use Rattle.sm_syntax.specs.text.Parts.{Parts, sort_of, task_of}
-use Rattle.sm_syntax.specs.text.Sorts.{Sorts, IsWellSorted}
-use Rattle.sm_syntax.specs.declared.tree.Sort.{Sort}
 use Rattle.sm_syntax.specs.text.Spells.{Spells}
-use Rattle.sm_syntax.specs.claim.Syntax.{Condition, Code}
-use Rattle.sm_task.specs.Filling.{AreFilled}
-use Rattle.sm_replay.specs.Runs.{code_in, AreSorted}
 use Rattle.sm_eval.proofs.Faultless.{code_sorted, condition_sorted}
-use Rattle.sm_replay.specs.Judging.{IsWellSortedAssumption}
 use Rattle.sm_replay.specs.Sorted.{names_assumed, sort_fault}
 use Rattle.sm_syntax.proofs.Refusals.{neither_refuses, each_none, none_of_lists}
 

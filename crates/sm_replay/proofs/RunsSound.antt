@@ -1,23 +1,10 @@
 -- The four ends, or the copy that stops first, as a verdict.
-use Rattle.std.proofs.Common.{◌≡◌, ℕ, Ok, Err, sym, subst, ◌∙◌}
-use Rattle.std.proofs.Math.Path.{fun_ext}
-use Rattle.sm_syntax.specs.declared.copies.PerCopy.{PerCopy}
-use Rattle.sm_syntax.specs.declared.tree.Block.{Block}
-use Rattle.sm_syntax.specs.claim.ConflictFree.{Copy, O, Task, program_of}
-use Rattle.sm_syntax.specs.text.Sorts.{Sorts}
-use Rattle.sm_syntax.specs.claim.Stores.{Store}
-use Rattle.sm_syntax.specs.claim.Syntax.{Code}
-use Rattle.sm_eval.specs.declared.error.EvalError.{EvalError}
+use Rattle.sm_replay.proofs.Imports.{◌≡◌, ℕ, Ok, Err, sym, subst, ◌∙◌, fun_ext, PerCopy, Block, Copy, O, Task, program_of, Sorts, Store, Code, EvalError, sorts_of, code_in, stop_of, HaveSorts, Finds, Stops, Judges, IsMet, AreEnds}
 use Rattle.sm_eval.specs.declared.error.EvalError.TheVariants as eval
 use Rattle.sm_eval.specs.declared.store.Store as code
-use Rattle.sm_eval.specs.StoredValues.{sorts_of}
 use Rattle.sm_replay.specs.declared.error.ReplayError.TheVariants as stop
 use Rattle.sm_replay.specs.declared.verdict.Verdict.{Verdict}
 use Rattle.sm_replay.specs.declared.verdict.Verdict.TheVariants as verdict
-use Rattle.sm_replay.specs.Runs.{code_in, stop_of, HaveSorts}
-use Rattle.sm_replay.specs.FirstBreak.{Finds}
-use Rattle.sm_replay.specs.Verdicts.{Stops, Judges}
-use Rattle.sm_replay.specs.Violations.{IsMet, AreEnds}
 
 -- the sorts of all are those of the base
 pub same_sorts : (ends : PerCopy code.Store) (sorts : Sorts) → HaveSorts ends sorts → HaveSorts ends (sorts_of ends.base)

@@ -1,27 +1,12 @@
 -- Stores that are filled name by name, and arrays element by element.
-use Rattle.std.proofs.Common.{◌≡◌, ◌≢◌, ◌⊎◌, ◌+◌, ◌<◌, ◌≤◌, ℕ, suc, ℤ, pos, Bool, true, false, if◌then◌else◌, Option, Some, None, List, [], ◌∷◌, length, map, drop, get_or, refl, sym, ap, subst, ◌∙◌, inl, inr, ⊎_elim, true≢false, add-one}
-use Rattle.std.proofs.Common.{drop-cons, arith}
-use Rattle.std.proofs.Math.Path.{fun_ext}
-use Rattle.std.proofs.lemmas.Bool.{cases_eq, ne_eqb}
-use Rattle.std.proofs.lemmas.Bool.Decides.{Decides-int_eq}
-use Rattle.std.proofs.lemmas.List.{drop_all}
-use Rattle.std.proofs.lemmas.List.Elements.{Contains-get_or}
+use Rattle.sm_replay.proofs.Imports.{◌≡◌, ◌≢◌, ◌⊎◌, ◌+◌, ◌<◌, ◌≤◌, ℕ, suc, ℤ, pos, Bool, true, false, if◌then◌else◌, Option, Some, None, List, [], ◌∷◌, length, map, drop, get_or, refl, sym, ap, subst, ◌∙◌, inl, inr, ⊎_elim, true≢false, add-one, drop-cons, arith, fun_ext, cases_eq, ne_eqb, Decides-int_eq, drop_all, Contains-get_or, Contains, int_eq, Name, sort_of, Sorts, Sort, Arr, Array, Store, held, sort, stored_value_of, with_cell, StoredValue, GivesValue, Lists, Overrides}
 use Rattle.std.proofs.lemmas.Map.Made.{Contains-tail}
-use Rattle.std.specs.List.{Contains}
 use Rattle.std.specs.Option.{unwrap_or}
-use Rattle.std.specs.Ordering.{int_eq}
-use Rattle.sm_syntax.specs.declared.tree.Name.{Name}
-use Rattle.sm_syntax.specs.text.Parts.{sort_of}
-use Rattle.sm_syntax.specs.text.Sorts.{Sorts}
-use Rattle.sm_syntax.specs.declared.tree.Sort.{Sort}
-use Rattle.sm_syntax.specs.declared.tree.Sort.TheVariants.{Arr}
-use Rattle.sm_syntax.specs.claim.Stores.{Value, Array, array, Store, put}
+use Rattle.sm_syntax.specs.claim.Stores.{Value, array, put}
 use Rattle.sm_syntax.proofs.Puts.{put_at, put_past}
 use Rattle.sm_eval.specs.declared.stored_value.StoredValue.TheVariants as stored
 use Rattle.sm_eval.specs.declared.store.Store as code
-use Rattle.sm_eval.specs.StoredValues.{held, sort, stored_value_of, meaning, sorts_of, with_cell}
-use Rattle.sm_eval.specs.declared.stored_value.StoredValue.{StoredValue}
-use Rattle.sm_replay.specs.Updates.{GivesValue, Lists, Overrides}
+use Rattle.sm_eval.specs.StoredValues.{meaning, sorts_of}
 
 -- a name has its value, or else 0 and is still declared in the rest
 pub record Filling (sorts : Sorts) (start goal : ℕ → Value) (rest : List (ℕ × Sort)) (s : Store) : Type 0 where

@@ -1,24 +1,9 @@
 -- What a verdict tells of violations.
-use Rattle.std.proofs.Common.{◌≡◌, ◌⊎◌, ◌+◌, ◌<◌, ◌≤◌, ◌↔◌, ℕ, ℤ, Bool, true, false, Option, Some, None, Result, Ok, Err, List, IsTrue, refl, sym, subst, ◌∙◌, arith, ⊎_elim, true≢false}
-use Rattle.std.proofs.Math.Path.{fun_ext}
-use Rattle.std.proofs.lemmas.Bool.{cases_eq}
-use Rattle.std.proofs.lemmas.Option.{slice_get_within, get_or_from_slice_get}
-use Rattle.std.specs.List.{Contains, slice_get}
-use Rattle.sm_syntax.specs.claim.ConflictFree.{Copy, Task, program_of, copy_of}
-use Rattle.sm_syntax.specs.trees.FirstBroken.{IsFirstBroken}
-use Rattle.sm_syntax.specs.claim.Keeps.{Keeps, KeepsChange, AddsNothing, Cell, variable}
-use Rattle.sm_syntax.specs.claim.Meaning.{run}
-use Rattle.sm_syntax.specs.text.Sorts.{Sorts}
-use Rattle.sm_syntax.specs.claim.Stores.{Store}
-use Rattle.sm_syntax.specs.claim.Syntax.{Condition, Code}
-use Rattle.sm_eval.specs.declared.error.EvalError.{EvalError}
+use Rattle.sm_replay.proofs.Imports.{◌≡◌, ◌⊎◌, ◌+◌, ◌<◌, ◌≤◌, ◌↔◌, ℕ, ℤ, Bool, true, false, Option, Some, None, Result, Ok, Err, List, IsTrue, refl, sym, subst, ◌∙◌, arith, ⊎_elim, true≢false, fun_ext, cases_eq, slice_get_within, get_or_from_slice_get, Contains, Copy, Task, program_of, copy_of, IsFirstBroken, Keeps, KeepsChange, AddsNothing, Cell, variable, run, Sorts, Store, Condition, Code, EvalError, Tells, trial, SomeTrialMeets, shown_of, Shows, KeepsOutputs, Breaks, IsUnmet, Stops, Judges, IsViolation, cell_of, ReplayError, IsMet, AreEnds, KeepsAt, Violates}
+use Rattle.std.specs.List.{slice_get}
 use Rattle.sm_replay.specs.declared.error.ReplayError.TheVariants as stop
 use Rattle.sm_replay.specs.declared.verdict.Verdict.TheVariants as verdict
-use Rattle.sm_replay.specs.Judging.{Tells}
-use Rattle.sm_replay.specs.Trials.{trial, SomeTrialMeets, Verdict}
-use Rattle.sm_replay.specs.TrialJobs.{shown_of, Shows}
-use Rattle.sm_replay.specs.Verdicts.{KeepsOutputs, Breaks, IsUnmet, Stops, Judges, IsViolation, cell_of, ReplayError}
-use Rattle.sm_replay.specs.Violations.{IsMet, AreEnds, KeepsAt, Violates}
+use Rattle.sm_replay.specs.Trials.{Verdict}
 
 -- a run has one end
 same_end : (n : ℕ) (c : Code) (s t u : Store) → run n c s ≡ Some t → run n c s ≡ Some u → t ≡ u

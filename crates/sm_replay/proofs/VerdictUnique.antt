@@ -1,27 +1,11 @@
 -- One store has one verdict, and one list of trials has one first violation.
-use Rattle.std.proofs.Common.{◌≡◌, ◌⊎◌, ◌<◌, ℕ, suc, ℤ, pos, negsuc, Option, Some, None, Ok, Err, refl, sym, ap, subst, ◌∙◌, inl, inr, ⊎_elim, arith, List}
-use Rattle.std.specs.Prelude.{◌<ℤ◌}
-use Rattle.std.proofs.lemmas.Int.{ints}
+use Rattle.sm_replay.proofs.Imports.{◌≡◌, ◌⊎◌, ◌<◌, ℕ, suc, ℤ, pos, negsuc, Option, Some, None, Ok, Err, refl, sym, ap, subst, ◌∙◌, inl, inr, ⊎_elim, arith, List, ◌<ℤ◌, ints, Sort, Name, Copy, Task, program_of, copy_of, IsFirstBroken, Cell, Scalar, Element, variable, Store, Code, event, EvalError, stop_of, VerdictIsOne, LeastTrialIsOne, FirstViolationIsOne, trial, Names, cell_of, IsBelow, FailsAt, IsFirstBreak, KeepsOutputs, Breaks, IsUnmet, Stops, ReplayError, assumed_event, IsMet, AreEnds, KeepsAt, order}
 use Rattle.std.specs.List.{slice_get}
-use Rattle.sm_syntax.specs.declared.tree.Sort.{Sort}
-use Rattle.sm_syntax.specs.declared.tree.Name.{Name}
-use Rattle.sm_syntax.specs.claim.ConflictFree.{Copy, Task, program_of, copy_of}
-use Rattle.sm_syntax.specs.trees.FirstBroken.{IsFirstBroken}
-use Rattle.sm_syntax.specs.claim.Keeps.{Cell, Scalar, Element, variable}
-use Rattle.sm_syntax.specs.claim.Stores.{Store}
-use Rattle.sm_syntax.specs.claim.Syntax.{Code}
-use Rattle.sm_eval.specs.Events.{event}
-use Rattle.sm_eval.specs.declared.error.EvalError.{EvalError}
 use Rattle.sm_eval.specs.declared.error.EvalError.TheVariants as eval
 use Rattle.sm_replay.specs.declared.error.ReplayError.TheVariants as stop
 use Rattle.sm_replay.specs.declared.verdict.Verdict.TheVariants as verdict
-use Rattle.sm_replay.specs.Runs.{stop_of}
-use Rattle.sm_replay.specs.Laws.{VerdictIsOne, LeastTrialIsOne, FirstViolationIsOne}
-use Rattle.sm_replay.specs.Trials.{trial, Names, Verdict}
-use Rattle.sm_replay.specs.Verdicts.{cell_of, IsBelow, FailsAt, IsFirstBreak, KeepsOutputs, Breaks, IsUnmet, Stops, ReplayError}
-use Rattle.sm_replay.specs.Violations.{assumed_event, IsMet, AreEnds, KeepsAt}
+use Rattle.sm_replay.specs.Trials.{Verdict}
 use Rattle.sm_replay.proofs.VerdictSound.{same_ends, not_kept, holds_not_violated, breaks_violates}
-use Rattle.sm_lemmas.proofs.Numbers.{order}
 use Rattle.sm_lemmas.proofs.Lists.{one_thing}
 
 int_order : (i j : ℤ) → (i <ℤ j) ⊎ ((i ≡ j) ⊎ (j <ℤ i))

@@ -1,8 +1,5 @@
 -- A violation is a conflict.
-use Rattle.std.proofs.Common.{ℕ}
-use Rattle.sm_syntax.specs.claim.ConflictFree.{Task, ConflictFree}
-use Rattle.sm_syntax.specs.claim.Stores.{Store}
-use Rattle.sm_replay.specs.Violations.{Violates}
+use Rattle.sm_replay.proofs.Imports.{ℕ, Task, ConflictFree, Store, Violates}
 
 -- Keeps would hold at the cell at which it fails
 pub violation_conflicts : (t : Task) (s : Store) (n : ℕ) → Violates t s n → ¬ ConflictFree t

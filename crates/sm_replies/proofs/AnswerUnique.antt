@@ -1,30 +1,12 @@
 -- Two answers to the same words and told files, each without a fault, are equal.
-use Rattle.std.proofs.Common.{◌≡◌, ◌≢◌, ◌<◌, ◌∷◌, ◌++◌, inl, inr, ℕ, Bool, true, false, List, [], Option, Some, None, codes, refl, sym, ap, subst, ◌∙◌, arith}
+use Rattle.sm_replies.proofs.Imports.{◌≡◌, ◌≢◌, ◌<◌, ◌∷◌, ◌++◌, inl, inr, ℕ, Bool, true, false, List, [], Option, Some, None, codes, refl, sym, ap, subst, ◌∙◌, arith, Rose, Known, untold, trial, Verdict, AreWritten, Parts, sort_of, Store, signed_decimal, reach_of, AnswersCheck, IsInputText, IsNote, SaysNoted, SaysOutcome, ShowsTrial, RunsOut, is_accepted, AnswersSuggest, Decides, SaysSuggestion, Suggests, choices, combination, hole_count, IsFirst, goal_line, input_line, op_word, suggestion_line, too_many_line, trial_line, Effort, Status, Accepted, Conflict, Unknown, Same, says_same, refused_same, task_or_none, task_same}
 use Rattle.serde_json.specs.Data.{Members, object}
 use Rattle.serde_json.specs.Written.{compact_text}
-use Rattle.sm_io.specs.Causes.{Rose}
-use Rattle.sm_io.specs.Files.{Known, untold}
-use Rattle.sm_replay.specs.Trials.{trial}
-use Rattle.sm_replay.specs.declared.verdict.Verdict.{Verdict}
 use Rattle.sm_replay.specs.declared.verdict.Verdict.TheVariants as verdict
-use Rattle.sm_replay.specs.InputText.{AreWritten}
 use Rattle.sm_replay.proofs.InputUnique.{written_one}
-use Rattle.sm_syntax.specs.text.Parts.{Parts, sort_of}
-use Rattle.sm_syntax.specs.claim.Stores.{Store}
-use Rattle.std.specs.Fmt.{signed_decimal}
 use Rattle.sm_houdini.specs.Outcomes as outcome
 use Rattle.sm_houdini.specs.Outcomes.{Outcome}
 use Rattle.sm_replies.proofs.SpelledLemmas.{outcome_one}
-use Rattle.sm_replies.specs.Check.{reach_of, AnswersCheck, IsInputText, IsNote, SaysNoted, SaysOutcome, ShowsTrial}
-use Rattle.sm_replies.specs.Seconds.{RunsOut}
-use Rattle.sm_replies.specs.Suggest.{is_accepted, AnswersSuggest, Decides, SaysSuggestion, Suggests}
-use Rattle.sm_suggest.specs.Combinations.{choices, combination, hole_count}
-use Rattle.sm_suggest.specs.First.{IsFirst}
-use Rattle.sm_answers.specs.Lines.{goal_line, input_line, op_word, suggestion_line, too_many_line, trial_line}
-use Rattle.sm_words.specs.declared.effort.Effort.{Effort}
-use Rattle.sm_answers.specs.declared.status.Status.{Status}
-use Rattle.sm_answers.specs.declared.status.Status.TheVariants.{Accepted, Conflict, Unknown}
-use Rattle.sm_answers.proofs.AnswerUnique.{Same, says_same, refused_same, task_or_none, task_same}
 
 -- ---- check
 

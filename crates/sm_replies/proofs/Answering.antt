@@ -1,14 +1,8 @@
 -- What answers say: where Usage is one, and what Accepted promises.
-use Rattle.std.proofs.Common.{◌≡◌, ℕ, List, refl}
+use Rattle.sm_replies.proofs.Imports.{◌≡◌, ℕ, List, refl, Verdict, ConflictFree, Parts, task_of, SaysOutcome, Status, Accepted}
 use Rattle.sm_houdini.specs.Outcomes as outcome
 use Rattle.sm_houdini.specs.Outcomes.{Outcome}
-use Rattle.sm_replay.specs.declared.verdict.Verdict.{Verdict}
 use Rattle.sm_replay.specs.declared.verdict.Verdict.TheVariants as verdict
-use Rattle.sm_syntax.specs.claim.ConflictFree.{ConflictFree}
-use Rattle.sm_syntax.specs.text.Parts.{Parts, task_of}
-use Rattle.sm_replies.specs.Check.{SaysOutcome}
-use Rattle.sm_answers.specs.declared.status.Status.{Status}
-use Rattle.sm_answers.specs.declared.status.Status.TheVariants.{Accepted}
 
 -- only what a search accepts is accepted, and is free of conflicts
 pub outcome_accepted : (t : Parts) (o : Outcome (ℕ × Verdict)) (status : Status) (text : List ℕ) → SaysOutcome t o status text

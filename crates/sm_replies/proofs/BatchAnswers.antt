@@ -1,22 +1,7 @@
 -- What is answered to a list by the lines of its files.
-use Rattle.std.proofs.Common.{◌≡◌, ◌++◌, inr, ℕ, List, map, Global, append_assoc, refl, sym, ap, subst, ◌∙◌}
-use Rattle.std.proofs.lemmas.List.{map-append}
-use Rattle.std.specs.String.{string_bytes}
-use Rattle.std.specs.Prelude.{String, Contains}
-use Rattle.std.proofs.lemmas.List.Elements.{Contains-append_left, Contains-append_right}
-use Rattle.sm_io.specs.Files.{Known}
-use Rattle.sm_io.specs.Reads.{Read}
-use Rattle.sm_answers.specs.File.{FailsToRead}
-use Rattle.sm_answers.specs.declared.status.Status.{Status}
-use Rattle.sm_answers.specs.Lists.{GivesList}
-use Rattle.sm_answers.specs.Status.{Says}
-use Rattle.sm_replies.specs.Batch.{Line, numbered, status_of_all, Batches, FailsToReadOne}
-use Rattle.sm_replies.specs.BatchSteps.{line_in, lines_of, statuses, texts, AreLinesRead}
-use Rattle.sm_answers.specs.ReadFiles.{GoesOn}
+use Rattle.sm_replies.proofs.Imports.{◌≡◌, ◌++◌, inr, ℕ, List, map, Global, append_assoc, refl, sym, ap, subst, ◌∙◌, map-append, string_bytes, String, Contains, Contains-append_left, Contains-append_right, Known, Read, FailsToRead, Status, GivesList, Says, Line, numbered, status_of_all, Batches, FailsToReadOne, line_in, lines_of, statuses, texts, AreLinesRead, GoesOn, Effort, Reply}
 use Rattle.sm_replies.proofs.BatchGiven.{lines_next, lines_wider, stays}
 use Rattle.sm_replies.proofs.BatchSafe.{are_lines}
-use Rattle.sm_words.specs.declared.effort.Effort.{Effort}
-use Rattle.sm_answers.specs.declared.status.Reply.{Reply}
 
 -- a file of some names that can't be read, by what is told of it elsewhere, and among more names
 pub fails_among : (files others : List ℕ → Known) (names part : List (List ℕ)) (b c n : ℕ) (s : Status) (t : List ℕ)

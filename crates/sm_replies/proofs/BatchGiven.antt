@@ -1,32 +1,9 @@
 -- What the files of a list gave, and the lines that come of it.
-use Rattle.std.proofs.Common.{◌≡◌, ◌≢◌, inl, inr, ℕ, List, [], ◌∷◌, ◌++◌, map, All, Option, Some, None, Vec, Global, refl, sym, ap, subst, ◌∙◌, append_assoc, append-nil, ◌<◌, ◌+◌, zero, suc, length, take, get_or, arith}
-use Rattle.std.proofs.lemmas.List.{map-append, take_more}
-use Rattle.std.specs.Prelude.{Contains, String}
-use Rattle.std.specs.String.{string_bytes}
-use Rattle.std.specs.List.{AllZip}
-use Rattle.std.proofs.lemmas.List.Elements.{All-push}
-use Rattle.sm_io.specs.Files.{Known}
-use Rattle.sm_io.specs.Reads.{Read}
-use Rattle.sm_syntax.specs.claim.ConflictFree.{ConflictFree}
-use Rattle.sm_syntax.specs.text.Parts.{task_of}
-use Rattle.sm_syntax.specs.text.Spells.{Spells}
-use Rattle.sm_text.specs.printing.Named.{HasText}
+use Rattle.sm_replies.proofs.Imports.{◌≡◌, ◌≢◌, inl, inr, ℕ, List, [], ◌∷◌, ◌++◌, map, All, Option, Some, None, Vec, Global, refl, sym, ap, subst, ◌∙◌, append_assoc, append-nil, ◌<◌, ◌+◌, zero, suc, length, take, get_or, arith, map-append, take_more, Contains, String, string_bytes, AllZip, All-push, Known, Read, ConflictFree, task_of, Spells, HasText, Task, GivesTask, GivesNoTask, Status, ReadFault, without_task, Line, IsLineOf, first_line, told, told_status, IsTheReply, RepliesTo, IsGiven, IsNone, AreGiven, GivesNext, IsLineRead, AreLinesRead, AnswersCheck, IsSafeMerge, GoesOn, ReadsAmong, Effort, Reply}
 use Rattle.sm_text.specs.Tasks.{parts_of}
-use Rattle.sm_text.specs.declared.task.Task.{Task}
-use Rattle.sm_answers.specs.File.{GivesTask, GivesNoTask}
-use Rattle.sm_answers.specs.declared.status.Status.{Status}
-use Rattle.sm_answers.specs.declared.status.Status.TheVariants.{ReadFault}
 use Rattle.sm_answers.specs.Readings.{ReadsTask}
-use Rattle.sm_answers.proofs.Statuses.{without_task}
-use Rattle.sm_replies.specs.Batch.{Line, IsLineOf, first_line}
-use Rattle.sm_replies.specs.BatchSteps.{told, told_status, IsTheReply, RepliesTo, IsGiven, IsNone, AreGiven, GivesNext, IsLineRead, AreLinesRead}
-use Rattle.sm_replies.specs.Check.{AnswersCheck}
-use Rattle.sm_answers.specs.Merges.{IsSafeMerge}
-use Rattle.sm_answers.specs.ReadFiles.{GoesOn, ReadsAmong}
 use Rattle.sm_replies.proofs.Answering.{outcome_accepted}
 use Rattle.sm_replies.proofs.BatchTold.{check_told}
-use Rattle.sm_words.specs.declared.effort.Effort.{Effort}
-use Rattle.sm_answers.specs.declared.status.Reply.{Reply}
 
 -- ---- reads
 

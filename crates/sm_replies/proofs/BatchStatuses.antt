@@ -1,12 +1,5 @@
 -- Which statuses `batch` has, and what its answers say of the count of faults.
-use Rattle.std.proofs.Common.{◌⊎◌, inl, inr, ℕ, Bool, true, false, if◌then◌else◌, List, map, ◌∙◌}
-use Rattle.sm_io.specs.Files.{Known}
-use Rattle.sm_answers.specs.Lists.{GivesNoList}
-use Rattle.sm_answers.proofs.Statuses.{IsToCommand, WritesNothing, of_accepted, of_conflict, of_fault, of_refused, of_unknown, same_as}
-use Rattle.sm_replies.specs.Batch.{Line, has_status, status_of_all, FailsToReadOne, AnswersAll, Batches}
-use Rattle.sm_words.specs.declared.effort.Effort.{Effort}
-use Rattle.sm_answers.specs.declared.status.Status.{Status}
-use Rattle.sm_answers.specs.declared.status.Status.TheVariants.{Accepted, Conflict, Unknown, Refused, ReadFault}
+use Rattle.sm_replies.proofs.Imports.{◌⊎◌, inl, inr, ℕ, Bool, true, false, if◌then◌else◌, List, map, ◌∙◌, Known, GivesNoList, IsToCommand, WritesNothing, of_accepted, of_conflict, of_fault, of_refused, of_unknown, same_as, Line, has_status, status_of_all, FailsToReadOne, AnswersAll, Batches, Effort, Status, Accepted, Conflict, Unknown, Refused, ReadFault}
 
 of_choice : (b : Bool) (s u : Status) → WritesNothing s → WritesNothing u → WritesNothing (if b then s else u)
 of_choice true s u p q = p

@@ -1,20 +1,13 @@
 -- The lines of a batch's text, by their numbers.
-use Rattle.std.proofs.Common.{◌≡◌, ◌<◌, ◌≤◌, ◌+◌, ◌^◌, ◌==◌, ℕ, zero, suc, Bool, true, false, if◌then◌else◌, List, [], ◌∷◌, ◌++◌, Some, length, slice_get, get_or, codes, decimal, refl, sym, ap, subst, ◌∙◌, append_assoc, append-nil, arith}
-use Rattle.std.specs.List.{AllZip}
-use Rattle.std.specs.Prelude.{Contains}
+use Rattle.sm_replies.proofs.Imports.{◌≡◌, ◌<◌, ◌≤◌, ◌+◌, ◌^◌, ◌==◌, ℕ, zero, suc, Bool, true, false, if◌then◌else◌, List, [], ◌∷◌, ◌++◌, Some, length, slice_get, get_or, codes, decimal, refl, sym, ap, subst, ◌∙◌, append_assoc, append-nil, arith, AllZip, Contains, HasNoEnd, bad_list_line, Line, first_line, numbered, texts, HasAccepted}
 use Rattle.std.specs.Str.Parse.{AllDigits}
 use Rattle.std.proofs.lemmas.Bool.Decides.{nat_tests}
 use Rattle.std.proofs.lemmas.Fmt.{decimal_injective, decimal_is_IsNumeral}
 use Rattle.std.proofs.lemmas.Str.Parse.{digit_from_value}
-use Rattle.sm_check.specs.LineEnds.{HasNoEnd}
 use Rattle.sm_check.proofs.LineLemmas.{lines_in-line}
 use Rattle.sm_proof.specs.Verdicts.{FileLines, lines_in}
 use Rattle.sm_words.specs.Lines.{spaced}
-use Rattle.sm_answers.specs.Lists.{bad_list_line}
 use Rattle.sm_answers.proofs.ListsLemmas.{line_first}
-use Rattle.sm_replies.specs.Batch.{Line, first_line, numbered}
-use Rattle.sm_replies.specs.BatchSteps.{texts}
-use Rattle.sm_replies.specs.HeadlineBatch.{HasAccepted}
 
 -- ---- digits
 

@@ -1,30 +1,17 @@
 -- The first line of an answer tells its status, and whether the search accepts.
-use Rattle.std.proofs.Common.{◌≡◌, ◌∷◌, ◌++◌, ℕ, true, List, [], Option, Some, None, codes, option_map, refl, sym, ap, subst, ◌∙◌, Vec, Global}
-use Rattle.std.specs.Prelude.{◌↔◌, IfSome, IsSome}
-use Rattle.std.specs.Fmt.{signed_decimal}
+use Rattle.sm_replies.proofs.Imports.{◌≡◌, ◌∷◌, ◌++◌, ℕ, true, List, [], Option, Some, None, codes, option_map, refl, sym, ap, subst, ◌∙◌, Vec, Global, ◌↔◌, IsSome, signed_decimal, Task, IsOutcome, trial, Store, Parts, sort_of, goal_line, op_word, too_many_line, first_line, alone, told_status, IsTheReply, RepliesTo, IsAcceptedBy, IsAnswered, reach_of, AnswersCheck, SaysNoted, SaysOutcome, ShowsFrom, ComesWith, Effort, Status, Accepted, Unknown}
+use Rattle.std.specs.Prelude.{IfSome}
 use Rattle.sm_batch.specs.Answers.{IsAnswer}
 use Rattle.sm_batch.specs.declared.worker.Answered.{Answered}
 use Rattle.sm_text.specs.Tasks.{parts_of}
-use Rattle.sm_text.specs.declared.task.Task.{Task}
 use Rattle.sm_houdini.specs.Outcomes as outcome
-use Rattle.sm_houdini.specs.Outcomes.{Outcome, IsOutcome}
-use Rattle.sm_replay.specs.Trials.{trial}
+use Rattle.sm_houdini.specs.Outcomes.{Outcome}
 use Rattle.sm_replay.specs.declared.verdict.Verdict as judged
 use Rattle.sm_replay.specs.declared.verdict.Verdict.TheVariants.{Violates, Holds, Unmet}
-use Rattle.sm_syntax.specs.claim.Stores.{Store}
-use Rattle.sm_syntax.specs.text.Parts.{Parts, sort_of}
-use Rattle.sm_answers.specs.Lines.{goal_line, op_word, too_many_line}
-use Rattle.sm_replies.specs.Batch.{first_line}
-use Rattle.sm_replies.specs.BatchSteps.{alone, told_status, IsTheReply, RepliesTo, IsAcceptedBy, IsAnswered}
-use Rattle.sm_replies.specs.Check.{reach_of, AnswersCheck, SaysNoted, SaysOutcome, ShowsFrom}
 use Rattle.sm_replies.specs.Taken.{is_pass, is_taken}
-use Rattle.sm_replies.specs.Views.{ComesWith}
 use Rattle.sm_replies.proofs.Answering.{outcome_accepted}
 use Rattle.sm_replies.proofs.AnswerUnique.{check_same}
 use Rattle.sm_replies.proofs.SpelledLemmas.{outcome_one}
-use Rattle.sm_words.specs.declared.effort.Effort.{Effort}
-use Rattle.sm_answers.specs.declared.status.Status.{Status}
-use Rattle.sm_answers.specs.declared.status.Status.TheVariants.{Accepted, Unknown}
 
 -- ---- the status
 

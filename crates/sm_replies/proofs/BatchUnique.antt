@@ -1,16 +1,5 @@
 -- Two answers to one list of told files, each without a fault, are equal, where two to one task are.
-use Rattle.std.proofs.Common.{◌≡◌, ◌≢◌, ◌<◌, ◌⊎◌, inl, inr, ℕ, zero, suc, List, [], ◌∷◌, length, map, get_or, refl, sym, ap, subst, ◌∙◌, arith}
-use Rattle.std.specs.List.{AllZip}
-use Rattle.std.specs.Prelude.{Contains}
-use Rattle.sm_io.specs.Causes.{Rose}
-use Rattle.sm_io.specs.Files.{Known, untold, absent}
-use Rattle.sm_syntax.specs.text.Parts.{Parts}
-use Rattle.sm_answers.proofs.AnswerUnique.{Same, says_same, refused_same, task_or_none, task_same, not_there}
-use Rattle.sm_answers.proofs.ListUnique.{list_same, list_or_none, no_list_same}
-use Rattle.sm_replies.specs.Batch.{Line, AnswersFile, IsLineOf, first_line, numbered, status_of_all, FailsToReadOne, AnswersAll, Batches}
-use Rattle.sm_replies.specs.Check.{AnswersCheck}
-use Rattle.sm_words.specs.declared.effort.Effort.{Effort}
-use Rattle.sm_answers.specs.declared.status.Status.{Status}
+use Rattle.sm_replies.proofs.Imports.{◌≡◌, ◌≢◌, ◌<◌, ◌⊎◌, inl, inr, ℕ, zero, suc, List, [], ◌∷◌, length, map, get_or, refl, sym, ap, subst, ◌∙◌, arith, AllZip, Contains, Rose, Known, untold, absent, Parts, Same, says_same, refused_same, task_or_none, task_same, not_there, list_same, list_or_none, no_list_same, Line, AnswersFile, IsLineOf, first_line, numbered, status_of_all, FailsToReadOne, AnswersAll, Batches, AnswersCheck, Effort, Status}
 
 same_pair : (l m : Line) → l.0 ≡ m.0 → l.1 ≡ m.1 → l ≡ m
 same_pair (s, t) (u, v) p q = rw (p, q) refl

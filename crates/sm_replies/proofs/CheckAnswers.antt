@@ -1,23 +1,9 @@
 -- What `check` answers, by what its search comes to.
-use Rattle.std.proofs.Common.{◌≡◌, ◌∙◌, ℕ, List, sym, subst, Option, Some, None, Ok, Err, option_map, Vec, Global, codes}
+use Rattle.sm_replies.proofs.Imports.{◌≡◌, ◌∙◌, ℕ, List, sym, subst, Option, Some, None, Ok, Err, option_map, Vec, Global, codes, AllocError, IsOutcome, Verdict, ConflictFree, Parts, task_of, Effort, Stop, Status, Accepted, Conflict, Unknown, reach_of, AnswersCheck, SaysNoted, SaysOutcome, ShowsTrial, IsShownBy, RestsOn, stop_in, IsUndecided, ComesWith, Ground, Proved}
 use Rattle.std.specs.Prelude.{Result, IfOk}
-use Rattle.std.specs.declared.alloc.AllocError.{AllocError}
 use Rattle.sm_houdini.specs.Outcomes as outcome
-use Rattle.sm_houdini.specs.Outcomes.{Outcome, IsOutcome}
-use Rattle.sm_replay.specs.declared.verdict.Verdict.{Verdict}
-use Rattle.sm_syntax.specs.claim.ConflictFree.{ConflictFree}
-use Rattle.sm_syntax.specs.text.Parts.{Parts, task_of}
-use Rattle.sm_words.specs.declared.effort.Effort.{Effort}
-use Rattle.sm_why.specs.declared.stop.Stop.{Stop}
-use Rattle.sm_answers.specs.declared.status.Status.{Status}
-use Rattle.sm_answers.specs.declared.status.Status.TheVariants.{Accepted, Conflict, Unknown}
-use Rattle.sm_replies.specs.Check.{reach_of, AnswersCheck, SaysNoted, SaysOutcome, ShowsTrial}
-use Rattle.sm_replies.specs.Grounds.{IsShownBy, RestsOn, stop_in}
-use Rattle.sm_replies.specs.Undecided.{IsUndecided}
-use Rattle.sm_replies.specs.Views.{ComesWith}
+use Rattle.sm_houdini.specs.Outcomes.{Outcome}
 use Rattle.sm_replies.specs.declared.decided.Decided.{Decided}
-use Rattle.sm_replies.specs.declared.ground.Ground.{Ground}
-use Rattle.sm_replies.specs.declared.ground.Ground.TheVariants.{Proved}
 use Rattle.sm_replies.proofs.WhySaid as why
 
 module _ (t : Parts) (effort : Effort) where

@@ -1,3 +1,4 @@
+mod Imports
 pub mod Statuses
 pub mod BatchStatuses
 pub mod BatchUnique

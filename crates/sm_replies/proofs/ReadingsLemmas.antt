@@ -1,14 +1,7 @@
 -- What Accepted and Conflict say of the bytes that were read.
-use Rattle.std.proofs.Common.{inl, ℕ, List}
-use Rattle.sm_io.specs.Files.{Known}
-use Rattle.sm_io.specs.Reads.{Read}
+use Rattle.sm_replies.proofs.Imports.{inl, ℕ, List, Known, Read, GivesNoTask, ProposesRead, Effort, stops_by, without_task}
 use Rattle.sm_answers.specs.Exit.{ExitsWith}
 use Rattle.sm_answers.specs.declared.exit.Exit.{Exit}
-use Rattle.sm_answers.specs.File.{GivesNoTask}
-use Rattle.sm_replies.specs.Suggest.{ProposesRead}
-use Rattle.sm_words.specs.declared.effort.Effort.{Effort}
-use Rattle.sm_answers.proofs.Answering.{stops_by}
-use Rattle.sm_answers.proofs.Statuses.{without_task}
 
 pub none_proposed : (name : List ℕ) (effort : Effort) (before now : List Read) (file : Known) (b n : ℕ) (stop : Exit) →
     ExitsWith (GivesNoTask file b n) stop → ExitsWith (ProposesRead name effort before now) stop

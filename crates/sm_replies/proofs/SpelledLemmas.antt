@@ -1,27 +1,18 @@
 -- What holds of a task that some text spells.
-use Rattle.std.proofs.Common.{◌≡◌, ℕ, List, None, subst}
+use Rattle.sm_replies.proofs.Imports.{◌≡◌, ℕ, List, None, subst, IsOutcome, outcome_in, AreNamed, IsLeast, Verdict, Parts, sort_of, task_of, HasText, SaysNoted, Status}
 use Rattle.sm_check.proofs.SpelledCheckable.{spelled_checkable}
 use Rattle.sm_houdini.proofs.OutcomeLemmas.{conflict_least, outcomes_same}
 use Rattle.sm_houdini.specs.Laws.{OutcomeIsOne}
 use Rattle.sm_houdini.specs.Outcomes as outcome
-use Rattle.sm_houdini.specs.Outcomes.{IsOutcome}
-use Rattle.sm_houdini.specs.Views.{outcome_in}
 use Rattle.sm_houdini.specs.declared.outcome.Outcome.{Outcome}
 use Rattle.sm_plan.specs.SortedStates.{IsTaskSorted}
 use Rattle.sm_plan.specs.Starts.{AreNumbered}
 use Rattle.sm_replay.proofs.NamesFound.{spelled_found}
 use Rattle.sm_replay.proofs.RunnableTasks.{spelled_runs}
 use Rattle.sm_replay.proofs.VerdictUnique.{first_violation_one}
-use Rattle.sm_replay.specs.InputText.{AreNamed}
 use Rattle.sm_replay.specs.Sorted.{sort_fault}
-use Rattle.sm_replay.specs.Trials.{IsLeast}
-use Rattle.sm_replay.specs.declared.verdict.Verdict.{Verdict}
 use Rattle.sm_solve.specs.declared.reach.Reach.{Reach}
 use Rattle.sm_syntax.specs.text.Conditions.{first_refusal}
-use Rattle.sm_syntax.specs.text.Parts.{Parts, sort_of, task_of}
-use Rattle.sm_text.specs.printing.Named.{HasText}
-use Rattle.sm_replies.specs.Check.{SaysNoted}
-use Rattle.sm_answers.specs.declared.status.Status.{Status}
 
 -- it runs, meets the conditions, and its proofs may be checked
 pub record IsSpelled (t : Parts) : Type 0 where

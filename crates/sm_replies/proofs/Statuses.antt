@@ -1,17 +1,6 @@
 -- Which statuses the answers to what a command asks for have.
-use Rattle.std.proofs.Common.{◌≡◌, inl, inr, ℕ, List, Option, Some, None}
-use Rattle.sm_io.specs.Files.{Known}
-use Rattle.sm_replay.specs.declared.verdict.Verdict.{Verdict}
+use Rattle.sm_replies.proofs.Imports.{◌≡◌, inl, inr, ℕ, List, Option, Some, None, Known, Verdict, Parts, ShowsFrom, RunsOut, AnswersSuggest, SaysSuggestion, Suggests, Store, Effort, Status, Accepted, Conflict, Unknown, Refused, WritesNothing, of_accepted, of_refused, of_unknown, same_as, IsToCommand, without_task}
 use Rattle.sm_replay.specs.declared.verdict.Verdict.TheVariants as verdict
-use Rattle.sm_syntax.specs.text.Parts.{Parts}
-use Rattle.sm_replies.specs.Check.{ShowsFrom}
-use Rattle.sm_replies.specs.Seconds.{RunsOut}
-use Rattle.sm_replies.specs.Suggest.{AnswersSuggest, SaysSuggestion, Suggests}
-use Rattle.sm_syntax.specs.claim.Stores.{Store}
-use Rattle.sm_words.specs.declared.effort.Effort.{Effort}
-use Rattle.sm_answers.specs.declared.status.Status.{Status}
-use Rattle.sm_answers.specs.declared.status.Status.TheVariants.{Accepted, Conflict, Unknown, Refused}
-use Rattle.sm_answers.proofs.Statuses.{WritesNothing, of_accepted, of_refused, of_unknown, same_as, IsToCommand, without_task}
 
 -- an input that is shown is a conflict
 pub shown_status : (t : Parts) (j : ℕ) (s : Store) (v : Verdict) (status : Status) (text : List ℕ) → ShowsFrom t j s v status text

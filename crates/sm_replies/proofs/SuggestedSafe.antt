@@ -1,22 +1,8 @@
 -- What Accepted of `suggest` says: the task is free of conflicts with the combination that is put.
-use Rattle.std.proofs.Common.{◌≡◌, ◌≤◌, inl, inr, ℕ, Bool, true, false, List, Option, Some, None, Result, Ok, Err, IfOk, IfNone, IfSome, refl, sym, subst}
+use Rattle.sm_replies.proofs.Imports.{◌≡◌, ◌≤◌, inl, inr, ℕ, Bool, true, false, List, Option, Some, None, Ok, Err, IfNone, refl, sym, subst, AllocError, Known, WhereHeld, Parts, Task, Spells, choices, combination, hole_count, AllRefused, IsFirst, MayAnswer, none_line, suggestion_line, Says, Reply, Status, Accepted, Unknown, AnswersSuggest, Decides, IsSafeSuggestion, SaysSuggestion, Suggests, Effort, without_task}
+use Rattle.std.proofs.Common.{Result, IfOk, IfSome}
 use Rattle.std.specs.Borrow.{Bor}
 use Rattle.std.specs.Fn.{Shared}
-use Rattle.std.specs.declared.alloc.AllocError.{AllocError}
-use Rattle.sm_io.specs.Files.{Known, WhereHeld}
-use Rattle.sm_syntax.specs.text.Parts.{Parts}
-use Rattle.sm_text.specs.declared.task.Task.{Task}
-use Rattle.sm_syntax.specs.text.Spells.{Spells}
-use Rattle.sm_suggest.specs.Combinations.{choices, combination, hole_count}
-use Rattle.sm_suggest.specs.First.{AllRefused, IsFirst, MayAnswer}
-use Rattle.sm_answers.specs.Lines.{none_line, suggestion_line}
-use Rattle.sm_answers.specs.Status.{Says}
-use Rattle.sm_answers.specs.declared.status.Reply.{Reply}
-use Rattle.sm_answers.specs.declared.status.Status.{Status}
-use Rattle.sm_answers.specs.declared.status.Status.TheVariants.{Accepted, Unknown}
-use Rattle.sm_replies.specs.Suggest.{AnswersSuggest, Decides, IsSafeSuggestion, SaysSuggestion, Suggests}
-use Rattle.sm_words.specs.declared.effort.Effort.{Effort}
-use Rattle.sm_answers.proofs.Statuses.{without_task}
 
 pub accepted_suggestion : (t : Parts) (effort : Effort) (status : Status) (text bytes : List ℕ) → Spells bytes t
     → AnswersSuggest t effort status text → status ≡ Accepted → IsSafeSuggestion text bytes

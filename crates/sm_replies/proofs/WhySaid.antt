@@ -1,17 +1,6 @@
 -- What stands behind an answer, by what it rests on.
-use Rattle.std.proofs.Common.{◌≡◌, ◌∙◌, ℕ, List, sym, subst, Option, Some, None, option_map, Vec, Global}
-use Rattle.sm_houdini.specs.Outcomes.{Outcome, IsOutcome}
-use Rattle.sm_replay.specs.declared.verdict.Verdict.{Verdict}
-use Rattle.sm_syntax.specs.text.Parts.{Parts}
-use Rattle.sm_words.specs.declared.effort.Effort.{Effort}
-use Rattle.sm_why.specs.declared.stop.Stop.{Stop}
-use Rattle.sm_answers.specs.declared.status.Status.{Status}
-use Rattle.sm_answers.specs.declared.status.Status.TheVariants.{Accepted, Conflict, Unknown}
-use Rattle.sm_replies.specs.Check.{reach_of}
-use Rattle.sm_replies.specs.Grounds.{IsShownBy, RestsOn, stop_in}
-use Rattle.sm_replies.specs.Views.{ComesWith}
-use Rattle.sm_replies.specs.declared.ground.Ground.{Ground}
-use Rattle.sm_replies.specs.declared.ground.Ground.TheVariants.{Proved, Input, Stopped}
+use Rattle.sm_replies.proofs.Imports.{◌≡◌, ◌∙◌, ℕ, List, sym, subst, Option, Some, None, option_map, Vec, Global, IsOutcome, Verdict, Parts, Effort, Stop, Status, Accepted, Conflict, Unknown, reach_of, IsShownBy, RestsOn, stop_in, ComesWith, Ground, Proved, Input, Stopped}
+use Rattle.sm_houdini.specs.Outcomes.{Outcome}
 
 -- what is shown by an input rests on it
 pub shown_rests : (t : Parts) (effort : Effort) (status : Status) (text : List ℕ) (g : Ground) → IsShownBy t status text g

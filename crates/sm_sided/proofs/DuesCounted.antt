@@ -1,16 +1,10 @@
 -- How many facts stand before the first goal.
-use Rattle.std.proofs.Common.{◌≡◌, Some, None, Ok, List, [], ◌∷◌, length, slice_get, refl, ap, sym, ◌∙◌}
-use Rattle.std.proofs.lemmas.List.{length-map}
-use Rattle.sm_syntax.specs.text.Sorts.{Sorts}
-use Rattle.sm_term.specs.Terms.{Tree}
+use Rattle.sm_sided.proofs.Imports.{◌≡◌, Some, None, Ok, List, [], ◌∷◌, length, slice_get, refl, ap, sym, ◌∙◌, length-map, Sorts, Tree, Fault, dues_in, facts_before}
 use Rattle.sm_term.specs.Formulas.{numbered, assertion_in}
 use Rattle.sm_term.specs.declared.formula.Formula.{Formula}
 use Rattle.sm_plan.specs.Plans as plain
-use Rattle.sm_plan.specs.Plans.{Fault}
 use Rattle.std.specs.Prelude.{Result}
-use Rattle.sm_expand.specs.Views.{dues_in}
 use Rattle.sm_expand.specs.declared.due.Due.{Due}
-use Rattle.sm_sided.specs.WholePlan.{facts_before}
 
 -- there is one
 pub first_some : (sorts : Sorts) (trees : List Tree) (ds : List Due) (d : Due) → Some d ≡ slice_get ds 0 →

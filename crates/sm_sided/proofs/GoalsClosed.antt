@@ -1,25 +1,12 @@
 -- Where the candidate has the only change, the certificates of an output's goals close their branches.
-use Rattle.std.proofs.Common.{◌≡◌, ℕ, suc, ◌+◌, Bool, true, Option, Some, None, slice_get, List, [], ◌∷◌, ◌++◌, map, length, refl, ap, sym, ◌∙◌, arith}
-use Rattle.std.proofs.lemmas.Bool.{and_from}
-use Rattle.std.proofs.lemmas.List.{append_assoc, length-map}
-use Rattle.sm_syntax.specs.claim.ConflictFree.{Copy, O, A, B, M}
-use Rattle.sm_syntax.specs.text.Sorts.{Sorts}
-use Rattle.sm_syntax.specs.declared.tree.Sort.{Sort}
-use Rattle.sm_syntax.specs.declared.tree.Sort.TheVariants.{Num}
-use Rattle.sm_term.specs.Terms.{Tree}
-use Rattle.sm_term.specs.SameTerms.{same_tree}
-use Rattle.sm_term.specs.Assertions.{Assertion, Eq, Ne, And}
-use Rattle.sm_term.proofs.SameTermsLemmas.{same_tree_is}
-use Rattle.sm_theory.specs.Facts.{BranchFact, Formal, as_facts}
+use Rattle.sm_sided.proofs.Imports.{◌≡◌, ℕ, suc, ◌+◌, Bool, true, Some, None, slice_get, List, [], ◌∷◌, ◌++◌, map, length, refl, ap, sym, ◌∙◌, arith, and_from, append_assoc, length-map, Copy, O, A, B, M, Sorts, Sort, Num, Tree, same_tree, Assertion, Eq, Ne, same_tree_is, BranchFact, Formal, as_facts, Certificate, Next, Closed, Theories, first_bad, bad_line, in_one_way, in_no_way, Closes, keeps_goals, IsOnly, by_first, by_second, by_clash, by_turned, certificates_of, denied, AreClosed}
+use Rattle.std.proofs.Common.{Option}
+use Rattle.sm_term.specs.Assertions.{And}
 use Rattle.sm_theory.specs.Lines.{followed, formula_in, Both, Sym, Close, Clash, equal_sides, unequal_sides}
 use Rattle.sm_theory.specs.Lines as lines
 use Rattle.sm_theory.specs.Equality.{or_other, turned_equation, turned_contrary, says_equal}
 use Rattle.sm_theory.specs.Ways.{adds, adding, both_parts, closing_if, cannot_hold}
-use Rattle.sm_cert.specs.Certificates.{Certificate, Next, Closed, Theories, first_bad, bad_line, in_one_way, in_no_way, Closes}
-use Rattle.sm_plan.specs.States.{keeps_goals}
-use Rattle.sm_sided.specs.OneSided.{IsOnly}
-use Rattle.sm_sided.specs.WholeCertificates.{by_first, by_second, by_clash, by_turned, certificates_of, Change, OfA, OfB, OfBoth}
-use Rattle.sm_sided.specs.WholePlan.{denied, AreClosed}
+use Rattle.sm_sided.specs.WholeCertificates.{Change, OfA, OfB, OfBoth}
 
 -- what stands behind other facts
 at_behind : {X : Type 0} (xs ys : List X) (k m : ℕ) → m ≡ length xs + k → slice_get (xs ++ ys) m ≡ slice_get ys k

@@ -1,3 +1,4 @@
+mod Imports
 mod OneSidedLemmas
 mod WholeExpands
 mod GoalsClosed

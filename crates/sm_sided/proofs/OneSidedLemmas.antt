@@ -1,12 +1,9 @@
 -- The test of one-sided programs is exact.
-use Rattle.std.proofs.Common.{◌≡◌, ◌⊎◌, ◌↔◌, Bool, true, false, ◌&&◌, ◌||◌, IsTrue, Option, Some, None, is_some, MatchOption, inl, inr, refl, sym}
-use Rattle.std.proofs.lemmas.Bool.{and_parts, and_from, or_cases, cases_Bool, or_right, or_left}
-use Rattle.sm_syntax.specs.claim.Syntax.{Code}
-use Rattle.sm_syntax.specs.claim.ConflictFree.{Copy, O, A, B, M}
+use Rattle.sm_sided.proofs.Imports.{◌≡◌, ◌⊎◌, ◌↔◌, Bool, true, false, ◌&&◌, ◌||◌, IsTrue, Some, None, is_some, MatchOption, inl, inr, refl, sym, and_parts, and_from, or_cases, cases_Bool, or_right, or_left, Code, Copy, O, A, B, M, IsOnly, IsOneSided, agree, is_one_sided}
+use Rattle.std.proofs.Common.{Option}
 use Rattle.sm_term.specs.SameCodeLaws.{code_gives, same_code_is}
 use Rattle.sm_sided.specs.declared.sided.Change.{Change}
 use Rattle.sm_sided.specs.declared.sided.Change.TheVariants.{OfA, OfB, OfBoth}
-use Rattle.sm_sided.specs.OneSided.{IsOnly, IsOneSided, agree, is_one_sided}
 
 -- two pairs of copies agree
 both_agree : (program : Copy → Code) (c d e f : Copy) → (agree program c d && agree program e f) ≡ true

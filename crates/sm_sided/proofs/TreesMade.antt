@@ -1,11 +1,7 @@
 -- Trees of certificates, as the program puts them together.
-use Rattle.std.proofs.Common.{◌≡◌, List, [], ◌∷◌, ◌++◌, map, ap, ◌∙◌}
-use Rattle.std.proofs.lemmas.List.{append_assoc, map-append}
-use Rattle.sm_term.specs.Terms.{Tree}
+use Rattle.sm_sided.proofs.Imports.{◌≡◌, List, [], ◌∷◌, ◌++◌, map, ap, ◌∙◌, append_assoc, map-append, Tree, Certificate, Next, lines_before}
 use Rattle.sm_theory.specs.Views.{line_in}
 use Rattle.sm_theory.specs.declared.line.CertLine.{CertLine}
-use Rattle.sm_cert.specs.Certificates.{Certificate, Next}
-use Rattle.sm_cert.specs.Views.{lines_before}
 
 -- lists to which one is put after the other
 listed_two : {X : Type 0} (a b : X) (none one two : List X) → none ≡ [] → one ≡ none ++ a ∷ [] → two ≡ one ++ b ∷ [] →

@@ -1,17 +1,14 @@
 -- A task worked by hand: the base and B have no statement; A and the candidate set a number and count
 -- it down in a loop; the number and an array are outputs, and two things are assumed.
-use Rattle.std.proofs.Common.{◌≡◌, pos, Some, Result, Ok, Err, List, [], ◌∷◌, refl}
+use Rattle.sm_sided.proofs.Imports.{◌≡◌, pos, Some, Ok, Err, List, [], ◌∷◌, refl, Num, Arr, Condition, Code, End, Assign, While, Hole, Compare, Var, Lit, Minus, A, M, Task, program_of, by_copy, sort_of, Abs, Fault, obligations, whole_certificates, whole_plan, IsShown}
+use Rattle.std.proofs.Common.{Result}
 use Rattle.sm_syntax.specs.declared.tree.Cmp.TheVariants as cmp
-use Rattle.sm_syntax.specs.declared.tree.Sort.TheVariants.{Num, Arr}
-use Rattle.sm_syntax.specs.claim.Syntax.{Condition, Code, End, Assign, While, Hole, Compare, And, Var, Lit, Minus}
-use Rattle.sm_syntax.specs.claim.ConflictFree.{A, M, Task, program_of}
-use Rattle.sm_syntax.specs.text.Parts.{by_copy, sort_of}
+use Rattle.sm_syntax.specs.claim.Syntax.{And}
 use Rattle.sm_deps.specs.Inputs.{inputs}
 use Rattle.sm_plan.specs.Limits.{is_shallow}
-use Rattle.sm_plan.specs.Nodes.{Abs, Ends}
-use Rattle.sm_plan.specs.Plans.{At, Over, More, Due, Fault, obligations}
-use Rattle.sm_sided.specs.WholeCertificates.{whole_certificates, OfA}
-use Rattle.sm_sided.specs.WholePlan.{whole_plan, IsShown}
+use Rattle.sm_plan.specs.Nodes.{Ends}
+use Rattle.sm_plan.specs.Plans.{At, Over, More, Due}
+use Rattle.sm_sided.specs.WholeCertificates.{OfA}
 
 -- x = 5; while (0 < x) { x = x - 1; }
 counts_down : Code

@@ -1,23 +1,10 @@
 -- The whole plan expands: after each copy's summary all copies are at their ends.
-use Rattle.std.proofs.Common.{◌≡◌, ◌⊎◌, ℕ, suc, ◌==◌, nat_le, Bool, true, false, if◌then◌else◌, max, Result, Ok, Err, List, [], ◌∷◌, length, inl, inr, refl, ap, sym, ◌∙◌, arith}
-use Rattle.std.proofs.lemmas.Bool.{cases_Bool, le-leb}
-use Rattle.std.proofs.lemmas.List.{append-nil}
-use Rattle.sm_syntax.specs.claim.Syntax.{Code, End, Skip, Assign, Write, If, While, Hole}
-use Rattle.sm_syntax.specs.claim.ConflictFree.{Copy, O, A, B, M}
-use Rattle.sm_term.specs.SameTerms.{is_copy}
+use Rattle.sm_sided.proofs.Imports.{◌≡◌, ◌⊎◌, ℕ, suc, ◌==◌, nat_le, Bool, true, false, if◌then◌else◌, max, Ok, Err, List, [], ◌∷◌, length, inl, inr, refl, ap, sym, ◌∙◌, arith, cases_Bool, le-leb, append-nil, Code, End, Skip, Assign, Write, If, While, Hole, Copy, O, A, B, M, is_copy, Assertion, all_at_stores, is_copy_is, follows, asks, where_true, branches, Fault, Wrong, due, joined, opened, expand, expand_all, is_over, is_long, front, rest_after, State, summarized, summary_state, own_statements, summary_before, whole_plan}
+use Rattle.std.proofs.Common.{Result}
 use Rattle.sm_term.specs.SameTestLaws.{both, four}
-use Rattle.sm_term.specs.Assertions.{Assertion}
-use Rattle.sm_term.specs.Slots.{all_at_stores}
-use Rattle.sm_term.proofs.SameTermsLemmas.{is_copy_is}
 use Rattle.sm_plan.specs.Copies.{with_copy}
 use Rattle.sm_plan.specs.Nodes as node
-use Rattle.sm_plan.specs.Nodes.{follows, asks, where_true}
-use Rattle.sm_plan.specs.Plans.{Plan, At, Over, More, branches, Due, Fault, Wrong, due, joined, opened, expand, expand_all}
-use Rattle.sm_plan.specs.Statements.{is_over, is_long, front, rest_after}
-use Rattle.sm_plan.specs.States.{State}
-use Rattle.sm_plan.specs.Successors.{summarized, summary_state}
-use Rattle.sm_moves.specs.CodeShapes.{own_statements}
-use Rattle.sm_sided.specs.WholePlan.{summary_before, whole_plan}
+use Rattle.sm_plan.specs.Plans.{Plan, At, Over, More, Due}
 use Rattle.sm_plan.proofs.StatementsLemmas.{over_is}
 use Rattle.sm_syntax.proofs.EachCopy.{each_copy}
 

@@ -1,17 +1,8 @@
 -- The whole plan keeps no formula, and its certificates name no term.
-use Rattle.std.proofs.Common.{◌≡◌, ℕ, zero, suc, Bool, true, false, if◌then◌else◌, List, ◌++◌, ap, sym, ◌∙◌, subst}
-use Rattle.std.specs.List.{AllByRecursion}
-use Rattle.std.proofs.lemmas.List.{append-nil, append_assoc}
-use Rattle.sm_syntax.specs.claim.Syntax.{Code}
-use Rattle.sm_syntax.specs.claim.ConflictFree.{Copy, O, A, B, M}
-use Rattle.sm_cert.specs.Certificates.{Certificate}
+use Rattle.sm_sided.proofs.Imports.{◌≡◌, ℕ, zero, suc, Bool, true, false, if◌then◌else◌, List, ◌++◌, ap, sym, ◌∙◌, subst, AllByRecursion, append-nil, append_assoc, Code, Copy, O, A, B, M, Certificate, Node, nodes_of, is_over, own_statements, certificates_of, whole_certificates, NamesNoTerm, summary_before, whole_plan, KeepsNone}
 use Rattle.sm_plan.specs.Nodes as node
-use Rattle.sm_plan.specs.Nodes.{Node}
-use Rattle.sm_plan.specs.Plans.{Plan, At, Over, More, nodes_of}
-use Rattle.sm_plan.specs.Statements.{is_over}
-use Rattle.sm_moves.specs.CodeShapes.{own_statements}
-use Rattle.sm_sided.specs.WholeCertificates.{certificates_of, whole_certificates, NamesNoTerm, Change, OfA, OfB, OfBoth}
-use Rattle.sm_sided.specs.WholePlan.{summary_before, whole_plan, KeepsNone}
+use Rattle.sm_plan.specs.Plans.{Plan, At, Over, More}
+use Rattle.sm_sided.specs.WholeCertificates.{Change, OfA, OfB, OfBoth}
 
 -- a summary keeps none
 summary_keeps : (program : Copy → Code) (c : Copy) (p : Plan) → AllByRecursion KeepsNone (nodes_of p) →

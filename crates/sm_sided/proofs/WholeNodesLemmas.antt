@@ -1,26 +1,16 @@
 -- The nodes of the whole plan, as the program puts them together.
-use Rattle.std.proofs.Common.{◌≡◌, ℕ, suc, ◌-◌, ◌<◌, Bool, true, false, if◌then◌else◌, List, [], ◌∷◌, ◌++◌, map, length, refl, ap, sym, ◌∙◌, arith}
+use Rattle.sm_sided.proofs.Imports.{◌≡◌, ℕ, suc, ◌-◌, ◌<◌, Bool, true, false, if◌then◌else◌, List, [], ◌∷◌, ◌++◌, map, length, refl, ap, sym, ◌∙◌, arith, Code, End, Copy, O, A, B, M, Sorts, statement_of, statement_layer, sequence, code_of, Tree, is_over, simple_node, straight_before, numbered_last, plan_in, Simple, own_statements, summary_before, whole_plan}
 use Rattle.sm_syntax.specs.declared.tree.Stmt.TheOpen as layer
-use Rattle.sm_syntax.specs.claim.Syntax.{Code, End}
-use Rattle.sm_syntax.specs.claim.ConflictFree.{Copy, O, A, B, M}
-use Rattle.sm_syntax.specs.text.Sorts.{Sorts}
-use Rattle.sm_syntax.specs.trees.Views.{statement_of, statement_layer, sequence, code_of}
 use Rattle.sm_syntax.specs.declared.tree.Stmt.{Stmt, Stmt-F}
 use Rattle.sm_syntax.specs.declared.tree.Block.{Block}
 use Rattle.sm_syntax.proofs.Blocks.{block_is, statement_layer_is}
-use Rattle.sm_term.specs.Terms.{Tree}
 use Rattle.sm_plan.specs.Nodes as node
 use Rattle.sm_plan.specs.Plans as plain
-use Rattle.sm_plan.specs.Statements.{is_over}
 use Rattle.sm_expand.specs.declared.plan.Last.TheVariants as last
 use Rattle.sm_expand.specs.declared.plan.Simple.TheVariants as simple
 use Rattle.sm_expand.specs.NumberedPlans.{NumberedPlan, At, Over, More, Ends, plan_over}
-use Rattle.sm_expand.specs.Views.{simple_node, straight_before, numbered_last, plan_in}
 use Rattle.sm_expand.specs.declared.plan.Plan.{Plan}
-use Rattle.sm_expand.specs.declared.plan.Simple.{Simple}
 use Rattle.sm_expand.proofs.PlanViews.{plan_is, last_end}
-use Rattle.sm_moves.specs.CodeShapes.{own_statements}
-use Rattle.sm_sided.specs.WholePlan.{summary_before, whole_plan}
 use Rattle.sm_sided.specs.WholeNodes.{summary_nodes}
 use Rattle.sm_moves.proofs.PiecesLemmas.{own-block}
 

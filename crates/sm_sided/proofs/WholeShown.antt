@@ -1,28 +1,12 @@
 -- The whole plan of one-sided programs is shown by its certificates.
-use Rattle.std.proofs.Common.{◌≡◌, ◌⊎◌, ℕ, nat_lt, false, Ok, List, [], ◌∷◌, map, length, inl, inr, refl, ap, sym, ◌∙◌, subst}
-use Rattle.std.specs.List.{flat_map}
+use Rattle.sm_sided.proofs.Imports.{◌≡◌, ◌⊎◌, ℕ, nat_lt, false, Ok, List, [], ◌∷◌, map, length, inl, inr, refl, ap, sym, ◌∙◌, subst, flat_map, append-nil, Code, Condition, Copy, O, A, B, M, Task, Sorts, Sort, Num, Arr, Tree, Read, Cell, Assertion, fill_term, all_at_stores, BranchFact, Node, branches, due, expand, obligations, State, place, keeps_goals, start_store, start_of, summarized, IsOnly, whole_certificates, whole_plan, denied, denied_goals, facts_before, AreClosed, IsShown}
 use Rattle.std.specs.Prelude.{Option}
-use Rattle.std.proofs.lemmas.List.{append-nil}
-use Rattle.sm_syntax.specs.claim.Syntax.{Code, Condition}
-use Rattle.sm_syntax.specs.claim.ConflictFree.{Copy, O, A, B, M, Task}
-use Rattle.sm_syntax.specs.text.Sorts.{Sorts}
-use Rattle.sm_syntax.specs.declared.tree.Sort.{Sort}
-use Rattle.sm_syntax.specs.declared.tree.Sort.TheVariants.{Num, Arr}
-use Rattle.sm_term.specs.Terms.{Tree, Read, Cell}
-use Rattle.sm_term.specs.Assertions.{Assertion}
-use Rattle.sm_term.specs.Slots.{fill_term, all_at_stores}
 use Rattle.sm_term.specs.Symbolic.{SymbolicStore}
-use Rattle.sm_theory.specs.Facts.{BranchFact}
 use Rattle.sm_plan.specs.Nodes as node
-use Rattle.sm_plan.specs.Nodes.{Node}
-use Rattle.sm_plan.specs.Plans.{branches, Due, due, expand, obligations}
-use Rattle.sm_plan.specs.States.{State, place, keeps_goals, start_store, start_of}
-use Rattle.sm_plan.specs.Successors.{summarized}
+use Rattle.sm_plan.specs.Plans.{Due}
 use Rattle.sm_expand.specs.Tasks.{HasParts}
 use Rattle.sm_expand.proofs.WholeLemmas.{not_deep, start_is}
-use Rattle.sm_sided.specs.OneSided.{IsOnly}
-use Rattle.sm_sided.specs.WholeCertificates.{whole_certificates, Change, OfA, OfB, OfBoth}
-use Rattle.sm_sided.specs.WholePlan.{whole_plan, denied, denied_goals, facts_before, AreClosed, IsShown}
+use Rattle.sm_sided.specs.WholeCertificates.{Change, OfA, OfB, OfBoth}
 use Rattle.sm_sided.proofs.GoalsClosed.{output_closed}
 use Rattle.sm_sided.proofs.WholeExpands.{ReachesEnds, whole_reaches, ends_expand, whole_straight}
 

@@ -1,13 +1,5 @@
 -- The choice of all templates, site by site.
-use Rattle.std.proofs.Common.{◌≡◌, suc, List, [], ◌∷◌, length, refl, ap}
-use Rattle.std.specs.declared.alloc.Global.{Global}
-use Rattle.std.specs.declared.rc.Rc.{Rc}
-use Rattle.sm_syntax.specs.text.Sorts.{Sorts}
-use Rattle.sm_term.specs.Assertions.{Assertion}
-use Rattle.sm_term.specs.declared.formula.Formula.{Formula}
-use Rattle.sm_term.specs.Terms.{Tree}
-use Rattle.sm_plan.specs.declared.state.Formulas.{Formulas}
-use Rattle.sm_plan.specs.Views.{forms_in}
+use Rattle.sm_sketch.proofs.Imports.{◌≡◌, suc, List, [], ◌∷◌, length, refl, ap, Global, Rc, Sorts, Assertion, Formula, Tree, Formulas, forms_in}
 
 module _ (sorts : Sorts) (trees : List Tree) where
   -- formulas stand for as many assertions

@@ -1,38 +1,15 @@
 -- The plan of a sketch that ends in a fork, in loops or in a block, and the plans of several sketches.
-use Rattle.std.proofs.Common.{◌≡◌, ℕ, suc, zero, ◌+◌, ◌≤◌, ◌<◌, nat_le, if◌then◌else◌, Bool, List, [], ◌∷◌, ◌++◌, length, map, take, get_or, refl, sym, ap, ◌∙◌, subst, arith, append-nil}
+use Rattle.sm_sketch.proofs.Imports.{◌≡◌, ℕ, suc, zero, ◌+◌, ◌≤◌, ◌<◌, nat_le, if◌then◌else◌, Bool, List, [], ◌∷◌, ◌++◌, length, map, take, get_or, refl, sym, ap, ◌∙◌, subst, arith, append-nil, length-append, map_more, Box, Vec, Global, Rc, by_copy, Sorts, Assertion, numbered, assertion_in, Formula, Tree, set_of, IsFormReady, AreFormsReady, forms_in, Formulas, NumberedPlan, plan_over, plans_over, plans_before, IsPlanReady, ArePlansReady, last_layer, plan_layer, plans_layer, numbered_plan, numbered_last, plan_in, Plans, roll-Plans, fold-Plans, fold-roll-Plans, plans_are, last_loop, last_block, SketchEnd, Sketches, out-Sketches, plans_from, sites_among, AreSomeReady, AreAllReady, LoopSite, BlockSite, NumberedSketch, Draw, Over, More, sketch_over, sketches_over, sketches_before, AreNodesReady, AreBelowReady, plan_with, plans_with, sites_of, sites_below, numbered_sketch, numbered_end, numbered_sketches, sketch_in}
 use Rattle.std.proofs.lemmas.Bool.{le-leb}
-use Rattle.std.proofs.lemmas.List.{length-append, map_more}
-use Rattle.std.specs.Prelude.{Box, Vec}
-use Rattle.std.specs.declared.alloc.Global.{Global}
-use Rattle.std.specs.declared.rc.Rc.{Rc}
-use Rattle.sm_syntax.specs.text.Parts.{by_copy}
-use Rattle.sm_syntax.specs.text.Sorts.{Sorts}
-use Rattle.sm_term.specs.Assertions.{Assertion}
-use Rattle.sm_term.specs.Formulas.{numbered, assertion_in}
-use Rattle.sm_term.specs.declared.formula.Formula.{Formula}
-use Rattle.sm_term.specs.Terms.{Tree}
-use Rattle.sm_plan.specs.Masks.{set_of}
 use Rattle.sm_plan.specs.Nodes as node
 use Rattle.sm_plan.specs.Plans as plan
-use Rattle.sm_plan.specs.ReadyStates.{IsFormReady, AreFormsReady}
-use Rattle.sm_plan.specs.Views.{forms_in}
-use Rattle.sm_plan.specs.declared.state.Formulas.{Formulas}
 use Rattle.sm_expand.specs.declared.plan.Last.{Last}
 use Rattle.sm_expand.specs.declared.plan.Last.TheVariants as last
 use Rattle.sm_expand.specs.NumberedPlans as numbers
-use Rattle.sm_expand.specs.NumberedPlans.{NumberedPlan, plan_over, plans_over, plans_before, IsPlanReady, ArePlansReady}
-use Rattle.sm_expand.specs.Views.{last_layer, plan_layer, plans_layer, numbered_plan, numbered_last, plan_in}
 use Rattle.sm_expand.specs.declared.plan.Plan.{Plan}
-use Rattle.sm_expand.specs.declared.plan.Plans.{Plans, roll-Plans, fold-Plans, fold-roll-Plans}
-use Rattle.sm_expand.proofs.PlanViews.{plans_are, last_loop, last_block}
-use Rattle.sm_sketch.specs.declared.sketch.SketchEnd.{SketchEnd}
 use Rattle.sm_sketch.specs.declared.sketch.SketchEnd.TheVariants as end
-use Rattle.sm_sketch.specs.declared.sketch.Sketches.{Sketches, out-Sketches}
-use Rattle.sm_sketch.specs.ChoiceViews.{plans_from, sites_among, AreSomeReady, AreAllReady}
-use Rattle.sm_sketch.specs.NumberedSketches.{LoopSite, BlockSite, NumberedSketch, Draw, Over, More, sketch_over, sketches_over, sketches_before, AreNodesReady, AreBelowReady}
 use Rattle.sm_sketch.specs.Sketches as tree
-use Rattle.sm_sketch.specs.Sketches.{plan_with, plans_with, sites_of, sites_below}
-use Rattle.sm_sketch.specs.SketchViews.{numbered_sketch, numbered_end, numbered_sketches, sketch_in, Sketch}
+use Rattle.sm_sketch.specs.SketchViews.{Sketch}
 use Rattle.sm_sketch.proofs.SketchEnds.{sketches_are, end_loop, end_block}
 
 -- plans over numbers of terms

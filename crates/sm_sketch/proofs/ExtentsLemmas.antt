@@ -1,10 +1,9 @@
 -- The extent of several sketches, one after the other.
-use Rattle.std.proofs.Common.{◌≡◌, Result, Err, IfErr, ℕ, zero, suc, ◌+◌, ◌<◌, ◌≤◌, max, List, [], ◌∷◌, ◌++◌, length, map, take, get_or, inl, inr, sym, ap, ◌∙◌, subst, arith}
-use Rattle.std.proofs.lemmas.List.{map_more}
+use Rattle.sm_sketch.proofs.Imports.{◌≡◌, Result, Err, ℕ, zero, suc, ◌+◌, ◌<◌, ◌≤◌, max, List, [], ◌∷◌, ◌++◌, length, map, take, get_or, inl, inr, sym, ap, ◌∙◌, subst, arith, map_more, TellsExtent, added, greatest, total_nodes, most_branches}
+use Rattle.std.proofs.Common.{IfErr}
 use Rattle.sm_sketch.specs.declared.error.ProductError.{ProductError}
 use Rattle.sm_sketch.specs.declared.error.ProductError.TheVariants as error
 use Rattle.sm_sketch.specs.declared.sketch.Sketch.{Sketch}
-use Rattle.sm_sketch.specs.Extents.{TellsExtent, added, greatest, total_nodes, most_branches}
 
 -- an answer that is an error
 pub err_extent : {T : Type 0} (r : Result T ProductError) (e : ProductError) (n b : ℕ) → r ≡ Err e → TellsExtent e n b →

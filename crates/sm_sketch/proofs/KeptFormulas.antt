@@ -1,20 +1,9 @@
 -- The formula that a site keeps: the conjunction of the templates that are chosen, by halves.
-use Rattle.std.proofs.Common.{◌≡◌, ℕ, zero, suc, ◌+◌, ◌-◌, ◌/◌, ◌≤◌, ◌<◌, Option, Some, List, [], ◌∷◌, ◌++◌, take, drop, length, slice_get, get_or, map, refl, ap, sym, ◌∙◌, subst, arith, append-nil}
-use Rattle.std.specs.Prelude.{option_to_list, unwrap_or, Vec}
-use Rattle.std.specs.declared.alloc.Global.{Global}
-use Rattle.std.proofs.lemmas.List.{append_assoc, length-take, length-drop, take-map, drop-map, take_more, map-append}
+use Rattle.sm_sketch.proofs.Imports.{◌≡◌, ℕ, zero, suc, ◌+◌, ◌-◌, ◌/◌, ◌≤◌, ◌<◌, Option, Some, List, [], ◌∷◌, ◌++◌, take, drop, length, slice_get, get_or, map, refl, ap, sym, ◌∙◌, subst, arith, append-nil, option_to_list, unwrap_or, Vec, Global, length-take, length-drop, take-map, drop-map, take_more, map-append, Sorts, Assertion, And, Tree, numbered, assertion_in, Formula, AreFormsReady, forms_in, picked, halved, conjoined, kept_by, choice_in, pointed, picked_forms}
+use Rattle.std.proofs.lemmas.List.{append_assoc}
 use Rattle.std.proofs.lemmas.Option.{slice_get-get_or, slice_get_past}
-use Rattle.sm_syntax.specs.text.Sorts.{Sorts}
-use Rattle.sm_term.specs.Assertions.{Assertion, And}
-use Rattle.sm_term.specs.Terms.{Tree}
-use Rattle.sm_term.specs.Formulas.{numbered, assertion_in}
-use Rattle.sm_term.specs.declared.formula.Formula.{Formula}
-use Rattle.sm_plan.specs.ReadyStates.{AreFormsReady}
-use Rattle.sm_plan.specs.Views.{forms_in}
 use Rattle.sm_expand.proofs.FormsLemmas.{ready_append, ready_front}
 use Rattle.sm_sketch.specs.declared.kept.TemplateChoice.{TemplateChoice}
-use Rattle.sm_sketch.specs.Choices.{picked, halved, conjoined, kept_by}
-use Rattle.sm_sketch.specs.ChoiceViews.{choice_in, pointed, picked_forms}
 use denote.Bor.{Bor}
 use Rattle.sm_lemmas.proofs.Numbers.{half_less}
 

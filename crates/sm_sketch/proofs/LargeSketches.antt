@@ -1,14 +1,9 @@
 -- What is too large stays so with nodes before it; and the nodes of a set, one copy after the other.
-use Rattle.std.proofs.Common.{◌≡◌, Result, Err, IfErr, ℕ, suc, ◌+◌, ◌≤◌, inl, inr, max, Bool, true, false, if◌then◌else◌, refl, sym, ap, ◌∙◌, subst, arith}
-use Rattle.sm_syntax.specs.claim.ConflictFree.{Copy, O, A, B, M}
-use Rattle.sm_plan.specs.Copies.{Copies, has}
-use Rattle.sm_plan.specs.Nodes.{Node, is_branching}
-use Rattle.sm_moves.specs.CopySets.{members}
+use Rattle.sm_sketch.proofs.Imports.{◌≡◌, Result, Err, ℕ, suc, ◌+◌, ◌≤◌, inl, inr, max, Bool, true, false, if◌then◌else◌, refl, sym, ap, ◌∙◌, subst, arith, Copy, O, A, B, M, Copies, has, Node, is_branching, members, TellsSketch, TellsExtent, drawn_where, then_draw, each_of, sketch_size, sketch_depth, IsTooLarge}
+use Rattle.std.proofs.Common.{IfErr}
 use Rattle.sm_sketch.specs.declared.error.ProductError.TheVariants as error
-use Rattle.sm_sketch.specs.Errors.{TellsSketch, ProductError}
-use Rattle.sm_sketch.specs.Extents.{TellsExtent, drawn_where}
-use Rattle.sm_sketch.specs.Sketches.{Sketch, then_draw, each_of}
-use Rattle.sm_sketch.specs.SketchSizes.{sketch_size, sketch_depth, IsTooLarge}
+use Rattle.sm_sketch.specs.Errors.{ProductError}
+use Rattle.sm_sketch.specs.Sketches.{Sketch}
 
 -- a sketch with at least as many nodes, that branches at least as deep
 larger : (p q : Sketch) → sketch_size p ≤ sketch_size q → sketch_depth p ≤ sketch_depth q → IsTooLarge p → IsTooLarge q

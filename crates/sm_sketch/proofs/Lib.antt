@@ -1,3 +1,4 @@
+mod Imports
 mod LargeSketches
 pub mod AllChosen
 pub mod SketchEnds

@@ -1,9 +1,6 @@
 -- What holds of each template holds of each that is picked.
-use Rattle.std.proofs.Common.{ℕ, zero, suc, List, [], ◌∷◌, slice_get}
-use Rattle.std.specs.Prelude.{option_to_list}
-use Rattle.sm_term.specs.Assertions.{Assertion}
+use Rattle.sm_sketch.proofs.Imports.{ℕ, zero, suc, List, [], ◌∷◌, slice_get, option_to_list, Assertion, picked}
 use Rattle.sm_moves.proofs.SetsLemmas.{Each, each_append}
-use Rattle.sm_sketch.specs.Choices.{picked}
 
 -- of each thing that is found in a list
 each_found : {T : Type 0} (P : T → Type 0) (xs : List T) (n : ℕ) → Each P xs → Each P (option_to_list (slice_get xs n))

@@ -1,20 +1,10 @@
 -- The plan of a sketch under a choice, by how the sketch ends.
-use Rattle.std.proofs.Common.{◌≡◌, ℕ, ◌+◌, List, [], ◌∷◌, ◌++◌, length, reverse, refl, sym, ap, ◌∙◌, subst, arith, append-nil}
-use Rattle.std.proofs.lemmas.List.{reverse-append}
-use Rattle.sm_syntax.specs.text.Sorts.{Sorts}
-use Rattle.sm_term.specs.Assertions.{Assertion}
-use Rattle.sm_term.specs.Terms.{Tree}
+use Rattle.sm_sketch.proofs.Imports.{◌≡◌, ℕ, ◌+◌, List, [], ◌∷◌, ◌++◌, length, reverse, refl, sym, ap, ◌∙◌, subst, arith, append-nil, reverse-append, Sorts, Assertion, Tree, NumberedPlan, At, plan_over, plans_over, plans_before, IsKeepReady, IsPlanReady, ArePlansReady, simple_node, straight_before, numbered_plan, numbered_last, plan_in, Simple, plan_is, Plain, NumberedSketch, Draw, Over, More, sketch_over, AreNodesReady, plan_with, sites_of, stacked, numbered_sketch, numbered_end, sketch_in}
 use Rattle.sm_plan.specs.Plans as plan
 use Rattle.sm_expand.specs.declared.plan.Plan as program
 use Rattle.sm_expand.specs.declared.plan.Simple.TheVariants as simple
 use Rattle.sm_expand.specs.NumberedPlans as numbers
-use Rattle.sm_expand.specs.NumberedPlans.{NumberedPlan, At, plan_over, plans_over, plans_before, IsKeepReady, IsPlanReady, ArePlansReady}
-use Rattle.sm_expand.specs.Views.{simple_node, straight_before, numbered_plan, numbered_last, plan_in}
-use Rattle.sm_expand.specs.declared.plan.Simple.{Simple}
-use Rattle.sm_expand.proofs.PlanViews.{plan_is}
-use Rattle.sm_sketch.specs.NumberedSketches.{Plain, NumberedSketch, Draw, Over, More, sketch_over, AreNodesReady}
-use Rattle.sm_sketch.specs.Sketches.{plan_with, sites_of}
-use Rattle.sm_sketch.specs.SketchViews.{stacked, numbered_sketch, numbered_end, sketch_in, Sketch}
+use Rattle.sm_sketch.specs.SketchViews.{Sketch}
 use Rattle.sm_sketch.proofs.SketchEnds.{sketch_is}
 
 straight_more : (ss : List Simple) (s : Simple) (q : NumberedPlan) →

@@ -1,24 +1,8 @@
 -- The templates of a sketch's sites, by how it ends.
-use Rattle.std.proofs.Common.{◌≡◌, ℕ, zero, suc, ◌+◌, ◌<◌, ◌≤◌, List, [], ◌∷◌, ◌++◌, map, take, length, get_or, append-nil, append_assoc, refl, sym, ap, ◌∙◌, subst, arith}
-use Rattle.std.proofs.lemmas.List.{length-map, map-append, take_more, take_all}
-use Rattle.std.specs.Prelude.{Box}
-use Rattle.std.specs.declared.alloc.Global.{Global}
-use Rattle.std.specs.declared.rc.Rc.{Rc}
-use Rattle.sm_syntax.specs.text.Sorts.{Sorts}
-use Rattle.sm_term.specs.declared.formula.Formula.{Formula}
-use Rattle.sm_term.specs.Assertions.{Assertion}
-use Rattle.sm_term.specs.Terms.{Tree}
-use Rattle.sm_plan.specs.declared.state.Formulas.{Formulas}
-use Rattle.sm_plan.specs.ReadyStates.{AreFormsReady}
-use Rattle.sm_plan.specs.Views.{forms_in}
-use Rattle.sm_expand.specs.Views.{simple_node}
-use Rattle.sm_expand.specs.declared.plan.Simple.{Simple}
+use Rattle.sm_sketch.proofs.Imports.{◌≡◌, ℕ, zero, suc, ◌+◌, ◌<◌, ◌≤◌, List, [], ◌∷◌, ◌++◌, map, take, length, get_or, append-nil, refl, sym, ap, ◌∙◌, subst, arith, length-map, map-append, take_more, take_all, Box, Global, Rc, Sorts, Formula, Assertion, Tree, Formulas, AreFormsReady, forms_in, simple_node, Simple, Sketches, out-Sketches, NumberedSite, Plain, LoopSite, BlockSite, NumberedSketch, Draw, NumberedSketches, Over, More, site_over, sketch_over, sketches_over, sketches_before, IsSiteReady, AreNodesReady, AreBelowReady, site_at, sites_of, sites_below, forms_at, forms_of, forms_below, forms_of_all, shared_forms, AreListsReady, stacked, numbered_sketch, numbered_end, numbered_sketches, sketch_in, IsSketchReady}
+use Rattle.std.proofs.Common.{append_assoc}
 use Rattle.sm_sketch.specs.declared.sketch.SketchEnd.TheVariants as last
-use Rattle.sm_sketch.specs.declared.sketch.Sketches.{Sketches, out-Sketches}
-use Rattle.sm_sketch.specs.NumberedSketches.{NumberedSite, Plain, LoopSite, BlockSite, NumberedSketch, Draw, NumberedSketches, Over, More, site_over, sketch_over, sketches_over, sketches_before, IsSiteReady, AreNodesReady, AreBelowReady}
-use Rattle.sm_sketch.specs.Sketches.{site_at, sites_of, sites_below}
-use Rattle.sm_sketch.specs.SketchSites.{forms_at, forms_of, forms_below, forms_of_all, shared_forms, AreListsReady}
-use Rattle.sm_sketch.specs.SketchViews.{stacked, numbered_sketch, numbered_end, numbered_sketches, sketch_in, IsSketchReady, Sketch}
+use Rattle.sm_sketch.specs.SketchViews.{Sketch}
 use Rattle.sm_sketch.proofs.SketchEnds.{sketch_is, sketches_are, end_fork, end_loop, end_block, end_end}
 
 -- over the trees of a table they are those of the sketch

@@ -1,20 +1,9 @@
 -- The sketches that trees of the program stand for, by how they end, and by a node put before them.
-use Rattle.std.proofs.Common.{◌≡◌, ℕ, List, [], ◌∷◌, ◌++◌, map, refl, sym, ap, ◌∙◌}
-use Rattle.std.specs.Prelude.{Box, Vec}
-use Rattle.std.specs.declared.alloc.Global.{Global}
-use Rattle.std.specs.declared.rc.Rc.{Rc}
-use Rattle.sm_syntax.specs.text.Parts.{by_copy}
-use Rattle.sm_plan.specs.declared.state.Formulas.{Formulas}
-use Rattle.sm_expand.specs.NumberedPlans.{Fork, Ends}
-use Rattle.sm_expand.specs.Views.{simple_node}
-use Rattle.sm_expand.specs.declared.plan.Simple.{Simple}
-use Rattle.sm_sketch.specs.declared.sketch.SketchEnd.{SketchEnd, fold-roll-SketchEnd}
+use Rattle.sm_sketch.proofs.Imports.{◌≡◌, ℕ, List, [], ◌∷◌, ◌++◌, map, refl, sym, ap, ◌∙◌, Box, Vec, Global, Rc, by_copy, Formulas, Fork, Ends, simple_node, Simple, SketchEnd, fold-roll-SketchEnd, Sketches, out-Sketches, roll-Sketches, fold_out-Sketches, fold-roll-Sketches, Plain, LoopSite, BlockSite, NumberedSketch, Draw, Over, More, sketches_before, stacked, end_layer, sketch_layer, sketches_layer, numbered_sketch, numbered_end, numbered_sketches, fold_out-Sketch}
 use Rattle.sm_sketch.specs.declared.sketch.SketchEnd.TheOpen as layer
 use Rattle.sm_sketch.specs.declared.sketch.SketchEnd.TheVariants as last
 use Rattle.sm_sketch.specs.declared.sketch.SketchEnd.TheVariants.{rolls-Fork, rolls-Loop, rolls-Block, rolls-End}
-use Rattle.sm_sketch.specs.declared.sketch.Sketches.{Sketches, out-Sketches, roll-Sketches, fold_out-Sketches, fold-roll-Sketches}
-use Rattle.sm_sketch.specs.NumberedSketches.{Plain, LoopSite, BlockSite, NumberedSketch, Draw, Over, More, sketches_before}
-use Rattle.sm_sketch.specs.SketchViews.{stacked, end_layer, sketch_layer, sketches_layer, numbered_sketch, numbered_end, numbered_sketches, Sketch, fold_out-Sketch}
+use Rattle.sm_sketch.specs.SketchViews.{Sketch}
 
 -- a sketch is its simple nodes, and then its last one
 pub sketch_is : (s : Sketch) → numbered_sketch s ≡ stacked s.straight.list.items (numbered_end s.last)

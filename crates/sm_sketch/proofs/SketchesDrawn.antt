@@ -1,28 +1,13 @@
 -- What sketches that are drawn of others stand for, and that they tell their size and are ready.
-use Rattle.std.proofs.Common.{◌≡◌, Result, Ok, Err, IfOk, ℕ, suc, ◌+◌, ◌≤◌, max, false, List, [], ◌∷◌, ◌++◌, map, refl, sym, ap, ◌∙◌, subst, arith}
-use Rattle.sm_syntax.specs.claim.ConflictFree.{Copy, O, A, B, M}
-use Rattle.sm_syntax.specs.text.Sorts.{Sorts}
+use Rattle.sm_sketch.proofs.Imports.{◌≡◌, Result, Ok, Err, ℕ, suc, ◌+◌, ◌≤◌, max, false, List, [], ◌∷◌, ◌++◌, map, refl, sym, ap, ◌∙◌, subst, arith, Copy, O, A, B, M, Sorts, Formula, Tree, Copies, has, subsets, set_of, Node, is_branching, forms_in, of_copy_or, node_over, IsKeepReady, Fork, Ends, simple_node, Simple, members, TellsSketch, TellsExtent, total_nodes, most_branches, drawn_where, NumberedSite, Plain, LoopSite, NumberedSketch, Draw, Over, More, sketches_before, site_over, sketch_over, sketches_over, IsSiteReady, AreNodesReady, AreBelowReady, then_draw, each_of, turns_then, looped, sketch_size, sizes_below, sketch_depth, deepest_below, numbered_sketch, numbered_end, sketch_in, IsSketchReady, AreSketchesReady}
+use Rattle.std.proofs.Common.{IfOk}
 use Rattle.sm_syntax.specs.trees.Copies.{number_of}
-use Rattle.sm_term.specs.declared.formula.Formula.{Formula}
-use Rattle.sm_term.specs.Terms.{Tree}
-use Rattle.sm_plan.specs.Copies.{Copies, has, subsets}
-use Rattle.sm_plan.specs.Masks.{set_of}
 use Rattle.sm_plan.specs.Nodes as plan
-use Rattle.sm_plan.specs.Nodes.{Node, is_branching}
-use Rattle.sm_plan.specs.Views.{forms_in}
 use Rattle.sm_expand.specs.declared.plan.Simple.TheVariants as simple
-use Rattle.sm_expand.specs.NumberedPlans.{of_copy_or, node_over, IsKeepReady, Fork, Ends}
-use Rattle.sm_expand.specs.Views.{simple_node}
-use Rattle.sm_expand.specs.declared.plan.Simple.{Simple}
-use Rattle.sm_moves.specs.CopySets.{members}
 use Rattle.sm_sketch.specs.declared.drawing.Way.TheVariants as way
-use Rattle.sm_sketch.specs.Errors.{TellsSketch, ProductError}
-use Rattle.sm_sketch.specs.Extents.{TellsExtent, total_nodes, most_branches, drawn_where}
-use Rattle.sm_sketch.specs.NumberedSketches.{NumberedSite, Plain, LoopSite, NumberedSketch, Draw, Over, More, sketches_before, site_over, sketch_over, sketches_over, IsSiteReady, AreNodesReady, AreBelowReady}
+use Rattle.sm_sketch.specs.Errors.{ProductError}
 use Rattle.sm_sketch.specs.Sketches as tree
-use Rattle.sm_sketch.specs.Sketches.{then_draw, each_of, turns_then, looped}
-use Rattle.sm_sketch.specs.SketchSizes.{sketch_size, sizes_below, sketch_depth, deepest_below}
-use Rattle.sm_sketch.specs.SketchViews.{numbered_sketch, numbered_end, sketch_in, IsSketchReady, AreSketchesReady, Sketch}
+use Rattle.sm_sketch.specs.SketchViews.{Sketch}
 use Rattle.sm_sketch.proofs.LargeSketches.{drawn_size, drawn_depth, tells_sketch, each_drawn}
 use Rattle.sm_sketch.proofs.SketchEnds.{pushed, bare}
 

@@ -1,18 +1,13 @@
 -- A sketch stays where the table has more behind.
-use Rattle.std.proofs.Common.{◌≡◌, List, [], ◌∷◌, map, refl, sym, ap, ◌∙◌}
+use Rattle.sm_sketch.proofs.Imports.{◌≡◌, List, [], ◌∷◌, map, refl, sym, ap, ◌∙◌, set_of, Node, NumberedNode, At, node_over, IsKeepReady, NumberedSite, Plain, LoopSite, BlockSite, NumberedSketch, Draw, NumberedSketches, Over, More, site_over, sketch_over, sketches_over, IsSiteReady, AreNodesReady, AreBelowReady, sketch_size, sketch_depth, numbered_sketch, sketch_in, IsSketchReady, AreSketchesReady}
 use Rattle.sm_term.specs.Tables.{TableValue, trees_in, sorts_in}
 use Rattle.sm_term.specs.TableLaws.{ExtendsTable}
-use Rattle.sm_plan.specs.Masks.{set_of}
-use Rattle.sm_plan.specs.Nodes.{Node}
 use Rattle.sm_plan.specs.Plans as plan
 use Rattle.sm_plan.proofs.TablesWiden as widened
-use Rattle.sm_expand.specs.NumberedPlans.{NumberedNode, At, node_over, IsKeepReady}
 use Rattle.sm_expand.specs.NumberedPlans as numbers
 use Rattle.sm_expand.proofs.PlansWiden as plans
-use Rattle.sm_sketch.specs.NumberedSketches.{NumberedSite, Plain, LoopSite, BlockSite, NumberedSketch, Draw, NumberedSketches, Over, More, site_over, sketch_over, sketches_over, IsSiteReady, AreNodesReady, AreBelowReady}
 use Rattle.sm_sketch.specs.Sketches as tree
-use Rattle.sm_sketch.specs.SketchSizes.{sketch_size, sketch_depth}
-use Rattle.sm_sketch.specs.SketchViews.{numbered_sketch, sketch_in, IsSketchReady, AreSketchesReady, Sketch}
+use Rattle.sm_sketch.specs.SketchViews.{Sketch}
 
 -- the first node of a plan
 abbrev first : plan.Plan → Node

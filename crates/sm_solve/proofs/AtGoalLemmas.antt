@@ -1,48 +1,14 @@
 -- A node before, while and after the contrary of a goal stands in its place.
-use Rattle.std.proofs.Common.{◌≡◌, inl, inr, ℕ, ◌+◌, ◌<◌, ◌≤◌, Some, Option, IfSome, List, [], ◌∷◌, ◌++◌, length, take, drop, slice_get, slice_set, refl, sym, ap, subst, ◌∙◌, arith}
-use Rattle.std.proofs.lemmas.List.{append-nil, length-set, length-map, length-append, take-append-drop}
-use Rattle.std.specs.List.{range_with_len}
-use Rattle.sm_syntax.specs.text.Sorts.{Sorts}
-use Rattle.sm_num.specs.Forms.{Linear}
+use Rattle.sm_solve.proofs.Imports.{◌≡◌, inl, inr, ℕ, ◌+◌, ◌<◌, ◌≤◌, Option, IfSome, List, [], ◌∷◌, ◌++◌, length, take, drop, slice_get, slice_set, refl, sym, ap, subst, ◌∙◌, arith, append-nil, length-set, length-map, length-append, take-append-drop, range_with_len, Sorts, Linear, Assertion, numbered, assertion_in, IsFormulaWithin, Formula, AreFormsSorted, IsFormSorted, Tree, TableValue, trees_in, sorts_in, codes_in, TermId, AddsTerms, IsLedBy, AreAllGiven, IsLonger, ClassesValue, FactBase, SharedTerms, Inconsistent, AreAllForms, IsAtGoal, HasRoom, facts_without, IsFrom, with_formula, with_formulas, with_parts, depth_of, terms_of, classes_by, given_from, trees_at, numbers_of, AreBelow, IsClosed, all_numbered, assertions_in, AreFormulasWithin, AreTermsOf, AreShared, with_those_before, AreNamed, IsFactBase, room_for_goal, IsInconsistent, facts_grown, facts_within_grown, queue_from, closed_with_formulas, closed_none, get_below, get_set, below_if_got, forms_append}
+use Rattle.std.proofs.Common.{Some}
 use Rattle.sm_term.specs.declared.formula.Formula.TheVariants as tree
-use Rattle.sm_term.specs.Assertions.{Assertion, Yes}
-use Rattle.sm_term.specs.Formulas.{numbered, assertion_in, IsFormulaWithin}
-use Rattle.sm_term.specs.declared.formula.Formula.{Formula}
-use Rattle.sm_term.specs.Sorted.{AreFormsSorted, IsFormSorted}
-use Rattle.sm_term.specs.Terms.{Tree}
-use Rattle.sm_term.specs.Tables.{TableValue, trees_in, sorts_in, codes_in}
-use Rattle.sm_term.specs.declared.term.TermId.{TermId}
-use Rattle.sm_term.specs.TableLaws.{AddsTerms}
-use Rattle.sm_cc.specs.BaseClasses.{IsLedBy, AreAllGiven}
-use Rattle.sm_pairs.specs.Longer.{IsLonger}
-use Rattle.sm_cc.specs.Views.{ClassesValue}
-use Rattle.sm_solve.specs.declared.fact_base.FactBase.{FactBase}
-use Rattle.sm_list.specs.declared.shared.SharedTerms.{SharedTerms}
-use Rattle.sm_solve.specs.declared.inconsistent.Inconsistent.{Inconsistent}
-use Rattle.sm_judge.specs.AllForms.{AreAllForms}
-use Rattle.sm_solve.specs.AtGoal.{IsAtGoal, HasRoom, facts_without}
-use Rattle.sm_certify.specs.Bases.{IsFrom}
-use Rattle.sm_theory.specs.TermsOfFormulas.{with_formula, with_formulas}
-use Rattle.sm_list.specs.Branches.{with_parts, depth_of, terms_of}
-use Rattle.sm_certify.specs.Given.{classes_by, given_from}
-use Rattle.sm_terms.specs.Listing.{trees_at, numbers_of, AreBelow, IsClosed}
-use Rattle.sm_list.specs.Parts.{all_numbered, assertions_in, AreFormulasWithin}
-use Rattle.sm_list.specs.Renumbered.{AreTermsOf}
-use Rattle.sm_list.specs.Shared.{AreShared, with_those_before}
-use Rattle.sm_solve.specs.Naming.{AreNamed}
-use Rattle.sm_solve.specs.Sharing.{IsFactBase, room_for_goal}
-use Rattle.sm_solve.specs.Inconsistent.{IsInconsistent}
+use Rattle.sm_term.specs.Assertions.{Yes}
 use Rattle.sm_solve.proofs.GroundingLemmas.{as_many}
 use Rattle.sm_judge.proofs.LinearsLemmas.{first_forms}
 use Rattle.sm_solve.proofs.NamingLemmas.{named_root}
 use Rattle.sm_solve.proofs.NodeLemmas.{terms_there, added_behind, given_still, given_first, replaced_is, replaced_last, replaced_within, always_there, put_back, cut_back}
-use Rattle.sm_list.proofs.OwnLemmas.{facts_grown, facts_within_grown}
-use Rattle.sm_list.proofs.PartsLemmas.{queue_from}
-use Rattle.sm_terms.proofs.WithTermLemmas.{closed_with_formulas, closed_none}
 use Rattle.sm_solve.proofs.SortedLemmas.{sorted_with}
 use Rattle.std.proofs.lemmas.List.FromFn.{length-range_with_len}
-use Rattle.sm_lemmas.proofs.Lists.{get_below, get_set, below_if_got}
-use Rattle.sm_term.proofs.SortedForms.{forms_append}
 
 -- own tables of which one has more terms
 pub own_grows : (old new : TableValue) (terms more : List Tree) → sorts_in new ≡ sorts_in old → codes_in new ≡ codes_in old →

@@ -1,12 +1,7 @@
 -- Where a contradiction is met, more atoms that could be taken out change nothing.
-use Rattle.std.proofs.Common.{◌≡◌, ℕ, zero, suc, ◌+◌, Bool, true, false, nat_lt, if◌then◌else◌, List, [], ◌∷◌, ◌++◌, length, refl, ap, ◌∙◌, subst, arith}
-use Rattle.std.specs.List.{list_any}
-use Rattle.sm_num.specs.Forms.{Linear}
-use Rattle.sm_num.specs.Combining.{Outcome, Fits, Leaves}
+use Rattle.sm_solve.proofs.Imports.{◌≡◌, ℕ, zero, suc, ◌+◌, Bool, true, false, nat_lt, if◌then◌else◌, List, [], ◌∷◌, ◌++◌, length, refl, ap, ◌∙◌, subst, arith, list_any, Linear, Outcome, Fits, Leaves, is_contradictory, Walked, Closes, TooFar, eliminated_by, by_forms}
 use Rattle.sm_num.specs.Eliminating.{eliminated}
-use Rattle.sm_num.specs.Tightening.{is_contradictory}
 use Rattle.sm_fm.specs.Elimination.{Placed, Event, Cancels, GoesBeyond, Next, is_new, with_sum, sums, pairs, forms_without, taken_out, placed_from, events}
-use Rattle.sm_judge.specs.Forms.{Walked, Closes, TooFar, eliminated_by, by_forms}
 
 -- a list begins with another
 abbrev Begins : List Event → List Event → Type 0

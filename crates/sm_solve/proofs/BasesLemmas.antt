@@ -1,13 +1,5 @@
 -- Classes that begin with others, where facts go behind.
-use Rattle.std.proofs.Common.{◌≡◌, List, [], refl, sym, subst}
-use Rattle.std.proofs.lemmas.List.{append-nil}
-use Rattle.sm_term.specs.declared.formula.Formula.{Formula}
-use Rattle.sm_term.specs.Tables.{TableValue, trees_in}
-use Rattle.sm_term.specs.declared.term.TermId.{TermId}
-use Rattle.sm_cc.specs.BaseClasses.{IsLedBy}
-use Rattle.sm_pairs.specs.Longer.{IsLonger}
-use Rattle.sm_cc.specs.Views.{ClassesValue}
-use Rattle.sm_certify.specs.Given.{classes_by}
+use Rattle.sm_solve.proofs.Imports.{◌≡◌, List, [], refl, sym, subst, append-nil, Formula, TableValue, trees_in, TermId, IsLedBy, IsLonger, ClassesValue, classes_by}
 use Rattle.sm_solve.proofs.NodeLemmas.{given_first}
 
 -- nothing leads to all

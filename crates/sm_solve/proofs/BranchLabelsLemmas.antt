@@ -1,19 +1,8 @@
 -- The labels of the classes of a branch tell which of its terms are equal.
-use Rattle.std.proofs.Common.{◌≡◌, ℕ, ◌==◌, Option, option_map, Some, None, List, length, slice_get, refl, sym, ap, subst, ◌∙◌}
-use Rattle.std.proofs.lemmas.Bool.{eqb-true, eq-eqb}
-use Rattle.std.proofs.lemmas.List.{length-map}
-use Rattle.std.proofs.lemmas.Option.{slice_get-map}
-use Rattle.sm_term.specs.declared.formula.Formula.{Formula}
-use Rattle.sm_term.specs.Terms.{Tree}
-use Rattle.sm_term.specs.Tables.{TableValue, trees_in, tree_at}
-use Rattle.sm_term.specs.declared.term.TermId.{TermId}
+use Rattle.sm_solve.proofs.Imports.{◌≡◌, ℕ, ◌==◌, Option, option_map, None, List, length, slice_get, refl, sym, ap, subst, ◌∙◌, eqb-true, length-map, slice_get-map, Formula, Tree, TableValue, trees_in, tree_at, TermId, are_equal, ClassesValue, setting_of, IsWhole, classes_by, AreLabels, trees_at, numbers_of, equal_is_same}
+use Rattle.std.proofs.Common.{Some}
+use Rattle.std.proofs.lemmas.Bool.{eq-eqb}
 use Rattle.sm_cc.specs.Labels.{AreTermLabels}
-use Rattle.sm_cc.specs.Rounds.{are_equal}
-use Rattle.sm_cc.specs.Views.{ClassesValue, setting_of}
-use Rattle.sm_certify.specs.Given.{IsWhole, classes_by}
-use Rattle.sm_judge.specs.Labelled.{AreLabels}
-use Rattle.sm_terms.specs.Listing.{trees_at, numbers_of}
-use Rattle.sm_cc.proofs.LeastLemmas.{equal_is_same}
 use Rattle.sm_lemmas.proofs.Tests.{same_tests}
 
 -- the number at the place of a term

@@ -1,23 +1,10 @@
 -- A branch that is closed at once stays so with more facts and terms.
-use Rattle.std.proofs.Common.{◌≡◌, ◌⊎◌, ℕ, zero, suc, ◌≤◌, map, Bool, true, false, ◌&&◌, List, [], ◌∷◌, ◌++◌, slice_get, Some, None, inl, inr, refl, ap, sym, ◌∙◌, arith}
-use Rattle.std.specs.List.{list_any}
+use Rattle.sm_solve.proofs.Imports.{◌≡◌, ◌⊎◌, ℕ, zero, suc, ◌≤◌, map, Bool, true, false, ◌&&◌, List, [], ◌∷◌, ◌++◌, slice_get, None, inl, inr, refl, ap, sym, ◌∙◌, arith, list_any, Sorts, Tree, Read, Assertion, same_tree, arguments_of, same_head, equal_sides, unequal_sides, says_equal, compared_forms, Setting, given_equal, given_unequal, differ, are_apart, equal_lists, reads_written, brings, AreClosed, are_equal, greatest_of, parts_of, parts_of_all, depth_of, taken_apart, with_parts, seen_by, is_refuted, are_torn, is_closed, equal_closed, equal_least}
+use Rattle.std.proofs.Common.{Some}
 use Rattle.std.specs.Ordering.{int_eq}
-use Rattle.sm_syntax.specs.text.Sorts.{Sorts}
-use Rattle.sm_term.specs.Terms.{Tree, Read}
-use Rattle.sm_term.specs.Assertions.{Assertion, Yes, No, Ne}
-use Rattle.sm_term.specs.SameTerms.{same_tree}
-use Rattle.sm_term.specs.Heads.{arguments_of, same_head}
-use Rattle.sm_theory.specs.Lines.{equal_sides, unequal_sides}
-use Rattle.sm_theory.specs.Equality.{says_equal}
-use Rattle.sm_theory.specs.Arithmetic.{compared_forms}
+use Rattle.sm_term.specs.Assertions.{Yes, No, Ne}
 use Rattle.sm_pairs.specs.Pairs.{Pairs}
-use Rattle.sm_cc.specs.Classes.{Setting, given_equal, given_unequal, differ, are_apart, equal_lists, reads_written, brings, AreClosed}
-use Rattle.sm_cc.specs.Rounds.{are_equal}
 use Rattle.sm_cc.proofs.StandingLemmas.{or_map, and_map, any_from}
-use Rattle.sm_list.specs.Branches.{greatest_of, parts_of, parts_of_all, depth_of, taken_apart, with_parts}
-use Rattle.sm_certify.specs.Given.{seen_by}
-use Rattle.sm_judge.specs.Holding.{is_refuted, are_torn, is_closed}
-use Rattle.sm_cc.proofs.LeastLemmas.{equal_closed, equal_least}
 use Rattle.sm_cc.proofs.BringsLemmas.{reads_more}
 use Rattle.std.proofs.lemmas.Map.Keys.{any_passes_from_place}
 

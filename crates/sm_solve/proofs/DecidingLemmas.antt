@@ -1,17 +1,10 @@
 -- The exact decision of forms, as the walk counts it and as a certificate needs it.
-use Rattle.std.proofs.Common.{◌≡◌, ◌≤◌, ◌-◌, ℕ, min, None, List, ap, ◌∙◌, arith}
-use Rattle.sm_num.specs.Forms.{Linear}
-use Rattle.sm_num.specs.Combining.{Fits}
+use Rattle.sm_solve.proofs.Imports.{◌≡◌, ◌≤◌, ◌-◌, ℕ, min, None, List, ap, ◌∙◌, arith, Linear, Fits, exact, Assertion, Seen, AreSources, decided, by_decision}
 use Rattle.sm_omega.specs.Counting.{Done}
-use Rattle.sm_omega.specs.Exact.{exact}
 use Rattle.sm_omega.specs.Rules.{Answer}
 use Rattle.sm_omega.proofs.LimitLemmas.{count_is_within, limit_does_not_matter}
-use Rattle.sm_term.specs.Assertions.{Assertion}
-use Rattle.sm_judge.specs.Holding.{Seen}
-use Rattle.sm_judge.specs.Refutations.{AreSources}
 use Rattle.sm_judge.specs.declared.forms.Source.{Source}
 use Rattle.sm_certify.specs.Decided.{AreDecided}
-use Rattle.sm_solve.specs.Walk.{decided, by_decision}
 
 -- forms are decided in the steps that are left
 pub decided_is : (fs : List (Linear ℕ)) (steps count left : ℕ) (all : List Assertion) (a : Answer) → min (steps - count) 1000000 ≡ left →

@@ -1,33 +1,11 @@
 -- What a node is made of: the facts with room for a goal, over a table of their terms.
-use Rattle.std.proofs.Common.{◌≡◌, ℕ, None, Option, IfSome, List, [], ◌∷◌, ◌++◌, length, refl, sym, ap, ◌∙◌, subst}
-use Rattle.std.proofs.lemmas.List.{map-append, length-map}
-use Rattle.std.specs.List.{range_with_len}
-use Rattle.sm_syntax.specs.text.Sorts.{Sorts}
+use Rattle.sm_solve.proofs.Imports.{◌≡◌, ℕ, None, Option, IfSome, List, [], ◌∷◌, ◌++◌, length, refl, sym, ap, ◌∙◌, subst, map-append, length-map, range_with_len, Sorts, Tree, Assertion, NumberedFormula, numbered, assertion_in, Formula, AreFormsSorted, TableValue, trees_in, sorts_in, TermId, FactBase, Inconsistent, AreAllForms, IsFrom, with_formulas, terms_of, IsWhole, classes_by, numbers_of, all_numbered, assertions_in, AreFormulasWithin, AreShared, IsFactBase, room_for_goal, IsInconsistent, forms_append}
 use Rattle.sm_term.specs.declared.formula.Formula.TheVariants as tree
-use Rattle.sm_term.specs.Terms.{Tree}
-use Rattle.sm_term.specs.Assertions.{Assertion, Yes}
+use Rattle.sm_term.specs.Assertions.{Yes}
 use Rattle.sm_term.specs.Formulas as number
-use Rattle.sm_term.specs.Formulas.{NumberedFormula, numbered, assertion_in}
-use Rattle.sm_term.specs.declared.formula.Formula.{Formula}
-use Rattle.sm_term.specs.Sorted.{AreFormsSorted}
-use Rattle.sm_term.specs.Tables.{TableValue, trees_in, sorts_in}
-use Rattle.sm_term.specs.declared.term.TermId.{TermId}
-use Rattle.sm_solve.specs.declared.fact_base.FactBase.{FactBase}
-use Rattle.sm_solve.specs.declared.inconsistent.Inconsistent.{Inconsistent}
-use Rattle.sm_judge.specs.AllForms.{AreAllForms}
-use Rattle.sm_certify.specs.Bases.{IsFrom}
-use Rattle.sm_theory.specs.TermsOfFormulas.{with_formulas}
-use Rattle.sm_list.specs.Branches.{terms_of}
-use Rattle.sm_certify.specs.Given.{IsWhole, classes_by}
-use Rattle.sm_terms.specs.Listing.{numbers_of}
-use Rattle.sm_list.specs.Parts.{all_numbered, assertions_in, AreFormulasWithin}
-use Rattle.sm_list.specs.Shared.{AreShared}
-use Rattle.sm_solve.specs.Sharing.{IsFactBase, room_for_goal}
-use Rattle.sm_solve.specs.Inconsistent.{IsInconsistent}
 use Rattle.sm_solve.proofs.NodeLemmas.{unread}
 use Rattle.sm_list.proofs.PartsLemmas.{within-append}
 use Rattle.sm_solve.proofs.SortedLemmas.{sorted_with}
-use Rattle.sm_term.proofs.SortedForms.{forms_append}
 
 -- facts and what always holds
 numbers_are : (facts list all : List Formula) → all ≡ list ++ tree.Yes ∷ [] → all_numbered list ≡ all_numbered facts →

@@ -1,58 +1,16 @@
 -- Facts of a node that can't hold together: so do these with the contrary of a goal.
-use Rattle.std.proofs.Common.{◌≡◌, ◌⊎◌, ℕ, ℤ, ◌+◌, ◌≤◌, true, false, Bool, IfSome, Some, slice_get, take, drop, get_or, add-one, ⊎_elim, ◌<◌, Result, Ok, Err, OnOk, List, [], ◌∷◌, ◌++◌, length, if◌then◌else◌, refl, sym, ap, subst, ◌∙◌}
-use Rattle.std.proofs.Common.{arith}
-use Rattle.std.specs.List.{range_with_len}
-use Rattle.std.proofs.Math.Seq.{take-suc}
-use Rattle.std.proofs.lemmas.Bool.{cases_Bool}
-use Rattle.std.proofs.lemmas.List.{append-nil, length-append, take-append-drop}
-use Rattle.sm_syntax.specs.text.Sorts.{Sorts}
-use Rattle.sm_num.specs.Forms.{Linear}
+use Rattle.sm_solve.proofs.Imports.{◌≡◌, ◌⊎◌, ℕ, ℤ, ◌+◌, ◌≤◌, true, false, Bool, IfSome, slice_get, take, drop, get_or, add-one, ⊎_elim, ◌<◌, Result, Ok, Err, OnOk, List, [], ◌∷◌, ◌++◌, length, if◌then◌else◌, refl, sym, ap, subst, ◌∙◌, arith, range_with_len, take-suc, cases_Bool, append-nil, length-append, take-append-drop, Sorts, Linear, Outcome, Fits, Assertion, AreFormsSorted, TableValue, trees_in, sorts_in, codes_in, TermId, AddsTerms, Tree, as_facts, Certificate, splits_above, NamesWhatItReads, certificate_in, lines_of, AreLinesWithin, CertTree, IsLedBy, ClassesValue, IsLonger, FactBase, AreAllForms, IsAtGoal, IsFrom, with_formulas, with_parts, terms_of, Refutes, classes_by, seen_by, Seen, is_closed, split_of, numbers_of, all_numbered, assertions_in, AreFormulasWithin, AreTermsOf, AreShared, AreNamed, IsFactBase, room_for_goal, IsInconsistent, IsBelow, ClosesIn, Walked, Closes, by_forms, forms_of, by_classes, by_no_split, by_parts, walk_from, Reach, all_whole, below_grown, same_grown, forms_append}
+use Rattle.std.proofs.Common.{Some}
 use Rattle.sm_num.specs.declared.kind.Kind.{Kind}
-use Rattle.sm_num.specs.Combining.{Outcome, Fits}
-use Rattle.sm_term.specs.Assertions.{Assertion, Yes}
-use Rattle.sm_term.specs.Sorted.{AreFormsSorted}
-use Rattle.sm_term.specs.Tables.{TableValue, trees_in, sorts_in, codes_in}
-use Rattle.sm_term.specs.declared.term.TermId.{TermId}
-use Rattle.sm_term.specs.TableLaws.{AddsTerms}
-use Rattle.sm_term.specs.Terms.{Tree}
-use Rattle.sm_theory.specs.Facts.{as_facts}
-use Rattle.sm_cert.specs.Certificates.{Certificate, splits_above}
-use Rattle.sm_cert.specs.MovedTrees.{NamesWhatItReads}
-use Rattle.sm_cert.specs.Views.{certificate_in, lines_of, AreLinesWithin}
-use Rattle.sm_cert.specs.declared.tree.CertTree.{CertTree}
-use Rattle.sm_cc.specs.BaseClasses.{IsLedBy}
-use Rattle.sm_cc.specs.Views.{ClassesValue}
-use Rattle.sm_pairs.specs.Longer.{IsLonger}
-use Rattle.sm_solve.specs.declared.fact_base.FactBase.{FactBase}
-use Rattle.sm_judge.specs.AllForms.{AreAllForms}
-use Rattle.sm_solve.specs.AtGoal.{IsAtGoal}
-use Rattle.sm_certify.specs.Bases.{IsFrom}
-use Rattle.sm_theory.specs.TermsOfFormulas.{with_formulas}
-use Rattle.sm_list.specs.Branches.{with_parts, terms_of}
-use Rattle.sm_certify.specs.Refutes.{Refutes}
-use Rattle.sm_certify.specs.Given.{classes_by, seen_by}
-use Rattle.sm_judge.specs.Holding.{Seen, is_closed, split_of}
-use Rattle.sm_terms.specs.Listing.{numbers_of}
-use Rattle.sm_list.specs.Parts.{all_numbered, assertions_in, AreFormulasWithin}
-use Rattle.sm_list.specs.Renumbered.{AreTermsOf}
-use Rattle.sm_list.specs.Shared.{AreShared}
-use Rattle.sm_solve.specs.Naming.{AreNamed}
-use Rattle.sm_solve.specs.Sharing.{IsFactBase, room_for_goal}
-use Rattle.sm_solve.specs.Inconsistent.{IsInconsistent, IsBelow}
-use Rattle.sm_solve.specs.Walking.{ClosesIn}
-use Rattle.sm_judge.specs.Forms.{Walked, Closes, by_forms, forms_of}
-use Rattle.sm_solve.specs.Walk.{by_classes, by_no_split, by_parts, walk_from, Reach}
+use Rattle.sm_term.specs.Assertions.{Yes}
 use Rattle.sm_solve.proofs.AtGoalLemmas.{own_grows, counted_longer, count_of}
 use Rattle.sm_solve.proofs.AtomsLemmas.{more_atoms}
 use Rattle.sm_solve.proofs.ClosedLemmas.{closed_more, parts_among}
 use Rattle.sm_judge.proofs.CountedLemmas.{counted_on}
-use Rattle.sm_certify.proofs.GivenLemmas.{all_whole}
-use Rattle.sm_terms.proofs.ListingLemmas.{below_grown, same_grown}
 use Rattle.sm_solve.proofs.NamingLemmas.{named_root}
 use Rattle.sm_solve.proofs.ReplacedLemmas.{closes_in_replaced}
 use Rattle.sm_solve.proofs.SortedLemmas.{sorted_with}
 use Rattle.sm_solve.proofs.WalkingLemmas.{closed_told, open_told}
-use Rattle.sm_term.proofs.SortedForms.{forms_append}
 
 -- the classes of a node are those of its facts
 pub node_led : (table : TableValue) (given : List Assertion) (n : FactBase) → IsFactBase table given n →

@@ -1,33 +1,13 @@
 -- Lines that add the parts of conjunctions lead to the branch that has all parts; trees of the program put
 -- together.
-use Rattle.std.proofs.Common.{◌≡◌, ℕ, zero, suc, ◌+◌, ◌<◌, ◌≤◌, Option, Some, List, [], ◌∷◌, ◌++◌, map, length, drop, get_or, refl, sym, ap, subst, ◌∙◌, arith}
-use Rattle.std.specs.Prelude.{Box}
+use Rattle.sm_solve.proofs.Imports.{◌≡◌, ℕ, zero, suc, ◌+◌, ◌<◌, ◌≤◌, Option, List, [], ◌∷◌, ◌++◌, map, length, drop, get_or, refl, sym, ap, subst, ◌∙◌, arith, Box, append-nil, append_assoc, map-append, length-append, Sorts, Tree, Assertion, NumberedFormula, numbered, assertion_in, Formula, BranchFact, Formal, as_facts, CertificateLine, followed, formula_at, line_in, IsLineWithin, CertLine, Ways, ways, both_parts, splitting, adds, or_other, Certificate, splits_above, first_bad, in_one_way, in_two_ways, lines_in, lines_before, tree_layer, end_layer, certificate_in, end_lines, tree_lines, lines_of, AreLinesWithin, CertTree, CertTree-F, roll-CertTree, fold-roll-CertTree, CertEnd, fold-roll-CertEnd, end_in, tree_is, lines_of_end, lines_are, parts_of, with_parts, Refutes, both_line, both_lines, led_by, all_numbered, assertions_in, with_parts-next}
+use Rattle.std.proofs.Common.{Some}
 use Rattle.std.specs.declared.alloc.Global.{Global}
-use Rattle.std.proofs.lemmas.List.{append-nil, append_assoc, map-append, length-append}
-use Rattle.sm_syntax.specs.text.Sorts.{Sorts}
-use Rattle.sm_term.specs.Terms.{Tree}
-use Rattle.sm_term.specs.Assertions.{Assertion}
-use Rattle.sm_term.specs.Formulas.{NumberedFormula, Yes, No, Eq, Ne, Le, Lt, And, Or, numbered, assertion_in}
-use Rattle.sm_term.specs.declared.formula.Formula.{Formula}
-use Rattle.sm_theory.specs.Facts.{BranchFact, Formal, as_facts}
-use Rattle.sm_theory.specs.Lines.{CertificateLine, followed, formula_at}
-use Rattle.sm_theory.specs.Views.{line_in, IsLineWithin}
-use Rattle.sm_theory.specs.declared.line.CertLine.{CertLine}
-use Rattle.sm_theory.specs.Ways.{Ways, ways, both_parts, splitting, adds}
-use Rattle.sm_theory.specs.Equality.{or_other}
+use Rattle.sm_term.specs.Formulas.{Yes, No, Eq, Ne, Le, Lt, And, Or}
 use Rattle.sm_cert.specs.declared.tree.CertEnd.TheOpen as layer
 use Rattle.sm_cert.specs.declared.tree.CertEnd.TheVariants as ends
-use Rattle.sm_cert.specs.Certificates.{Certificate, Next, Split, splits_above, first_bad, in_one_way, in_two_ways, lines_in}
-use Rattle.sm_cert.specs.Views.{lines_before, tree_layer, end_layer, certificate_in, end_lines, tree_lines, lines_of, AreLinesWithin}
-use Rattle.sm_cert.specs.declared.tree.CertTree.{CertTree, CertTree-F, roll-CertTree, fold-roll-CertTree}
-use Rattle.sm_cert.specs.declared.tree.CertEnd.{CertEnd, fold-roll-CertEnd}
+use Rattle.sm_cert.specs.Certificates.{Next, Split}
 use Rattle.sm_cert.specs.declared.tree.CertEnd.TheVariants.{rolls-Split}
-use Rattle.sm_cert.proofs.CheckLemmas.{end_in, tree_is, lines_of_end, lines_are}
-use Rattle.sm_list.specs.Branches.{parts_of, with_parts}
-use Rattle.sm_certify.specs.Refutes.{Refutes}
-use Rattle.sm_solve.specs.Leading.{both_line, both_lines, led_by}
-use Rattle.sm_list.specs.Parts.{all_numbered, assertions_in}
-use Rattle.sm_list.proofs.PartsLemmas.{with_parts-next}
 use Rattle.sm_list.proofs.RenumberLemmas.{within-append}
 
 -- lines of the program before a certificate

@@ -1,3 +1,4 @@
+mod Imports
 pub mod AtGoalLemmas
 pub mod AtomsLemmas
 pub mod BasesLemmas

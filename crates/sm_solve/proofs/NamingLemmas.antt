@@ -1,28 +1,11 @@
 -- The terms of a walk: those of its formulas stand in front, and what a split adds names no others.
-use Rattle.std.proofs.Common.{◌≡◌, ℕ, zero, suc, Bool, true, false, ◌||◌, not, if◌then◌else◌, Option, Some, None, List, [], ◌∷◌, ◌++◌, map, refl, sym, ap, subst, ◌∙◌}
-use Rattle.std.specs.List.{AllByRecursion}
-use Rattle.sm_syntax.specs.text.Sorts.{Sorts}
+use Rattle.sm_solve.proofs.Imports.{◌≡◌, ℕ, zero, suc, Bool, true, false, ◌||◌, not, if◌then◌else◌, Option, None, List, [], ◌∷◌, ◌++◌, map, refl, sym, ap, subst, ◌∙◌, AllByRecursion, Sorts, Num, Tree, Read, Write, arguments_of, Assertion, numbered, assertion_in, same_sort, or_other, put, is_among, with_formulas, all_terms, AllAmong, IsClosed, put_there, put_new, closed_none, closed_with_formulas, greatest_of, writes_on, depth_of, with_parts, put_if, read_before, with_reads, with_all_reads, terms_of, FormulaAmong, FormulasAmong, formulas_among, BranchSplit, Seen, is_fact, is_held, first_of, index_split, part_split, order_split, split_of, split_told, seen_by, AreNamed, NamesNoMore, NameNoMore, with_formulas-append, same_with_formulas}
+use Rattle.std.proofs.Common.{Some}
 use Rattle.sm_syntax.specs.declared.tree.Sort.{Sort}
-use Rattle.sm_syntax.specs.declared.tree.Sort.TheVariants.{Num}
-use Rattle.sm_term.specs.Terms.{Tree, Read, Write}
-use Rattle.sm_term.specs.Heads.{arguments_of}
-use Rattle.sm_term.specs.Assertions.{Assertion, Yes, No, Eq, Ne, Le, Lt, And, Or}
-use Rattle.sm_term.specs.Formulas.{numbered, assertion_in}
-use Rattle.sm_term.specs.SameTerms.{same_sort}
-use Rattle.sm_theory.specs.Equality.{or_other}
-use Rattle.sm_theory.specs.TermsOfFormulas.{put, is_among, with_formulas, all_terms}
-use Rattle.sm_terms.specs.Listing.{AllAmong, IsClosed}
-use Rattle.sm_terms.proofs.WithTermLemmas.{put_there, put_new, closed_none, closed_with_formulas}
-use Rattle.sm_list.specs.Branches.{greatest_of, writes_on, depth_of, with_parts, put_if, read_before, with_reads, with_all_reads, terms_of}
-use Rattle.sm_list.proofs.BuiltLemmas.{FormulaAmong, FormulasAmong, formulas_among}
+use Rattle.sm_term.specs.Assertions.{Yes, No, Eq, Ne, Le, Lt, And, Or}
 use Rattle.sm_list.proofs.ReadsLemmas.{all_themselves}
-use Rattle.sm_judge.specs.declared.closing.BranchSplit.{BranchSplit}
-use Rattle.sm_judge.specs.Holding.{Seen, Split, is_fact, is_held, first_of, index_split, part_split, order_split, split_of}
-use Rattle.sm_judge.specs.Splits.{split_told}
-use Rattle.sm_certify.specs.Given.{seen_by}
-use Rattle.sm_solve.specs.Naming.{AreNamed, NamesNoMore, NameNoMore}
+use Rattle.sm_judge.specs.Holding.{Split}
 use Rattle.sm_solve.proofs.NodeLemmas.{those_behind, apart_among}
-use Rattle.sm_certify.proofs.NamingLemmas.{with_formulas-append, same_with_formulas}
 
 -- the arguments of each term are among others
 abbrev HaveArguments : List Tree → List Tree → Type 0

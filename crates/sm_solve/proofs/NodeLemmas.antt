@@ -1,30 +1,9 @@
 -- The facts of a node with the contrary of a goal at its place: behind them stand their parts as they
 -- stood, or those of the contrary alone, and the terms of the goal go behind those of the facts.
-use Rattle.std.proofs.Common.{◌≡◌, ℕ, zero, suc, ◌+◌, max, Bool, true, false, Option, Some, None, List, [], ◌∷◌, ◌++◌, map, length, slice_get, slice_set, take, refl, sym, ap, ◌∙◌, subst, arith}
-use Rattle.std.proofs.lemmas.List.{append-nil, append_assoc, length-append, length-set, map-set}
-use Rattle.std.proofs.lemmas.Option.{same_Some}
-use Rattle.std.proofs.Math.Seq.{set-append_seam, take-append_seam}
-use Rattle.sm_syntax.specs.text.Sorts.{Sorts}
+use Rattle.sm_solve.proofs.Imports.{◌≡◌, ℕ, zero, suc, ◌+◌, max, Bool, true, false, Option, None, List, [], ◌∷◌, ◌++◌, map, length, slice_get, slice_set, take, refl, sym, ap, ◌∙◌, subst, arith, append-nil, append_assoc, length-append, length-set, map-set, same_Some, set-append_seam, take-append_seam, Sorts, Tree, arguments_of, Assertion, numbered, assertion_in, IsFormulaWithin, Formula, GivenFact, put, with_term, with_formula, with_formulas, is_among, AreAllGiven, greatest_of, writes_on, parts_of, parts_of_all, depth_of, taken_apart, with_parts, put_if, read_before, with_reads, with_all_reads, terms_of, given_from, all_numbered, assertions_in, AreFormulasWithin, with_those_before, room_for_goal, FormulaAmong, FormulasAmong, formulas_among, given_from-cons, flat_parts, shallow_below, with_parts-next, queue_from, queue_last, AllOf, by_arguments, with_terms, with_term_is, put_there, put_new, closed_none, closed_with_formulas, with_formulas-append, same_with_formulas, no_items}
+use Rattle.std.proofs.Common.{Some}
 use Rattle.sm_term.specs.declared.formula.Formula.TheVariants as tree
-use Rattle.sm_term.specs.Terms.{Tree}
-use Rattle.sm_term.specs.Heads.{arguments_of}
-use Rattle.sm_term.specs.Assertions.{Assertion, Yes, No, Eq, Ne, Le, Lt, And, Or}
-use Rattle.sm_term.specs.Formulas.{numbered, assertion_in, IsFormulaWithin}
-use Rattle.sm_term.specs.declared.formula.Formula.{Formula}
-use Rattle.sm_cc.specs.declared.classes.GivenFact.{GivenFact}
-use Rattle.sm_theory.specs.TermsOfFormulas.{put, with_term, with_formula, with_formulas, is_among}
-use Rattle.sm_cc.specs.BaseClasses.{AreAllGiven}
-use Rattle.sm_list.specs.Branches.{greatest_of, writes_on, parts_of, parts_of_all, depth_of, taken_apart, with_parts, put_if, read_before, with_reads, with_all_reads, terms_of}
-use Rattle.sm_certify.specs.Given.{given_from}
-use Rattle.sm_list.specs.Parts.{all_numbered, assertions_in, AreFormulasWithin}
-use Rattle.sm_list.specs.Shared.{with_those_before}
-use Rattle.sm_solve.specs.Sharing.{room_for_goal}
-use Rattle.sm_list.proofs.BuiltLemmas.{FormulaAmong, FormulasAmong, formulas_among}
-use Rattle.sm_certify.proofs.GivenLemmas.{given_from-cons}
-use Rattle.sm_list.proofs.PartsLemmas.{flat_parts, shallow_below, with_parts-next, queue_from, queue_last}
-use Rattle.sm_terms.proofs.WithTermLemmas.{AllOf, by_arguments, with_terms, with_term_is, put_there, put_new, closed_none, closed_with_formulas}
-use Rattle.sm_certify.proofs.NamingLemmas.{with_formulas-append, same_with_formulas}
-use Rattle.sm_lemmas.proofs.Lists.{no_items}
+use Rattle.sm_term.specs.Assertions.{Yes, No, Eq, Ne, Le, Lt, And, Or}
 
 -- what is no conjunction has no parts
 no_parts : (n : Assertion) → depth_of n ≡ 0 → parts_of n ≡ []

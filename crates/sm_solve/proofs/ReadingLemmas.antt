@@ -1,16 +1,7 @@
 -- Lines that read only the facts that they name, one after the other.
-use Rattle.std.proofs.Common.{◌≡◌, ◌<◌, ◌+◌, ℕ, false, get_or, List, [], ◌∷◌, ◌++◌, length, take, refl, sym, ap, subst, ◌∙◌}
-use Rattle.std.proofs.lemmas.List.{take_more}
-use Rattle.sm_term.specs.Terms.{Tree}
-use Rattle.sm_theory.specs.Named.{reads_all}
-use Rattle.sm_theory.specs.Views.{line_in}
-use Rattle.sm_theory.specs.declared.line.CertLine.{CertLine}
+use Rattle.sm_solve.proofs.Imports.{◌≡◌, ◌<◌, ◌+◌, ℕ, false, get_or, List, [], ◌∷◌, ◌++◌, length, take, refl, sym, ap, subst, ◌∙◌, take_more, Tree, reads_all, line_in, CertLine, Certificate, Closed, NamesWhatItReads, certificate_in, lines_before, CertTree, tree_closed}
 use Rattle.sm_cert.specs.declared.tree.CertEnd.TheVariants as ends
-use Rattle.sm_cert.specs.Certificates.{Certificate, Next, Closed}
-use Rattle.sm_cert.specs.MovedTrees.{NamesWhatItReads}
-use Rattle.sm_cert.specs.Views.{certificate_in, lines_before}
-use Rattle.sm_cert.specs.declared.tree.CertTree.{CertTree}
-use Rattle.sm_cert.proofs.CheckLemmas.{tree_closed}
+use Rattle.sm_cert.specs.Certificates.{Next}
 
 -- what stands under lines names what it reads, and so do they
 abbrev pub LeadTo : List CertLine → Type 0

@@ -1,37 +1,15 @@
 -- A fact that says nothing is of no use to a certificate: what closes the branch closes each other
 -- branch on which another fact stands in its place.
-use Rattle.std.proofs.Common.{◌≡◌, ◌≢◌, ◌⊎◌, ℕ, zero, suc, ◌+◌, Bool, true, false, ◌&&◌, nat_eq, slice_get, Option, Some, None, List, [], ◌∷◌, ◌++◌, length, inl, inr, refl, ap, sym, ◌∙◌, subst, arith, eq-eqb}
-use Rattle.std.specs.Prelude.{IsFalse}
-use Rattle.std.proofs.lemmas.List.{length-append}
-use Rattle.std.proofs.lemmas.Bool.{and_parts, and_from, eqb-true}
-use Rattle.sm_syntax.specs.text.Sorts.{Sorts}
-use Rattle.sm_syntax.specs.declared.tree.Sort.TheVariants.{Num}
-use Rattle.sm_num.specs.Forms.{Linear}
-use Rattle.sm_num.specs.Tightening.{tightened}
-use Rattle.sm_term.specs.Terms.{Tree, Read}
-use Rattle.sm_term.specs.Assertions.{Assertion, Yes, Eq}
-use Rattle.sm_term.specs.Sorted.{tree_sort}
-use Rattle.sm_term.specs.SameTerms.{same_tree}
-use Rattle.sm_term.specs.Heads.{arguments_of, same_head}
-use Rattle.sm_theory.specs.Facts.{BranchFact, Formal, Sum, as_facts}
-use Rattle.sm_theory.specs.Named.{reads_all}
-use Rattle.sm_theory.specs.Lines.{CertificateLine, Both, Either, Cases, Order, Refl, Sym, Trans, Subst, Cong, Same, Apart, Hit, Miss, Lin, Elim, Tight, Close, Clash, followed, Sides, formula_in, form_in, equal_sides, unequal_sides, form_at}
-use Rattle.sm_theory.specs.Lines.{equation_at, contrary_at}
-use Rattle.sm_theory.specs.Equality.{formula_if, turned_equation, turned_contrary, or_other, chained, substituted, says_equal, say_equal, is_inhabited_list, equality_adds}
+use Rattle.sm_solve.proofs.Imports.{◌≡◌, ◌≢◌, ◌⊎◌, ℕ, zero, suc, ◌+◌, Bool, true, false, ◌&&◌, nat_eq, slice_get, Option, None, List, [], ◌∷◌, ◌++◌, length, inl, inr, refl, ap, sym, ◌∙◌, subst, arith, IsFalse, length-append, and_parts, and_from, eqb-true, Sorts, Num, Linear, tightened, Tree, Read, Assertion, tree_sort, same_tree, arguments_of, same_head, BranchFact, Formal, Sum, as_facts, reads_all, CertificateLine, Both, Either, Cases, Order, Refl, Sym, Trans, Subst, Cong, Same, Apart, Hit, Miss, Lin, Elim, Tight, Close, Clash, followed, Sides, formula_in, form_in, equal_sides, unequal_sides, form_at, equation_at, contrary_at, formula_if, turned_equation, turned_contrary, or_other, chained, substituted, says_equal, say_equal, is_inhabited_list, equality_adds, arithmetic_adds, form_of_comparison, cancelled, Ways, adding, closing_if, both_parts, either_part, ordered, cannot_hold, ways_with, adds, Certificate, Closed, lines_in, in_one_way, in_no_way, in_two_ways, first_bad, NamesWhatItReads, certificate_in, CertTree, ClosesIn, adding_gives, closing_gives}
+use Rattle.std.proofs.Common.{Some, eq-eqb}
+use Rattle.sm_term.specs.Assertions.{Yes, Eq}
 use Rattle.sm_theory.specs.Elements.{Written}
-use Rattle.sm_theory.specs.Arithmetic.{arithmetic_adds, form_of_comparison, cancelled}
-use Rattle.sm_theory.specs.Ways.{Ways, adding, closing_if, both_parts, either_part, ordered, cannot_hold, ways_with, adds}
 use Rattle.sm_theory.proofs.FactsLemmas.{Gives, followed_gives, gives_itself}
 use Rattle.sm_theory.proofs.EqualityLemmas.{says_moves, formula_if_moves}
-use Rattle.sm_cert.specs.Certificates.{Certificate, Next, Closed, Split, lines_in, in_one_way, in_no_way, in_two_ways, first_bad}
-use Rattle.sm_cert.specs.MovedTrees.{NamesWhatItReads}
-use Rattle.sm_cert.specs.Views.{certificate_in}
-use Rattle.sm_cert.specs.declared.tree.CertTree.{CertTree}
-use Rattle.sm_solve.specs.Walking.{ClosesIn}
+use Rattle.sm_cert.specs.Certificates.{Next, Split}
 use Rattle.sm_cert.proofs.CertificateMoves.{both_none, parts_none}
 use Rattle.sm_theory.proofs.TheoriesLemmas.{first_alone}
 use Rattle.sm_theory.proofs.ElementsLemmas.{read_gives}
-use Rattle.sm_theory.proofs.WaysLemmas.{adding_gives, closing_gives}
 
 -- the second has what the first has, or the first says nothing
 abbrev MayGive : Option BranchFact → Option BranchFact → Type 0

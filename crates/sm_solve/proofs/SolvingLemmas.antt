@@ -1,32 +1,10 @@
 -- What is given to the walk of an obligation, and what its end says under other numbers.
-use Rattle.std.proofs.Common.{◌≡◌, ℕ, ◌+◌, ◌<◌, nat_lt, Bool, true, false, List, [], ◌∷◌, ◌++◌, length, take, get_or, refl, sym, ap, subst, ◌∙◌, arith}
-use Rattle.std.proofs.lemmas.Bool.{ltb-true}
-use Rattle.std.proofs.lemmas.List.{map-append, take_more}
-use Rattle.sm_syntax.specs.text.Sorts.{Sorts}
-use Rattle.sm_term.specs.Terms.{Tree}
-use Rattle.sm_term.specs.Assertions.{Assertion, negate}
-use Rattle.sm_term.specs.Sorted.{IsFormSorted, AreFormsSorted}
-use Rattle.sm_term.specs.Formulas.{NumberedFormula, numbered, contrary, assertion_in, IsFormulaWithin}
-use Rattle.sm_term.specs.declared.formula.Formula.{Formula}
-use Rattle.sm_term.proofs.FormulasLemmas.{contrary_negates}
-use Rattle.sm_theory.specs.Facts.{as_facts}
-use Rattle.sm_theory.specs.Ways.{adds}
-use Rattle.sm_cert.specs.Certificates.{Certificate, bad_line, splits_above}
-use Rattle.sm_cert.specs.Views.{certificate_in, lines_of, AreLinesWithin}
-use Rattle.sm_cert.specs.declared.tree.CertTree.{CertTree}
+use Rattle.sm_solve.proofs.Imports.{◌≡◌, ℕ, ◌+◌, ◌<◌, nat_lt, Bool, true, false, List, [], ◌∷◌, ◌++◌, length, take, get_or, refl, sym, ap, subst, ◌∙◌, arith, ltb-true, map-append, take_more, Sorts, Tree, Assertion, negate, IsFormSorted, AreFormsSorted, NumberedFormula, numbered, contrary, assertion_in, IsFormulaWithin, Formula, contrary_negates, as_facts, adds, Certificate, bad_line, splits_above, certificate_in, lines_of, AreLinesWithin, CertTree, Certifies, with_parts, terms_of, Refutes, all_numbered, assertions_in, AreFormulasWithin, walk_from, Reach, ClosesIn, Shows, contrary_within, forms_append, negate_sorted}
 use Rattle.sm_cert.proofs.TreeLemmas.{refused_flat}
 use Rattle.sm_solve.specs.declared.solving.Answer.{Answer}
 use Rattle.sm_solve.specs.declared.solving.Answer.TheVariants as answer
-use Rattle.sm_solve.specs.Answers.{Certifies}
-use Rattle.sm_list.specs.Branches.{with_parts, terms_of}
-use Rattle.sm_certify.specs.Refutes.{Refutes}
-use Rattle.sm_list.specs.Parts.{all_numbered, assertions_in, AreFormulasWithin}
-use Rattle.sm_solve.specs.Walk.{walk_from, Reach}
-use Rattle.sm_solve.specs.Walking.{ClosesIn, Shows}
 use Rattle.sm_list.proofs.PartsLemmas.{within-append}
 use Rattle.sm_solve.proofs.SortedLemmas.{sorted_with}
-use Rattle.sm_term.proofs.FormsLemmas.{contrary_within}
-use Rattle.sm_term.proofs.SortedForms.{forms_append, negate_sorted}
 
 -- the facts and the contrary of the target
 pub given_is : (sorts : Sorts) (trees : List Tree) (facts list all : List Formula) (target other : Formula) →

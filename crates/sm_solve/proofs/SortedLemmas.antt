@@ -1,23 +1,9 @@
 -- The parts of sorted formulas, and those by which a line splits a branch, are sorted.
-use Rattle.std.proofs.Common.{◌≡◌, ℕ, zero, suc, Option, Some, None, List, [], ◌∷◌, ◌++◌, map, length}
-use Rattle.sm_syntax.specs.text.Sorts.{Sorts}
-use Rattle.sm_term.specs.Terms.{Tree}
-use Rattle.sm_term.specs.Assertions.{Assertion, Yes, No, Eq, Ne, Le, Lt, And, Or}
-use Rattle.sm_term.specs.Formulas.{numbered, assertion_in}
-use Rattle.sm_term.specs.Sorted.{IsFormSorted, AreFormsSorted}
-use Rattle.sm_term.specs.TableLaws.{AreTreesSorted}
-use Rattle.sm_theory.specs.Facts.{BranchFact, Formal, as_facts}
-use Rattle.sm_theory.specs.Lines.{CertificateLine, Both, Either, Cases, Order, Close, Clash}
+use Rattle.sm_solve.proofs.Imports.{◌≡◌, ℕ, zero, suc, Option, None, List, [], ◌∷◌, ◌++◌, map, length, Sorts, Tree, Assertion, numbered, assertion_in, IsFormSorted, AreFormsSorted, AreTreesSorted, BranchFact, Formal, as_facts, CertificateLine, Both, Either, Cases, Order, Close, Clash, line_in, ways_with, adds, ways_with_sorted, adding_from, line_sorted, BranchSplit, greatest_of, depth_of, parts_of, parts_of_all, taken_apart, with_parts, IsToldWithin, SplitsBranch, forms_append}
+use Rattle.std.proofs.Common.{Some}
+use Rattle.sm_term.specs.Assertions.{Yes, No, Eq, Ne, Le, Lt, And, Or}
 use Rattle.sm_theory.specs.SortedFacts.{IsFactSorted, AreFactsSorted, IsLineSorted}
 use Rattle.sm_theory.specs.Laws.{EachWay}
-use Rattle.sm_theory.specs.Views.{line_in}
-use Rattle.sm_theory.specs.Ways.{ways_with, adds}
-use Rattle.sm_theory.proofs.WaysLemmas.{ways_with_sorted, adding_from}
-use Rattle.sm_cert.proofs.CheckLemmas.{line_sorted}
-use Rattle.sm_judge.specs.declared.closing.BranchSplit.{BranchSplit}
-use Rattle.sm_list.specs.Branches.{greatest_of, depth_of, parts_of, parts_of_all, taken_apart, with_parts}
-use Rattle.sm_judge.specs.Splits.{IsToldWithin, SplitsBranch}
-use Rattle.sm_term.proofs.SortedForms.{forms_append}
 use Rattle.sm_theory.proofs.SortedFacts.{as_facts_sorted}
 
 sorted_part : (sorts : Sorts) (f : Assertion) → IsFormSorted sorts f → AreFormsSorted sorts (parts_of f)

@@ -1,23 +1,6 @@
 -- A node over a table that has got more terms.
-use Rattle.std.proofs.Common.{IfSome, List, [], ◌∷◌, ◌++◌, length, sym, ap, ◌∙◌, subst, arith}
-use Rattle.std.proofs.lemmas.List.{length-append}
-use Rattle.sm_syntax.specs.text.Sorts.{Sorts}
-use Rattle.sm_term.specs.Assertions.{Assertion, Yes}
-use Rattle.sm_term.specs.Formulas.{NumberedFormula, assertion_in, IsFormulaWithin}
-use Rattle.sm_term.specs.Sorted.{AreFormsSorted}
-use Rattle.sm_term.specs.Tables.{TableValue, trees_in, sorts_in}
-use Rattle.sm_term.specs.TableLaws.{AreApart, AddsTerms}
-use Rattle.sm_term.specs.Terms.{Tree}
-use Rattle.sm_term.proofs.FormsLemmas.{assertion-more}
-use Rattle.sm_solve.specs.declared.fact_base.FactBase.{FactBase}
-use Rattle.sm_list.specs.declared.shared.SharedTerms.{SharedTerms}
-use Rattle.sm_theory.specs.TermsOfFormulas.{with_formulas}
-use Rattle.sm_list.specs.Parts.{all_numbered, assertions_in, AreFormulasWithin}
-use Rattle.sm_list.specs.Shared.{AreShared}
-use Rattle.sm_solve.specs.Sharing.{IsFactBase, room_for_goal}
-use Rattle.sm_solve.specs.Inconsistent.{IsInconsistent}
-use Rattle.sm_terms.proofs.ListingLemmas.{below_grown, same_grown}
-use Rattle.sm_list.proofs.OwnLemmas.{facts_grown}
+use Rattle.sm_solve.proofs.Imports.{IfSome, List, [], ◌∷◌, ◌++◌, length, sym, ap, ◌∙◌, subst, arith, length-append, Sorts, Assertion, NumberedFormula, assertion_in, IsFormulaWithin, AreFormsSorted, TableValue, trees_in, sorts_in, AreApart, AddsTerms, Tree, assertion-more, FactBase, SharedTerms, with_formulas, all_numbered, assertions_in, AreFormulasWithin, AreShared, IsFactBase, room_for_goal, IsInconsistent, below_grown, same_grown, facts_grown}
+use Rattle.sm_term.specs.Assertions.{Yes}
 use Rattle.sm_list.proofs.SharedLemmas.{placed_grown}
 
 -- the terms in a table of their own are still those of a table that has got more

@@ -1,15 +1,10 @@
 -- Small walks, each with what it comes to, worked by hand.
-use Rattle.std.proofs.Common.{◌≡◌, ℕ, true, false, refl, [], ◌∷◌}
-use Rattle.std.specs.Prelude.{Some, pos}
-use Rattle.sm_syntax.specs.text.Sorts.{Sorts}
-use Rattle.sm_syntax.specs.declared.tree.Sort.TheVariants.{Num}
-use Rattle.sm_term.specs.Terms.{Tree, Start, Lit, Add}
+use Rattle.sm_solve.proofs.Imports.{◌≡◌, ℕ, true, false, refl, [], ◌∷◌, pos, Sorts, Num, Tree, Start, Lit, Add, Closes, Opens, TooFar, walk, Reach}
+use Rattle.std.specs.Prelude.{Some}
 use Rattle.sm_term.specs.Assertions.{Eq, Ne, Le, Lt, And, Yes, No}
 use Rattle.sm_num.specs.Eliminating.{gcd}
 use Rattle.sm_omega.specs.Exact.{exact}
 use Rattle.sm_cc.specs.Rounds.{are_equal}
-use Rattle.sm_judge.specs.Forms.{Closes, Opens, TooFar}
-use Rattle.sm_solve.specs.Walk.{walk, Reach}
 
 -- all names are numbers
 abbrev numbers : Sorts

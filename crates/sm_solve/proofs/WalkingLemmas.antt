@@ -1,32 +1,8 @@
 -- The walk from a branch, by its visits and its parts.
-use Rattle.std.proofs.Common.{◌≡◌, ℕ, zero, suc, ◌+◌, ◌-◌, ◌<◌, max, Bool, true, false, if◌then◌else◌, Option, Some, None, List, [], ◌∷◌, ◌++◌, length, take, drop, refl, sym, ap, subst, ◌∙◌, arith}
-use Rattle.std.proofs.lemmas.Bool.{lt-ltb}
-use Rattle.std.proofs.lemmas.List.{drop-map}
-use Rattle.sm_syntax.specs.text.Sorts.{Sorts}
-use Rattle.sm_term.specs.Terms.{Tree}
-use Rattle.sm_term.specs.Assertions.{Assertion}
-use Rattle.sm_term.specs.Formulas.{numbered, assertion_in}
-use Rattle.sm_term.specs.declared.formula.Formula.{Formula}
-use Rattle.sm_theory.specs.Facts.{as_facts}
-use Rattle.sm_theory.specs.Views.{line_in}
-use Rattle.sm_theory.specs.declared.line.CertLine.{CertLine}
-use Rattle.sm_theory.specs.Ways.{ways, splitting}
-use Rattle.sm_pairs.specs.Longer.{IsLonger}
+use Rattle.sm_solve.proofs.Imports.{◌≡◌, ℕ, zero, suc, ◌+◌, ◌-◌, ◌<◌, max, Bool, true, false, if◌then◌else◌, Option, None, List, [], ◌∷◌, ◌++◌, length, take, drop, refl, sym, ap, subst, ◌∙◌, arith, lt-ltb, drop-map, Sorts, Tree, Assertion, numbered, assertion_in, Formula, as_facts, line_in, CertLine, ways, splitting, IsLonger, splits_above, certificate_in, lines_of, AreLinesWithin, CertTree, BranchSplit, with_parts, Refutes, Seen, is_closed, split_of, seen_by, both_lines, led_by, all_numbered, assertions_in, Walked, Closes, TooFar, counted, by_forms, forms_of, by_classes, by_no_split, by_parts, walk_from, Reach, split_told, ClosesIn, by_split}
+use Rattle.std.proofs.Common.{Some}
 use Rattle.sm_cert.specs.Certificates as tree
-use Rattle.sm_cert.specs.Certificates.{splits_above}
-use Rattle.sm_cert.specs.Views.{certificate_in, lines_of, AreLinesWithin}
-use Rattle.sm_cert.specs.declared.tree.CertTree.{CertTree}
-use Rattle.sm_judge.specs.declared.closing.BranchSplit.{BranchSplit}
-use Rattle.sm_list.specs.Branches.{with_parts}
-use Rattle.sm_certify.specs.Refutes.{Refutes}
-use Rattle.sm_judge.specs.Holding.{Seen, Split, is_closed, split_of}
-use Rattle.sm_certify.specs.Given.{seen_by}
-use Rattle.sm_solve.specs.Leading.{both_lines, led_by}
-use Rattle.sm_list.specs.Parts.{all_numbered, assertions_in}
-use Rattle.sm_judge.specs.Forms.{Walked, Closes, TooFar, counted, by_forms, forms_of}
-use Rattle.sm_solve.specs.Walk.{by_classes, by_no_split, by_parts, walk_from, Reach}
-use Rattle.sm_judge.specs.Splits.{split_told}
-use Rattle.sm_solve.specs.Walking.{ClosesIn, by_split}
+use Rattle.sm_judge.specs.Holding.{Split}
 use Rattle.sm_solve.proofs.LeadingLemmas.{both_refutes, split_refutes, led_splits}
 
 -- a step is counted where one is left

@@ -1,11 +1,7 @@
 -- Digits that are taken from the last hole on, and turned round.
-use Rattle.std.proofs.Common.{◌≡◌, ℕ, suc, ◌+◌, ◌-◌, ◌/◌, ◌%◌, ◌^◌, ◌<◌, ◌≤◌, zero, List, [], ◌∷◌, ◌++◌, map, length, length-append, reverse, refl, sym, ap, ◌∙◌, append_assoc, arith, lit<}
+use Rattle.sm_suggest.proofs.Imports.{◌≡◌, ℕ, suc, ◌+◌, ◌-◌, ◌/◌, ◌%◌, ◌^◌, ◌<◌, ◌≤◌, zero, List, [], ◌∷◌, ◌++◌, map, length, length-append, reverse, refl, sym, ap, ◌∙◌, append_assoc, arith, lit<, Copy, CopyName, copy_named, choices, copy_of_digit}
 use Rattle.std.proofs.Math.Nat.{pow-suc}
 use Rattle.std.proofs.lemmas.List.{length-map, reverse-append}
-use Rattle.sm_syntax.specs.claim.ConflictFree.{Copy}
-use Rattle.sm_syntax.specs.declared.copies.CopyName.{CopyName}
-use Rattle.sm_syntax.specs.trees.Copies.{copy_named}
-use Rattle.sm_suggest.specs.Combinations.{choices, copy_of_digit}
 
 -- one digit more is taken of what is left, and stands before those that were taken
 choices_more : (left rest : ℕ) (taken : List Copy) → 0 < left →

@@ -1,17 +1,8 @@
 -- A task that is made of copies of another's parts, and of a candidate.
-use Rattle.std.proofs.Common.{◌≡◌, ℕ, Option, option_map, ap, ◌∙◌}
+use Rattle.sm_suggest.proofs.Imports.{◌≡◌, ℕ, Option, option_map, ap, ◌∙◌, Copy, O, A, B, M, Fillings, Condition, Code, holes_of, Parts, condition_of, code_of, ProgramParts, program_parts, lists_of, parts_of, Task, choices, chosen, hole_count, combination}
 use Rattle.std.proofs.Math.Path.{fun_ext}
-use Rattle.sm_syntax.specs.claim.ConflictFree.{Copy, O, A, B, M}
-use Rattle.sm_syntax.specs.claim.Fill.{Fillings}
-use Rattle.sm_syntax.specs.claim.Syntax.{Condition, Code}
 use Rattle.sm_syntax.specs.declared.program.Filling.{Filling}
-use Rattle.sm_syntax.specs.text.Conditions.{holes_of}
-use Rattle.sm_syntax.specs.text.Parts.{Parts}
 use Rattle.sm_syntax.specs.trees.Programs.{fillings_of}
-use Rattle.sm_syntax.specs.trees.Views.{condition_of, code_of}
-use Rattle.sm_text.specs.Tasks.{ProgramParts, program_parts, lists_of, parts_of}
-use Rattle.sm_text.specs.declared.task.Task.{Task}
-use Rattle.sm_suggest.specs.Combinations.{choices, chosen, hole_count, combination}
 
 -- a filling, as what it stands for
 abbrev pub entry : Filling → ℕ × Code

@@ -1,13 +1,9 @@
 -- What a call of a decision says, and how many combinations there are.
-use Rattle.std.proofs.Common.{◌≡◌, ℕ, ◌^◌, Bool, Result, Ok, Err, IfOk, refl, ap, subst, ◌∙◌}
+use Rattle.sm_suggest.proofs.Imports.{◌≡◌, ℕ, ◌^◌, Bool, Result, Ok, Err, IfOk, refl, ap, subst, ◌∙◌, Parts, parts_of, Task, MayAnswer}
 use Rattle.std.proofs.lemmas.Fn.{says_at}
 use Rattle.std.specs.Borrow.{Bor}
 use Rattle.std.specs.Fn.{Shared}
 use Rattle.std.specs.declared.alloc.AllocError.{AllocError}
-use Rattle.sm_syntax.specs.text.Parts.{Parts}
-use Rattle.sm_text.specs.Tasks.{parts_of}
-use Rattle.sm_text.specs.declared.task.Task.{Task}
-use Rattle.sm_suggest.specs.First.{MayAnswer}
 
 -- what a call gave is what the decision may answer
 pub answered : {F : Type 0} (calls : Shared F (Bor Task × Unit {0}) (Result Bool AllocError)) (decide : F) (task : Bor Task)

@@ -1,24 +1,13 @@
 -- Each combination of a task that is fit is fit.
-use Rattle.std.proofs.Common.{◌≡◌, ◌⊎◌, inl, inr, ℕ, ◌==◌, Bool, true, false, if◌then◌else◌, Option, Some, None, List, [], ◌∷◌, refl, sym, ap, subst, arith}
+use Rattle.sm_suggest.proofs.Imports.{◌≡◌, ◌⊎◌, inl, inr, ℕ, ◌==◌, Bool, true, false, if◌then◌else◌, Option, Some, None, List, [], ◌∷◌, refl, sym, ap, subst, arith, Copy, O, A, B, M, program_of, Fillings, filling, fill, Code, End, Skip, Assign, Write, If, While, Hole, append, Refusal, sort_refusal, holes_of, Parts, sort_of, task_of, Sorts, IsAsDeclared, IsWellSorted, Sort, has_hole, choices, chosen, hole_count, combination, IsFit, CombinationsAreFit, none_of_lists}
 use Rattle.std.proofs.lemmas.Bool.Decides.{nat_tests}
 use Rattle.std.specs.List.{AllByRecursion}
 use Rattle.std.specs.Option.{option_or}
 use Rattle.sm_syntax.proofs.EachUse.{well_sorted_is_all}
-use Rattle.sm_syntax.specs.claim.ConflictFree.{Copy, O, A, B, M, program_of}
-use Rattle.sm_syntax.specs.claim.Fill.{Fillings, filling, fill}
-use Rattle.sm_syntax.specs.claim.Syntax.{Code, End, Skip, Assign, Write, If, While, Hole, append}
-use Rattle.sm_syntax.specs.text.Conditions.{Refusal, first_sort_fault, sort_refusal, holes_of}
-use Rattle.sm_syntax.specs.text.Parts.{Parts, sort_of, task_of}
-use Rattle.sm_syntax.specs.text.Sorts.{Sorts, IsAsDeclared, IsWellSorted}
-use Rattle.sm_syntax.specs.declared.tree.Sort.{Sort}
+use Rattle.sm_syntax.specs.text.Conditions.{first_sort_fault}
 use Rattle.sm_syntax.specs.declared.tree.Sort.TheVariants.{Num, Arr}
 use Rattle.sm_syntax.specs.text.Uses.{names_used, EachUsed}
 use Rattle.sm_replay.specs.Sorted.{names_assumed, sort_fault}
-use Rattle.sm_moves.specs.CodeShapes.{has_hole}
-use Rattle.sm_suggest.specs.Combinations.{choices, chosen, hole_count, combination}
-use Rattle.sm_suggest.specs.Fit.{IsFit}
-use Rattle.sm_suggest.specs.Laws.{CombinationsAreFit}
-use Rattle.sm_syntax.proofs.Refusals.{none_of_lists}
 
 -- for each hole a list has what some copy has for it, or nothing
 abbrev IsMix : (Copy → Fillings) → Fillings → Type 0

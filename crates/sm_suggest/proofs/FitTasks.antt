@@ -1,20 +1,10 @@
 -- A task that some text spells is fit for a decision.
-use Rattle.std.proofs.Common.{◌≡◌, ℕ, false, Option, Some, None, List, [], ◌∷◌, refl}
-use Rattle.sm_syntax.specs.claim.ConflictFree.{Copy, O, A}
-use Rattle.sm_syntax.specs.claim.Fill.{filling, fill}
-use Rattle.sm_syntax.specs.claim.Syntax.{Condition, Code, Hole}
-use Rattle.sm_syntax.specs.text.Conditions.{ListOf, HoleInFilling, at_hole, first_outside, holes_inside, double_hole, hole_in_filling, unknown_hole, missing_filling, ill_formed, first_refusal, program_fault, double_name, first_output_fault}
-use Rattle.sm_syntax.specs.text.Conditions.{output_refusal, is_in}
-use Rattle.sm_syntax.specs.text.Parts.{Parts, sort_of, sorted_outputs}
-use Rattle.sm_syntax.specs.text.Sorts.{Sorts}
-use Rattle.sm_syntax.specs.declared.tree.Sort.{Sort}
+use Rattle.sm_suggest.proofs.Imports.{◌≡◌, ℕ, false, Option, Some, None, List, [], ◌∷◌, refl, Copy, O, A, filling, fill, Condition, Code, Hole, ListOf, HoleInFilling, at_hole, first_outside, holes_inside, double_hole, unknown_hole, missing_filling, double_name, first_output_fault, output_refusal, is_in, Parts, sort_of, sorted_outputs, Sorts, Sort, has_hole, SpelledAreFit, neither_refuses, each_none, has_sort}
+use Rattle.sm_syntax.specs.text.Conditions.{hole_in_filling, ill_formed, first_refusal, program_fault}
 use Rattle.sm_text.proofs.Numbering.DeclaredInOrder.{declared_in_order}
 use Rattle.sm_replay.proofs.RunnableTasks.{may_assume, may_run, spelled_runs}
 use Rattle.sm_replay.specs.Judging.{IsWellSortedAssumption}
 use Rattle.sm_plan.specs.SortedStates.{AreOutputsDeclared, IsAssumptionSorted}
-use Rattle.sm_moves.specs.CodeShapes.{has_hole}
-use Rattle.sm_suggest.specs.Laws.{SpelledAreFit}
-use Rattle.sm_syntax.proofs.Refusals.{neither_refuses, each_none, has_sort}
 use Rattle.sm_moves.proofs.NoHoles.{no_filling, none_outside}
 
 no_hole_at : (c : Copy) (o : Option ℕ) → at_hole HoleInFilling (ListOf c) o ≡ None → o ≡ None

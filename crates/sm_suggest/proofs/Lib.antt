@@ -1,3 +1,4 @@
+mod Imports
 pub mod ChoicesLemmas
 pub mod CombinedLemmas
 pub mod FirstLemmas

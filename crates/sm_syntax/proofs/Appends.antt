@@ -1,8 +1,5 @@
 -- One code after another: how it runs, and how its holes are filled.
-use Rattle.std.proofs.Common.{◌≡◌, ℕ, Option, Some, None, if◌then◌else◌, refl, sym, ap, ◌∙◌}
-use Rattle.sm_syntax.specs.claim.Syntax.{Code, End, Skip, Assign, Write, If, While, Hole, append}
-use Rattle.sm_syntax.specs.claim.Stores.{Store, put}
-use Rattle.sm_syntax.specs.claim.Meaning.{value_of, truth_of, and_then, turns, written, run}
+use Rattle.sm_syntax.proofs.Imports.{◌≡◌, ℕ, Option, Some, None, if◌then◌else◌, refl, sym, ap, ◌∙◌, Code, End, Skip, Assign, Write, If, While, Hole, append, Store, put, value_of, truth_of, and_then, turns, written, run}
 use Rattle.sm_syntax.specs.claim.Fill.{Fillings, filling, fill}
 
 -- three codes one after the other, in either grouping

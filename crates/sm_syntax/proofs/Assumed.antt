@@ -1,7 +1,5 @@
 -- The condition that a task assumes, seen through a borrow or copied.
-use Rattle.std.proofs.Common.{◌≡◌, Bor, Option, Some, None, option_map, refl, ap, ◌∙◌, is_some}
-use Rattle.std.specs.Option.{option_copied}
-use Rattle.sm_syntax.specs.trees.Views.{condition_of, Cond}
+use Rattle.sm_syntax.proofs.Imports.{◌≡◌, Bor, Option, Some, None, option_map, refl, ap, ◌∙◌, is_some, option_copied, condition_of, Cond}
 
 -- an assumption behind a borrow
 pub assumed_same : (o : Option (Bor Cond)) (a : Option Cond) → option_copied o ≡ a →

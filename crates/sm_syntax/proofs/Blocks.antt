@@ -1,11 +1,7 @@
 -- The statements of a block, as a list and as code.
-use Rattle.std.proofs.Common.{◌≡◌, ℕ, ◌+◌, ◌<◌, ◌≤◌, List, [], ◌∷◌, ◌++◌, length, map, drop, get_or, sym, ap, refl, ◌∙◌, add-one, drop-cons}
+use Rattle.sm_syntax.proofs.Imports.{◌≡◌, ℕ, ◌+◌, ◌<◌, ◌≤◌, List, [], ◌∷◌, ◌++◌, length, map, drop, get_or, sym, ap, refl, ◌∙◌, add-one, drop-cons, get_or-map, length-map, fun_ext, Code, End, Skip, Assign, Write, If, While, Hole, append, sequence, statement_of, code_of, statement_layer, block_layer, Stmt, Stmt-F, fold_out-Stmt, Block, fold_out-Block}
 use Rattle.std.proofs.Math.ListN.{drop_of_length-le}
-use Rattle.std.proofs.lemmas.List.{get_or-map, length-map}
-use Rattle.std.proofs.Math.Path.{fun_ext}
 use Rattle.sm_syntax.specs.declared.tree.Stmt.TheOpen as layer
-use Rattle.sm_syntax.specs.claim.Syntax.{Code, End, Skip, Assign, Write, If, While, Hole, append}
-use Rattle.sm_syntax.specs.trees.Views.{sequence, statement_of, code_of, statement_layer, block_layer, Stmt, Stmt-F, fold_out-Stmt, Block, fold_out-Block}
 use Rattle.sm_syntax.proofs.Appends.{append_assoc}
 
 -- the code of a block is its statements one after the other

@@ -1,10 +1,7 @@
 -- What holds of each name of code holds of each name in its list, and the other way round.
-use Rattle.std.proofs.Common.{ℕ, List, [], ◌∷◌, ◌++◌}
-use Rattle.std.specs.List.{AllByRecursion}
+use Rattle.sm_syntax.proofs.Imports.{ℕ, List, [], ◌∷◌, ◌++◌, AllByRecursion, Expression, Lit, Var, Read, Neg, Plus, Minus, Times, Condition, Yes, No, Compare, Not, And, Or, Code, End, Skip, Assign, Write, If, While, Hole, IsAsDeclared, names_in, names_tested, names_used, EachName, EachTested, EachUsed}
 use Rattle.sm_syntax.specs.Laws.{WellSortedIsAll}
-use Rattle.sm_syntax.specs.claim.Syntax.{Expression, Lit, Var, Read, Neg, Plus, Minus, Times, Condition, Yes, No, Compare, Not, And, Or, Code, End, Skip, Assign, Write, If, While, Hole}
-use Rattle.sm_syntax.specs.text.Sorts.{IsAsDeclared, Sort}
-use Rattle.sm_syntax.specs.text.Uses.{names_in, names_tested, names_used, EachName, EachTested, EachUsed}
+use Rattle.sm_syntax.specs.text.Sorts.{Sort}
 
 module _ (P : ℕ → Sort → Type 0) where
   -- the fact holds of each name in a list

@@ -1,10 +1,7 @@
 -- What Keeps says of the candidate's value.
-use Rattle.std.proofs.Common.{◌≡◌, ◌≢◌, ◌⊎◌, ◌↔◌, ℤ, inl, inr, ⊎_elim, sym, ◌∙◌}
-use Rattle.std.proofs.lemmas.Bool.{cases_Bool}
-use Rattle.std.proofs.lemmas.Bool.Decides.{not_from_Decides}
+use Rattle.sm_syntax.proofs.Imports.{◌≡◌, ◌≢◌, ◌⊎◌, ◌↔◌, ℤ, inl, inr, ⊎_elim, sym, ◌∙◌, cases_Bool, not_from_Decides, Keeps, KeepsChange}
 use Rattle.std.specs.Cmp.{signed_Decides}
 use Rattle.std.specs.Ordering.{int_eq}
-use Rattle.sm_syntax.specs.claim.Keeps.{Keeps, KeepsChange}
 
 -- two whole numbers are equal or not
 pub int_cases : (x y : ℤ) → (x ≡ y) ⊎ (x ≡ y → ⊥)

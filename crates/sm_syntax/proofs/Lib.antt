@@ -1,3 +1,4 @@
+mod Imports
 pub mod Statements
 pub mod Appends
 pub mod Blocks

@@ -1,9 +1,6 @@
 -- Two blocks are compared statement by statement.
-use Rattle.std.proofs.Common.{◌≡◌, ℕ, ◌+◌, ◌<◌, sym, ap, ◌∙◌, List, [], ◌∷◌, ◌++◌, length, map, take, get_or, slice_index_or, add-one}
+use Rattle.sm_syntax.proofs.Imports.{◌≡◌, ℕ, ◌+◌, ◌<◌, sym, ap, ◌∙◌, List, [], ◌∷◌, ◌++◌, length, map, take, get_or, slice_index_or, add-one, length-map, map-append, Code, End, statement_of, code_of, Stmt, Block}
 use Rattle.std.proofs.Math.Seq.{take-suc, take-length}
-use Rattle.std.proofs.lemmas.List.{length-map, map-append}
-use Rattle.sm_syntax.specs.claim.Syntax.{Code, End}
-use Rattle.sm_syntax.specs.trees.Views.{statement_of, code_of, Stmt, Block}
 use Rattle.sm_syntax.proofs.Blocks.{same_statement, same_parts, same_blocks, same_item}
 
 -- one statement more

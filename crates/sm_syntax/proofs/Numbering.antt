@@ -1,12 +1,9 @@
 -- A text's number in a table: the place at which it stands, which stays where texts are added.
-use Rattle.std.proofs.Common.{◌≡◌, ℕ, zero, suc, ◌+◌, ◌<◌, ◌≤◌, Bool, true, false, cond, not, ◌||◌, List, [], ◌∷◌, ◌++◌, map, length, take, get_or, Some, slice_get, refl, sym, ap, ◌∙◌, true≢false, if◌then◌else◌, one-add, arith}
-use Rattle.std.proofs.lemmas.List.{append-nil, length_push, map-append, map_more}
-use Rattle.std.proofs.lemmas.Bool.{or_parts}
+use Rattle.sm_syntax.proofs.Imports.{◌≡◌, ℕ, zero, suc, ◌+◌, ◌<◌, ◌≤◌, Bool, true, false, cond, not, ◌||◌, List, [], ◌∷◌, ◌++◌, map, length, take, get_or, Some, slice_get, refl, sym, ap, ◌∙◌, true≢false, if◌then◌else◌, one-add, arith, append-nil, length_push, map-append, map_more, or_parts, list_any, position, position_or_len, AllByRecursion, bytes_eq, is_among}
 use Rattle.std.proofs.lemmas.Option.{cond_some}
 use Rattle.std.proofs.lemmas.Slice.Eq.{bytes_eq-Decides}
-use Rattle.std.specs.List.{list_any, position, position_or_len, AllByRecursion, IsDistinct}
-use Rattle.std.specs.Str.{bytes_eq}
-use Rattle.sm_syntax.specs.text.Symbols.{is_among, with_text}
+use Rattle.std.specs.List.{IsDistinct}
+use Rattle.sm_syntax.specs.text.Symbols.{with_text}
 
 -- a text is itself
 pub bytes_eq-refl : (t : List ℕ) → bytes_eq t t ≡ true

@@ -1,8 +1,5 @@
 -- What a store has after one new value.
-use Rattle.std.proofs.Common.{◌≡◌, ℕ, Bool, if◌then◌else◌, refl, ap, sym, ◌∙◌, ⊎_elim, eq-eqb}
-use Rattle.std.proofs.lemmas.Bool.{cases_eq, ne_eqb}
-use Rattle.std.proofs.Math.Path.{fun_ext}
-use Rattle.sm_syntax.specs.claim.Stores.{Value, Store, put}
+use Rattle.sm_syntax.proofs.Imports.{◌≡◌, ℕ, Bool, if◌then◌else◌, refl, ap, sym, ◌∙◌, ⊎_elim, eq-eqb, cases_eq, ne_eqb, fun_ext, Value, Store, put}
 
 -- the new value
 pub put_at : (s : Store) (x : ℕ) (v : Value) → put s x v x ≡ v

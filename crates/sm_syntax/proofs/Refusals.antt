@@ -1,7 +1,5 @@
 -- What holds where a condition on tasks refuses nothing.
-use Rattle.std.proofs.Common.{◌≡◌, Option, Some, None, refl, ℕ, Bool, unwrap_or}
-use Rattle.std.specs.Option.{option_or}
-use Rattle.sm_syntax.specs.text.Conditions.{Refusal, sort_refusal, first_of_lists, output_refusal}
+use Rattle.sm_syntax.proofs.Imports.{◌≡◌, Option, Some, None, refl, ℕ, Bool, unwrap_or, option_or, Refusal, sort_refusal, first_of_lists, output_refusal}
 use Rattle.sm_syntax.specs.declared.tree.Sort.{Sort}
 use Rattle.sm_syntax.specs.declared.tree.Sort.TheVariants.{Num, Arr}
 use Rattle.sm_syntax.specs.claim.ConflictFree.{Copy, O, A, B, M}

@@ -1,13 +1,7 @@
 -- What is known of the names, declared or put out, that a walk over them has passed.
-use Rattle.std.proofs.Common.{◌≡◌, ℕ, Bool, true, false, cond, not, ◌||◌, if◌then◌else◌, nat_eq, Option, Some, None, is_some, List, [], ◌∷◌, map, refl, ap, sym, ◌∙◌, arith}
-use Rattle.std.proofs.lemmas.Bool.Decides.{nat_tests}
-use Rattle.std.proofs.lemmas.Grind.{common_steps}
+use Rattle.sm_syntax.proofs.Imports.{◌≡◌, ℕ, Bool, true, false, cond, not, ◌||◌, if◌then◌else◌, nat_eq, Option, Some, None, is_some, List, [], ◌∷◌, map, refl, ap, sym, ◌∙◌, arith, nat_tests, common_steps, option_or, Name, Refusal, is_in, first_repeated, first_output_fault, output_refusal, DoubleName, sort_of, Sorts}
 use Rattle.std.specs.Map.{lookup}
-use Rattle.std.specs.Option.{option_or}
-use Rattle.sm_syntax.specs.declared.tree.Name.{Name}
-use Rattle.sm_syntax.specs.text.Conditions.{Refusal, is_in, first_repeated, first_output_fault, output_refusal, DoubleName}
-use Rattle.sm_syntax.specs.text.Parts.{sort_of}
-use Rattle.sm_syntax.specs.text.Sorts.{Sorts, Sort}
+use Rattle.sm_syntax.specs.text.Sorts.{Sort}
 
 -- declarations and names, as numbers
 abbrev pub sorted_numbers : List (Name × Sort) → List (ℕ × Sort)

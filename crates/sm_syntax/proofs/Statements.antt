@@ -1,11 +1,7 @@
 -- What each kind of statement stands for, where more code follows it.
-use Rattle.std.proofs.Common.{◌≡◌, ℕ, sym, ap, ◌∙◌}
-use Rattle.sm_syntax.specs.declared.tree.Expr.{Expr}
-use Rattle.sm_syntax.specs.declared.tree.Name.{Name}
+use Rattle.sm_syntax.proofs.Imports.{◌≡◌, ℕ, sym, ap, ◌∙◌, Expr, Name, Code, Skip, Assign, Write, If, While, Hole, expression_of, condition_of, statement_of, code_of, statement_layer, block_layer, Stmt, fold-roll-Stmt, rolls-Skip, rolls-Assign, rolls-Store, rolls-If, rolls-While, rolls-Hole, Block, Cond}
 use Rattle.sm_syntax.specs.declared.tree.Stmt.TheOpen as layer
 use Rattle.sm_syntax.specs.declared.tree.Stmt.TheVariants as tree
-use Rattle.sm_syntax.specs.claim.Syntax.{Code, Skip, Assign, Write, If, While, Hole}
-use Rattle.sm_syntax.specs.trees.Views.{expression_of, condition_of, statement_of, code_of, statement_layer, block_layer, Stmt, fold-roll-Stmt, rolls-Skip, rolls-Assign, rolls-Store, rolls-If, rolls-While, rolls-Hole, Block, Cond}
 
 -- a statement without parts, before k
 pub statement_of-Skip : (k : Code) → statement_of tree.Skip k ≡ Skip k

@@ -1,8 +1,5 @@
 -- A greater bound on turns changes no end.
-use Rattle.std.proofs.Common.{◌≡◌, ◌≤◌, ℕ, zero, suc, Bool, true, false, Option, Some, None, if◌then◌else◌, refl, ap, ◌∙◌, arith}
-use Rattle.sm_syntax.specs.claim.Syntax.{Code, End, Skip, Assign, Write, If, While, Hole}
-use Rattle.sm_syntax.specs.claim.Stores.{Store, put}
-use Rattle.sm_syntax.specs.claim.Meaning.{value_of, truth_of, and_then, turns, written, run}
+use Rattle.sm_syntax.proofs.Imports.{◌≡◌, ◌≤◌, ℕ, zero, suc, Bool, true, false, Option, Some, None, if◌then◌else◌, refl, ap, ◌∙◌, arith, Code, End, Skip, Assign, Write, If, While, Hole, Store, put, value_of, truth_of, and_then, turns, written, run}
 
 -- each end of x is one of y
 pub record Grows (x y : Option Store) : Type 0 where

@@ -1,8 +1,5 @@
 -- What code doesn't assign stays.
-use Rattle.std.proofs.Common.{◌≡◌, ℕ, zero, suc, Bool, true, false, ◌||◌, Option, Some, None, ◌==◌, if◌then◌else◌, refl, ap, ◌∙◌}
-use Rattle.sm_syntax.specs.claim.Syntax.{Code, End, Skip, Assign, Write, If, While, Hole}
-use Rattle.sm_syntax.specs.claim.Stores.{Value, Array, number, array, Store, put, with_element}
-use Rattle.sm_syntax.specs.claim.Meaning.{value_of, truth_of, and_then, turns, written, run}
+use Rattle.sm_syntax.proofs.Imports.{◌≡◌, ℕ, zero, suc, Bool, true, false, ◌||◌, Option, Some, None, ◌==◌, if◌then◌else◌, refl, ap, ◌∙◌, Code, End, Skip, Assign, Write, If, While, Hole, Value, Array, number, array, Store, put, with_element, value_of, truth_of, and_then, turns, written, run}
 use Rattle.sm_syntax.specs.Assigns.{assigns}
 
 -- each end has this value of x

@@ -1,15 +1,9 @@
 -- The first fault of names that are walked over in parts.
-use Rattle.std.proofs.Common.{◌+◌, ◌-◌, ◌^◌, ◌<◌, ◌≤◌, lit<, min, Bool, if◌then◌else◌, arith, length, map, drop, get_or, append_assoc, ◌≡◌, ℕ, Option, Some, None, Err, List, [], ◌∷◌, ◌++◌, refl, ap, sym, ◌∙◌}
-use Rattle.std.proofs.lemmas.Bool.Decides.{nat_tests}
-use Rattle.std.specs.Option.{option_or}
+use Rattle.sm_syntax.proofs.Imports.{◌+◌, ◌-◌, ◌^◌, ◌<◌, ◌≤◌, lit<, min, Bool, if◌then◌else◌, arith, length, map, drop, get_or, append_assoc, ◌≡◌, ℕ, Option, Some, None, Err, List, [], ◌∷◌, ◌++◌, refl, ap, sym, ◌∙◌, nat_tests, option_or, Refusal, first_of_all, sort_refusal, over, TooMany, TooDeep, names_in, names_tested, names_used, Reports, Sorts, Code, End, Skip, Assign, Write, If, While, Hole, append, sequence, statement_of, Stmt}
 use Rattle.sm_syntax.specs.declared.error.SyntaxError.{SyntaxError}
 use Rattle.sm_syntax.specs.declared.error.SyntaxError.TheVariants as error
-use Rattle.sm_syntax.specs.text.Conditions.{Refusal, first_of_all, first_sort_fault, sort_refusal, over, size_fault, TooMany, TooDeep}
-use Rattle.sm_syntax.specs.text.Uses.{names_in, names_tested, names_used}
-use Rattle.sm_syntax.specs.trees.Faults.{Reports}
-use Rattle.sm_syntax.specs.text.Sorts.{Sorts, Sort, Num, Arr}
-use Rattle.sm_syntax.specs.claim.Syntax.{Code, End, Skip, Assign, Write, If, While, Hole, append}
-use Rattle.sm_syntax.specs.trees.Views.{sequence, statement_of, Stmt}
+use Rattle.sm_syntax.specs.text.Conditions.{first_sort_fault, size_fault}
+use Rattle.sm_syntax.specs.text.Sorts.{Sort, Num, Arr}
 use Rattle.sm_syntax.proofs.Blocks.{statement_is, sequence-drop, sequence-drop-end}
 use Rattle.sm_syntax.proofs.Statements.{statement_of-Skip, statement_of-Assign, statement_of-Store, statement_of-If, statement_of-While, statement_of-Hole}
 

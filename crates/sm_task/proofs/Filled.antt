@@ -1,9 +1,6 @@
 -- The programs of all copies, from those of each.
-use Rattle.std.proofs.Common.{◌≡◌}
+use Rattle.sm_task.proofs.Imports.{◌≡◌, O, A, B, M, program_of, Parts, task_of, code_of}
 use Rattle.sm_syntax.specs.declared.copies.PerCopy.{PerCopy}
-use Rattle.sm_syntax.specs.claim.ConflictFree.{O, A, B, M, program_of}
-use Rattle.sm_syntax.specs.text.Parts.{Parts, task_of}
-use Rattle.sm_syntax.specs.trees.Views.{code_of}
 use Rattle.sm_syntax.specs.declared.tree.Block.{Block}
 use Rattle.sm_task.specs.Filling.{AreFilled}
 

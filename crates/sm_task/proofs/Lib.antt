@@ -1,3 +1,4 @@
+mod Imports
 pub mod Filled
 pub mod Numbers
 pub mod Refusals

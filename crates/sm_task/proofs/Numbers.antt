@@ -1,10 +1,5 @@
 -- The numbers of the holes of a list.
-use Rattle.std.proofs.Common.{◌≡◌, ℕ, List, [], ◌∷◌, ◌++◌, map, refl, ap}
-use Rattle.std.specs.List.{flat_map}
-use Rattle.sm_syntax.specs.declared.program.Filling.{Filling}
-use Rattle.sm_syntax.specs.claim.Syntax.{Code}
-use Rattle.sm_syntax.specs.text.Conditions.{holes_of, filled_holes, holes_inside}
-use Rattle.sm_syntax.specs.trees.Views.{code_of}
+use Rattle.sm_task.proofs.Imports.{◌≡◌, ℕ, List, [], ◌∷◌, ◌++◌, map, refl, ap, flat_map, Filling, Code, holes_of, filled_holes, holes_inside, code_of}
 
 -- the code for each hole
 abbrev pub codes : List Filling → List (ℕ × Code)

@@ -1,16 +1,11 @@
 -- What parse_task answers where a condition fails, or where its text does.
-use Rattle.std.proofs.Common.{◌≡◌, inl, inr, refl, sym, ap, ◌∙◌, Option, Some, None, option_map, Result, Err, List, ℕ}
+use Rattle.sm_task.proofs.Imports.{◌≡◌, inl, inr, refl, sym, ap, ◌∙◌, Option, Some, None, option_map, Result, Err, List, ℕ, Refusal, first_refusal, Parts, AreTasks, IsFirstFault, IsRefusal, whole_text, error_of, from_text, IsRefusedBy, IsRefusedWith, IsReadAs, IsRefusedAs, TaskError}
 use Rattle.std.specs.Prelude.{◌≢◌, IfErr}
-use Rattle.sm_syntax.specs.text.Conditions.{Refusal, first_refusal}
-use Rattle.sm_syntax.specs.text.Parts.{Parts}
 use Rattle.sm_syntax.specs.text.Spells.{IsInGrammar}
 use Rattle.sm_text.specs.declared.error.TextError.TheVariants as text
-use Rattle.sm_text.specs.parsing.Places.{AreTasks, IsFirstFault, IsRefusal}
 use Rattle.sm_text.specs.declared.error.TextError.{TextError}
-use Rattle.sm_text.specs.parsing.Places.Sources.{whole_text}
 use Rattle.sm_task.specs.declared.error.TaskError.TheVariants as error
 use Rattle.sm_text.specs.declared.task.Task.{Task}
-use Rattle.sm_task.specs.Errors.{error_of, from_text, IsRefusedBy, IsRefusedWith, IsReadAs, IsRefusedAs, TaskError}
 
 -- an error of the conditions is that of the first that fails
 abbrev pub Names : Option Refusal → TaskError → Type 0

@@ -1,12 +1,8 @@
 -- A text is refused with at most one error, and with none where it spells a task.
-use Rattle.std.proofs.Common.{◌≡◌, inl, inr, sym, ap, ◌∙◌, Some}
-use Rattle.sm_syntax.specs.text.Conditions.{Refusal, first_refusal}
+use Rattle.sm_task.proofs.Imports.{◌≡◌, inl, inr, sym, ap, ◌∙◌, Some, Refusal, first_refusal, AreTasks, whole_text, error_of, from_text}
 use Rattle.sm_text.proofs.Complete.Tasks as text
 use Rattle.sm_text.proofs.FirstFault.Faultless.{no_fault_in_grammar}
 use Rattle.sm_text.proofs.FirstFault.Unique.{one_first_fault}
-use Rattle.sm_text.specs.parsing.Places.{AreTasks}
-use Rattle.sm_text.specs.parsing.Places.Sources.{whole_text}
-use Rattle.sm_task.specs.Errors.{error_of, from_text}
 use Rattle.sm_task.specs.Laws.{OneCondition, FaultOrCondition, OneRefusal, TaskOrRefusal}
 use Rattle.sm_task.proofs.Parsing.{none_refusal}
 

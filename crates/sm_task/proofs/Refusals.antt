@@ -1,12 +1,9 @@
 -- The first refusal of conditions that are checked one after the other.
-use Rattle.std.proofs.Common.{◌≡◌, ℕ, zero, suc, ◌≤◌, arith, refl, Option, Some, None, Err}
+use Rattle.sm_task.proofs.Imports.{◌≡◌, ℕ, zero, suc, ◌≤◌, arith, refl, Option, Some, None, Err, ListOf, Refusal, Copy, O, A, B, M, section_number, TaskError}
 use Rattle.std.specs.Option.{option_or}
-use Rattle.sm_syntax.specs.text.Conditions.{ListOf, Refusal}
-use Rattle.sm_syntax.specs.claim.ConflictFree.{Copy, O, A, B, M}
 use Rattle.sm_syntax.specs.trees.Copies.{number_of}
 use Rattle.sm_syntax.proofs.Uses.{option_or-None}
 use Rattle.sm_task.specs.Checks.{ReportsRefusal, section_of}
-use Rattle.sm_task.specs.Errors.{section_number, TaskError}
 
 -- an error is the first refusal, whatever stands after it
 pub reports_or : (e : TaskError) (a b : Option Refusal) → ReportsRefusal (Err e) a → ReportsRefusal (Err e) (option_or a b)

@@ -1,15 +1,6 @@
 -- Formulas that are put behind others while a table grows.
-use Rattle.std.proofs.Common.{List, [], ◌∷◌, ◌++◌, sym, ap, ◌∙◌, subst}
-use Rattle.std.proofs.lemmas.List.{append-nil, append_assoc, map-append}
-use Rattle.sm_term.specs.Assertions.{Assertion}
-use Rattle.sm_term.specs.Formulas.{numbered, assertion_in}
-use Rattle.sm_term.specs.declared.formula.Formula.{Formula}
-use Rattle.sm_term.specs.Sorted.{IsFormSorted}
-use Rattle.sm_term.specs.Tables.{TableValue, trees_in, sorts_in}
-use Rattle.sm_term.specs.TableLaws.{AddsTerms}
-use Rattle.sm_plan.specs.Views.{forms_in}
+use Rattle.sm_template.proofs.Imports.{List, [], ◌∷◌, ◌++◌, sym, ap, ◌∙◌, subst, append-nil, append_assoc, map-append, Assertion, numbered, assertion_in, Formula, IsFormSorted, TableValue, trees_in, sorts_in, AddsTerms, forms_in, IsFormMade, AddsForms}
 use Rattle.sm_plan.proofs.FillingForms.{forms_ready, forms_more, ready_within}
-use Rattle.sm_template.specs.AddedForms.{IsFormMade, AddsForms}
 use Rattle.sm_plan.proofs.TurnedLemmas.{ready_push}
 
 -- nothing is put there

@@ -1,25 +1,9 @@
 -- Inequalities of guards stand behind the templates of names, each once.
-use Rattle.std.proofs.Common.{◌≡◌, ℕ, ℤ, Bool, true, false, ◌||◌, if◌then◌else◌, List, [], ◌∷◌, ◌++◌, map, refl, sym, ap, ◌∙◌, subst}
-use Rattle.std.specs.Prelude.{fold}
-use Rattle.std.specs.List.{list_any, flat_map}
-use Rattle.std.proofs.lemmas.List.{append-nil, append_assoc}
-use Rattle.std.proofs.lemmas.List.Sums.{fold-append}
+use Rattle.sm_template.proofs.Imports.{◌≡◌, ℕ, ℤ, Bool, true, false, ◌||◌, if◌then◌else◌, List, [], ◌∷◌, ◌++◌, map, refl, sym, ap, ◌∙◌, subst, fold, list_any, flat_map, append-nil, append_assoc, fold-append, Sort, Condition, Compare, Not, Cmp, Copy, Assertion, term_of, Tree, Shape, with_new, distinct, slots, weaker, guard_templates, shape_form, shapes_of, same_formula, name_templates}
 use Rattle.sm_syntax.specs.declared.tree.Cmp.TheVariants as cmp
-use Rattle.sm_syntax.specs.declared.tree.Sort.{Sort}
-use Rattle.sm_syntax.specs.claim.Syntax.{Condition, Yes, No, Compare, Not, And, Or}
-use Rattle.sm_syntax.specs.declared.tree.Cmp.{Cmp}
-use Rattle.sm_syntax.specs.claim.ConflictFree.{Copy}
+use Rattle.sm_syntax.specs.claim.Syntax.{Yes, No, And, Or}
 use Rattle.sm_term.specs.Assertions as plain
-use Rattle.sm_term.specs.Assertions.{Assertion}
-use Rattle.sm_term.specs.Symbolic.{term_of}
-use Rattle.sm_term.specs.Terms.{Tree}
-use Rattle.sm_template.specs.declared.shapes.Shape.{Shape}
 use Rattle.sm_template.specs.declared.shapes.Shape.TheVariants as shape
-use Rattle.sm_template.specs.Distinct.{with_new, distinct}
-use Rattle.sm_template.specs.Guards.{slots, weaker, guard_templates}
-use Rattle.sm_template.specs.NameShapes.{shape_form, shapes_of}
-use Rattle.sm_template.specs.SameFormulas.{same_formula}
-use Rattle.sm_template.specs.Templates.{name_templates}
 use Rattle.sm_template.proofs.NameShapesLemmas.{name_forms}
 use Rattle.sm_template.proofs.RepeatsLemmas.{IsNew, AreNew, HasNoRepeats, new_append, distinct_same}
 

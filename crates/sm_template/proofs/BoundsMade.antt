@@ -1,30 +1,6 @@
 -- Inequalities over a table that grows, each once.
-use Rattle.std.proofs.Common.{◌≡◌, ℕ, zero, suc, ◌+◌, ◌<◌, ◌==◌, Bool, true, false, ◌&&◌, ◌||◌, if◌then◌else◌, Some, List, [], ◌∷◌, ◌++◌, map, take, length, get_or, slice_get, refl, sym, ap, ◌∙◌, subst, arith}
-use Rattle.std.specs.Prelude.{fold}
-use Rattle.std.specs.List.{list_any}
-use Rattle.std.proofs.lemmas.Bool.{eq-eqb, eqb-true}
-use Rattle.std.proofs.lemmas.List.{map-append, map_more}
-use Rattle.std.proofs.lemmas.List.Sums.{fold-append}
-use Rattle.sm_syntax.specs.text.Sorts.{Sorts}
-use Rattle.sm_syntax.specs.declared.tree.Sort.TheVariants.{Num}
-use Rattle.sm_term.specs.Assertions.{Assertion, Le}
+use Rattle.sm_template.proofs.Imports.{◌≡◌, ℕ, zero, suc, ◌+◌, ◌<◌, ◌==◌, Bool, true, false, ◌&&◌, ◌||◌, if◌then◌else◌, Some, List, [], ◌∷◌, ◌++◌, map, take, length, get_or, slice_get, refl, sym, ap, ◌∙◌, subst, arith, fold, list_any, eq-eqb, eqb-true, map-append, map_more, fold-append, Sorts, Num, Assertion, Le, numbered, assertion_in, IsFormulaWithin, Formula, same_tree, HasSort, TableValue, trees_in, sorts_in, tree_at, AreApart, AddsTerms, Tree, same_tree_is, tree_got, grows-not, longer, tree_stays, widens_grown, IsFormMade, AddsForms, bound_in, bounds_in, IsBoundReady, AreBoundsReady, AddsBounds, with_new, next_to, same_formula}
 use Rattle.sm_term.specs.Formulas as over
-use Rattle.sm_term.specs.Formulas.{numbered, assertion_in, IsFormulaWithin}
-use Rattle.sm_term.specs.declared.formula.Formula.{Formula}
-use Rattle.sm_term.specs.SameTerms.{same_tree}
-use Rattle.sm_term.specs.Sorted.{HasSort}
-use Rattle.sm_term.specs.Tables.{TableValue, trees_in, sorts_in, tree_at}
-use Rattle.sm_term.specs.TableLaws.{AreApart, AddsTerms}
-use Rattle.sm_term.specs.Terms.{Tree}
-use Rattle.sm_term.proofs.SameTermsLemmas.{same_tree_is}
-use Rattle.sm_term.proofs.ExpressionLemmas.{tree_got}
-use Rattle.sm_term.proofs.TablesLemmas.{grows-not}
-use Rattle.sm_plan.proofs.TablesWiden.{longer, tree_stays, widens_grown}
-use Rattle.sm_template.specs.AddedForms.{IsFormMade, AddsForms}
-use Rattle.sm_template.specs.Bounds.{bound_in, bounds_in, IsBoundReady, AreBoundsReady, AddsBounds}
-use Rattle.sm_template.specs.Distinct.{with_new}
-use Rattle.sm_template.specs.Guards.{next_to}
-use Rattle.sm_template.specs.SameFormulas.{same_formula}
 use Rattle.sm_template.proofs.AddedLemmas.{added_then, added_one}
 
 -- nothing, and some and then others

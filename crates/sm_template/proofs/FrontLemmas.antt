@@ -1,8 +1,5 @@
 -- What is made of the first things of a list, and of one thing more.
-use Rattle.std.proofs.Common.{◌≡◌, ℕ, ◌+◌, ◌<◌, List, [], ◌∷◌, ◌++◌, take, length, get_or, ap, ◌∙◌}
-use Rattle.std.specs.List.{flat_map}
-use Rattle.std.proofs.lemmas.List.{append-nil, append_assoc, take_more}
-use Rattle.std.proofs.lemmas.Grind.{flat_map-append}
+use Rattle.sm_template.proofs.Imports.{◌≡◌, ℕ, ◌+◌, ◌<◌, List, [], ◌∷◌, ◌++◌, take, length, get_or, ap, ◌∙◌, flat_map, append-nil, append_assoc, take_more, flat_map-append}
 
 -- lists of the first things
 pub flat_more : {T U : Type 0} (f : T → List U) (xs : List T) (i : ℕ) (d : T) → i < length xs →

@@ -1,27 +1,8 @@
 -- Terms of well-sorted expressions over places, and what comparisons of them suggest.
-use Rattle.std.proofs.Common.{◌≡◌, ℕ, ◌<◌, Bool, true, false, if◌then◌else◌, Option, Some, None, is_some, List, [], ◌∷◌, ◌++◌, cond, length, slice_get, refl, sym, ap, ◌∙◌, subst}
-use Rattle.std.specs.List.{filter, flat_map}
+use Rattle.sm_template.proofs.Imports.{◌≡◌, ℕ, ◌<◌, Bool, true, false, if◌then◌else◌, Option, Some, None, is_some, List, [], ◌∷◌, ◌++◌, cond, length, slice_get, refl, sym, ap, ◌∙◌, subst, filter, flat_map, Expression, Cmp, Copy, Sorts, IsWellSortedExpression, Sort, Num, Arr, Assertion, HasSort, IsStoreSorted, SymbolicStore, term_of, store_in, IsStoreWithin, SymStore, TableValue, trees_in, sorts_in, tree_at, AddsTerms, Start, Slot, Read, Neg, Add, Sub, Mul, store-more, stays_got, tree_got, there, named_declared, sort_is, term_sorted, Copies, copies, has, AddsBounds, places_of, slots, weaker}
 use Rattle.sm_syntax.specs.claim.Syntax as syntax
-use Rattle.sm_syntax.specs.claim.Syntax.{Expression}
-use Rattle.sm_syntax.specs.declared.tree.Cmp.{Cmp}
-use Rattle.sm_syntax.specs.claim.ConflictFree.{Copy, O, A, B, M}
-use Rattle.sm_syntax.specs.text.Sorts.{Sorts, IsWellSortedExpression}
-use Rattle.sm_syntax.specs.declared.tree.Sort.{Sort}
-use Rattle.sm_syntax.specs.declared.tree.Sort.TheVariants.{Num, Arr}
-use Rattle.sm_term.specs.Assertions.{Assertion}
-use Rattle.sm_term.specs.Sorted.{HasSort, IsStoreSorted}
-use Rattle.sm_term.specs.Symbolic.{SymbolicStore, term_of}
-use Rattle.sm_term.specs.SymStores.{store_in, IsStoreWithin}
-use Rattle.sm_term.specs.declared.symbolic.SymStore.{SymStore}
-use Rattle.sm_term.specs.Tables.{TableValue, trees_in, sorts_in, tree_at}
-use Rattle.sm_term.specs.TableLaws.{AddsTerms}
-use Rattle.sm_term.specs.Terms.{Start, Slot, Read, Neg, Add, Sub, Mul}
-use Rattle.sm_term.proofs.ExpressionLemmas.{store-more, stays_got, tree_got, there, named_declared}
-use Rattle.sm_plan.proofs.SortedTerms.{sort_is, term_sorted}
-use Rattle.sm_plan.specs.Copies.{Copies, copies, has}
+use Rattle.sm_syntax.specs.claim.ConflictFree.{O, A, B, M}
 use Rattle.sm_moves.specs.CopySets.{members}
-use Rattle.sm_template.specs.Bounds.{AddsBounds, places_of}
-use Rattle.sm_template.specs.Guards.{slots, weaker}
 use Rattle.sm_template.proofs.BoundsMade.{bounds_none, bounds_then}
 
 -- the place of a declared name

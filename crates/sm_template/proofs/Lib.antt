@@ -1,3 +1,4 @@
+mod Imports
 pub mod TemplatesLemmas
 mod AddedLemmas
 mod BoundsLemmas

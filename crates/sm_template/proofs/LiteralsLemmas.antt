@@ -1,24 +1,9 @@
 -- The first literals, taken one by one, and the literals of statements one after the other.
-use Rattle.std.proofs.Common.{◌≡◌, ℕ, zero, suc, ℤ, pos, int_lt, nat_lt, ◌+◌, ◌<◌, ◌≤◌, Bool, true, false, cond, not, ◌&&◌, if◌then◌else◌, List, [], ◌∷◌, ◌++◌, length, take, map, drop, get_or, refl, sym, ap, ◌∙◌, arith}
-use Rattle.std.specs.Prelude.{fold}
-use Rattle.std.specs.List.{filter, list_any, flat_map}
-use Rattle.std.specs.Ordering.{int_eq}
-use Rattle.std.proofs.lemmas.Bool.{ltb-true, ltb-false}
-use Rattle.std.proofs.lemmas.List.{append-nil, append_assoc, length-append, map_more}
-use Rattle.std.proofs.lemmas.Grind.{flat_map-append}
-use Rattle.std.proofs.lemmas.List.Sums.{fold-append}
-use Rattle.sm_syntax.specs.declared.program.Filling.{Filling}
-use Rattle.sm_syntax.specs.claim.Fill.{Fillings}
-use Rattle.sm_syntax.specs.claim.ConflictFree.{Copy, O, A, B, M}
-use Rattle.sm_syntax.specs.claim.Syntax.{Code, End, Skip, Assign, Write, If, While, Hole, append}
-use Rattle.sm_syntax.specs.text.Parts.{Parts}
-use Rattle.sm_syntax.specs.trees.Views.{sequence, statement_of, code_of}
+use Rattle.sm_template.proofs.Imports.{◌≡◌, ℕ, zero, suc, ℤ, nat_lt, ◌+◌, ◌<◌, ◌≤◌, Bool, true, false, cond, not, ◌&&◌, if◌then◌else◌, List, [], ◌∷◌, ◌++◌, length, take, map, drop, get_or, refl, sym, ap, ◌∙◌, arith, fold, filter, list_any, flat_map, int_eq, ltb-true, ltb-false, append-nil, append_assoc, length-append, map_more, flat_map-append, fold-append, Filling, Fillings, Copy, Code, End, Skip, Assign, Write, If, While, Hole, append, Parts, sequence, statement_of, code_of, copies, with_new, distinct, with_literal, with_literals, literals_in, literals_tested, literals_used, literals_filled, literals_of}
+use Rattle.std.proofs.Common.{pos, int_lt}
+use Rattle.sm_syntax.specs.claim.ConflictFree.{O, A, B, M}
 use Rattle.sm_syntax.specs.declared.tree.Stmt.{Stmt}
 use Rattle.sm_syntax.proofs.Blocks.{statement_is, sequence-drop, sequence-drop-end}
-use Rattle.sm_plan.specs.Copies.{copies}
-use Rattle.sm_template.specs.Distinct.{with_new, distinct}
-use Rattle.sm_template.specs.FirstLiterals.{with_literal, with_literals}
-use Rattle.sm_template.specs.Literals.{literals_in, literals_tested, literals_used, literals_filled, literals_of}
 
 -- some literals, and then others
 pub with_literals-append : (seen first second : List ℤ) →

@@ -1,33 +1,10 @@
 -- No template of names stands twice.
-use Rattle.std.proofs.Common.{◌≡◌, ℕ, zero, suc, ℤ, ◌+◌, ◌<◌, ◌==◌, Bool, true, false, ◌&&◌, ◌||◌, List, [], ◌∷◌, map, length, refl, sym, ap, ◌∙◌, subst, arith}
+use Rattle.sm_template.proofs.Imports.{◌≡◌, ℕ, zero, suc, ℤ, ◌+◌, ◌<◌, ◌==◌, Bool, true, false, ◌&&◌, ◌||◌, List, [], ◌∷◌, map, length, refl, sym, ap, ◌∙◌, subst, arith, list_any, filter, flat_map, range_with_len, int_eq, and_parts, and_from, eq-eqb, ne_eqb, or_parts, CopyName, Sort, Num, Arr, Code, Copy, Parts, copy_named, Assertion, Eq, Ne, Le, Lt, is_copy, same_sort, same_tree, Tree, Start, Slot, Cell, Read, Add, same_sort_is, same_tree_is, AreNumbered, Shape, Side, distinct, copies, literals_filled, literals_of, side_tree, shape_form, named_pairs, above_by, above_any, number_shapes, array_shapes, shapes_of, same_formula, name_templates, is_written, names_written}
 use Rattle.std.specs.Prelude.{pos, int_lt}
-use Rattle.std.specs.List.{list_any, filter, flat_map, range_with_len}
-use Rattle.std.specs.Ordering.{int_eq}
-use Rattle.std.proofs.lemmas.Bool.{and_parts, and_from, eq-eqb, ne_eqb, or_parts}
-use Rattle.sm_syntax.specs.declared.copies.CopyName.{CopyName}
 use Rattle.sm_syntax.specs.declared.copies.CopyName.TheVariants as copy
-use Rattle.sm_syntax.specs.declared.tree.Sort.{Sort}
-use Rattle.sm_syntax.specs.declared.tree.Sort.TheVariants.{Num, Arr}
-use Rattle.sm_syntax.specs.claim.Syntax.{Code}
-use Rattle.sm_syntax.specs.claim.ConflictFree.{Copy}
-use Rattle.sm_syntax.specs.text.Parts.{Parts}
-use Rattle.sm_syntax.specs.trees.Copies.{copy_named}
-use Rattle.sm_term.specs.Assertions.{Assertion, Yes, No, Eq, Ne, Le, Lt, And, Or}
-use Rattle.sm_term.specs.SameTerms.{is_copy, same_sort, same_tree}
-use Rattle.sm_term.specs.Terms.{Tree, Start, Slot, Cell, Read, Add}
-use Rattle.sm_term.proofs.SameTermsLemmas.{same_sort_is, same_tree_is}
-use Rattle.sm_plan.specs.Starts.{AreNumbered}
-use Rattle.sm_template.specs.declared.shapes.Shape.{Shape}
+use Rattle.sm_term.specs.Assertions.{Yes, No, And, Or}
 use Rattle.sm_template.specs.declared.shapes.Shape.TheVariants as shape
-use Rattle.sm_template.specs.declared.shapes.Side.{Side}
 use Rattle.sm_template.specs.declared.shapes.Side.TheVariants as side
-use Rattle.sm_template.specs.Distinct.{distinct}
-use Rattle.sm_plan.specs.Copies.{copies}
-use Rattle.sm_template.specs.Literals.{literals_filled, literals_of}
-use Rattle.sm_template.specs.NameShapes.{side_tree, shape_form, named_pairs, above_by, above_any, number_shapes, array_shapes, shapes_of}
-use Rattle.sm_template.specs.SameFormulas.{same_formula}
-use Rattle.sm_template.specs.Templates.{name_templates}
-use Rattle.sm_template.specs.Written.{is_written, names_written}
 use Rattle.sm_template.proofs.NameShapesLemmas.{name_forms}
 use Rattle.sm_template.proofs.RepeatsLemmas.{IsNew, AreNew, HasNoRepeats, new_of_any, all_append, no_repeats_append, no_repeats_distinct, no_repeats_take, no_repeats_by_test, no_repeats_map, no_repeats_lists, no_repeats_unmap}
 use Rattle.sm_template.proofs.RepeatsLemmas.{no_repeats_filter, lists_apart, all_apart}

@@ -1,25 +1,8 @@
 -- The templates of a name are those of its kinds, and each is sorted.
-use Rattle.std.proofs.Common.{◌≡◌, ℕ, ℤ, Some, List, [], ◌∷◌, ◌++◌, map, refl, sym, ap, ◌∙◌}
-use Rattle.std.specs.List.{flat_map}
-use Rattle.std.proofs.lemmas.List.{map-append}
-use Rattle.sm_syntax.specs.declared.copies.CopyName.{CopyName}
-use Rattle.sm_syntax.specs.claim.ConflictFree.{Copy, O, A, B, M}
-use Rattle.sm_syntax.specs.text.Sorts.{Sorts}
-use Rattle.sm_syntax.specs.declared.tree.Sort.{Sort}
-use Rattle.sm_syntax.specs.declared.tree.Sort.TheVariants.{Num, Arr}
-use Rattle.sm_syntax.specs.trees.Copies.{copy_named}
-use Rattle.sm_term.specs.Assertions.{Assertion}
-use Rattle.sm_term.specs.Sorted.{HasSort, IsFormSorted}
-use Rattle.sm_term.specs.Terms.{Cell, Read}
-use Rattle.sm_plan.proofs.SortedStates.{place_sorted}
-use Rattle.sm_plan.proofs.SortedTerms.{sort_is}
-use Rattle.sm_template.specs.declared.shapes.Shape.{Shape}
+use Rattle.sm_template.proofs.Imports.{◌≡◌, ℕ, ℤ, Some, List, [], ◌∷◌, ◌++◌, map, refl, sym, ap, ◌∙◌, flat_map, map-append, CopyName, Copy, Sorts, Sort, Num, Arr, copy_named, Assertion, HasSort, IsFormSorted, Cell, Read, place_sorted, sort_is, Shape, Side, side_tree, shape_form, FitsSide, FitsShape, AreShapesFit, named_pairs, above_by, above_any, of_pairs, of_goals, number_at_start, array_at_start, named_copies, number_shapes, shapes_of, apart_by, name_templates, named_declared}
+use Rattle.sm_syntax.specs.claim.ConflictFree.{O, A, B, M}
 use Rattle.sm_template.specs.declared.shapes.Shape.TheVariants as shape
-use Rattle.sm_template.specs.declared.shapes.Side.{Side}
 use Rattle.sm_template.specs.declared.shapes.Side.TheVariants as side
-use Rattle.sm_template.specs.NameShapes.{side_tree, shape_form, FitsSide, FitsShape, AreShapesFit, named_pairs, above_by, above_any, of_pairs, of_goals, number_at_start, array_at_start, named_copies, number_shapes, shapes_of}
-use Rattle.sm_template.specs.Templates.{apart_by, name_templates}
-use Rattle.sm_term.proofs.ExpressionLemmas.{named_declared}
 
 -- what is made of each of several lists
 map-lists : {T U V : Type 0} (f : U → V) (g : T → List U) (h : T → List V) → ((x : T) → map f (g x) ≡ h x) → (xs : List T) →

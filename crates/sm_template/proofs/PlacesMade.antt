@@ -1,22 +1,7 @@
 -- The store in which each declared name has its place in a copy.
-use Rattle.std.proofs.Common.{◌≡◌, ℕ, zero, suc, ◌+◌, ◌<◌, ◌≤◌, Bool, true, false, if◌then◌else◌, Option, Some, None, is_some, List, [], ◌∷◌, length, map, get_or, slice_get, refl, sym, ap, ◌∙◌, arith}
-use Rattle.std.proofs.lemmas.List.{length-map, get_or-map}
+use Rattle.sm_template.proofs.Imports.{◌≡◌, ℕ, zero, suc, ◌+◌, ◌<◌, ◌≤◌, Bool, true, false, if◌then◌else◌, Option, Some, None, is_some, List, [], ◌∷◌, length, map, get_or, slice_get, refl, sym, ap, ◌∙◌, arith, length-map, get_or-map, slice_get_within, get_or_from_slice_get, fun_ext, Copy, Name, Sort, Num, sort_of, Tree, Start, Slot, Cell, tree_or_start, store_in, SymStore, tree_at, TermId, AreNumbered, trees_of, declared_at, declared_below, places_of}
 use Rattle.std.proofs.lemmas.List.FromFn.{get_or-range_with_len}
-use Rattle.std.proofs.lemmas.Option.{slice_get_within, get_or_from_slice_get}
-use Rattle.std.proofs.Math.Path.{fun_ext}
-use Rattle.sm_syntax.specs.claim.ConflictFree.{Copy}
-use Rattle.sm_syntax.specs.declared.tree.Name.{Name}
-use Rattle.sm_syntax.specs.declared.tree.Sort.{Sort}
-use Rattle.sm_syntax.specs.declared.tree.Sort.TheVariants.{Num}
-use Rattle.sm_syntax.specs.text.Parts.{sort_of}
-use Rattle.sm_term.specs.Terms.{Tree, Start, Slot, Cell}
-use Rattle.sm_term.specs.SymStores.{tree_or_start, store_in}
-use Rattle.sm_term.specs.declared.symbolic.SymStore.{SymStore}
-use Rattle.sm_term.specs.Tables.{tree_at}
-use Rattle.sm_term.specs.declared.term.TermId.{TermId}
-use Rattle.sm_plan.specs.Starts.{AreNumbered}
-use Rattle.sm_plan.proofs.StartsMade.{pairs, trees_of, declared_at, declared_below}
-use Rattle.sm_template.specs.Bounds.{places_of}
+use Rattle.sm_plan.proofs.StartsMade.{pairs}
 
 -- the number of a declaration is its place
 number_at : (ds : List (Name × Sort)) (i : ℕ) (d : Name × Sort) → AreNumbered (pairs ds) → i < length ds → (get_or ds i d).0.0 ≡ i

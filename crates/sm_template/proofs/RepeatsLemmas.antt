@@ -1,9 +1,5 @@
 -- Lists without repeats, and what dropping repeats leaves of them.
-use Rattle.std.proofs.Common.{◌≡◌, ℕ, zero, suc, Bool, true, false, cond, ◌||◌, if◌then◌else◌, List, [], ◌∷◌, ◌++◌, map, take, refl, sym, ap, ◌∙◌}
-use Rattle.std.specs.Prelude.{fold}
-use Rattle.std.specs.List.{filter, list_any, flat_map}
-use Rattle.std.proofs.lemmas.List.{append-nil, append_assoc}
-use Rattle.sm_template.specs.Distinct.{with_new, distinct}
+use Rattle.sm_template.proofs.Imports.{◌≡◌, ℕ, zero, suc, Bool, true, false, cond, ◌||◌, if◌then◌else◌, List, [], ◌∷◌, ◌++◌, map, take, refl, sym, ap, ◌∙◌, fold, filter, list_any, flat_map, append-nil, append_assoc, with_new, distinct}
 
 module _ {T : Type 0} (same : T → T → Bool) where
   -- a thing is the same as none of a list

@@ -1,33 +1,8 @@
 -- Names that are declared by number have the sorts of the declarations, and so have some of them.
-use Rattle.std.proofs.Common.{◌≡◌, ℕ, ℤ, ◌==◌, Bool, true, false, cond, if◌then◌else◌, Some, List, [], ◌∷◌, ◌++◌, refl, sym, ap, ◌∙◌, subst}
-use Rattle.std.specs.List.{filter, flat_map}
-use Rattle.std.proofs.lemmas.Bool.{eq-eqb, ne_eqb}
-use Rattle.sm_syntax.specs.claim.Syntax.{Code}
-use Rattle.sm_syntax.specs.claim.ConflictFree.{Copy}
-use Rattle.sm_syntax.specs.text.Parts.{Parts, sort_of}
-use Rattle.sm_syntax.specs.text.Sorts.{Sorts}
-use Rattle.sm_syntax.specs.declared.tree.Sort.{Sort}
-use Rattle.sm_syntax.specs.trees.Programs.{declared_of}
-use Rattle.sm_term.specs.declared.formula.Formula.{Formula}
-use Rattle.sm_term.specs.Assertions.{Assertion}
-use Rattle.sm_term.specs.Tables.{TableValue, trees_in, sorts_in}
-use Rattle.sm_term.specs.TableLaws.{AddsTerms}
-use Rattle.sm_plan.specs.Copies.{Copies}
+use Rattle.sm_template.proofs.Imports.{◌≡◌, ℕ, ℤ, ◌==◌, Bool, true, false, cond, if◌then◌else◌, Some, List, [], ◌∷◌, ◌++◌, refl, sym, ap, ◌∙◌, subst, filter, flat_map, eq-eqb, ne_eqb, Code, Copy, Parts, sort_of, Sorts, Sort, declared_of, Formula, Assertion, TableValue, trees_in, sorts_in, AddsTerms, Copies, AreOutputsDeclared, AreNumbered, loop_guard, loop_body, forms_in, only_in, AddsForms, AreBoundsReady, AddsBounds, bounds_in, distinct, guard_templates, same_formula, IsSiteOf, name_templates, written_templates, block_templates, loop_templates, is_written, names_written}
 use Rattle.sm_plan.specs.ReadyStates.{AreFormsReady}
-use Rattle.sm_plan.specs.SortedStates.{AreOutputsDeclared}
-use Rattle.sm_plan.specs.Starts.{AreNumbered}
-use Rattle.sm_plan.specs.Statements.{loop_guard, loop_body}
-use Rattle.sm_plan.specs.Views.{forms_in}
-use Rattle.sm_moves.specs.CopySets.{members, only_in}
+use Rattle.sm_moves.specs.CopySets.{members}
 use Rattle.sm_template.specs.declared.site.SiteContext.{SiteContext}
-use Rattle.sm_template.specs.AddedForms.{AddsForms}
-use Rattle.sm_template.specs.Bounds.{AreBoundsReady, AddsBounds, bounds_in}
-use Rattle.sm_template.specs.Distinct.{distinct}
-use Rattle.sm_template.specs.Guards.{guard_templates}
-use Rattle.sm_template.specs.SameFormulas.{same_formula}
-use Rattle.sm_template.specs.Sites.{IsSiteOf}
-use Rattle.sm_template.specs.Templates.{name_templates, written_templates, block_templates, loop_templates}
-use Rattle.sm_template.specs.Written.{is_written, names_written}
 use Rattle.sm_template.proofs.AddedLemmas.{added_then, added_grown}
 use Rattle.sm_template.proofs.NameRepeats.{same_name, declared_once}
 use Rattle.sm_template.proofs.RepeatsLemmas.{AreNew, HasNoRepeats}

@@ -1,27 +1,8 @@
 -- What holds of each kind of template holds of each template of a block and of loops.
-use Rattle.std.proofs.Common.{ℕ, zero, suc, Bool, true, false, if◌then◌else◌, ℤ, List, [], ◌∷◌, ◌++◌, map, take, drop}
-use Rattle.std.specs.Prelude.{fold}
-use Rattle.std.specs.List.{list_any, flat_map}
-use Rattle.sm_syntax.specs.declared.tree.Sort.{Sort}
-use Rattle.sm_syntax.specs.declared.tree.Sort.TheVariants.{Num, Arr}
-use Rattle.sm_syntax.specs.claim.Syntax.{Expression, Condition, Yes, No, Compare, Not, And, Or, Code}
-use Rattle.sm_syntax.specs.declared.tree.Cmp.{Cmp}
-use Rattle.sm_syntax.specs.claim.ConflictFree.{Copy}
-use Rattle.sm_syntax.specs.text.Parts.{Parts}
-use Rattle.sm_term.specs.Terms.{Lit, Start, Slot, Add}
-use Rattle.sm_term.specs.Assertions.{Assertion, Eq}
-use Rattle.sm_term.specs.Symbolic.{term_of}
-use Rattle.sm_plan.specs.Copies.{Copies, copies}
-use Rattle.sm_plan.specs.States.{place, keeps_goals}
-use Rattle.sm_plan.specs.Statements.{loop_guard, loop_body}
-use Rattle.sm_moves.specs.CopySets.{members, only_in, pairs}
+use Rattle.sm_template.proofs.Imports.{ℕ, zero, suc, Bool, true, false, if◌then◌else◌, ℤ, List, [], ◌∷◌, ◌++◌, map, take, drop, fold, list_any, flat_map, Sort, Num, Arr, Expression, Condition, Compare, Not, Code, Cmp, Copy, Parts, Lit, Start, Slot, Add, Assertion, Eq, term_of, Copies, copies, place, keeps_goals, loop_guard, loop_body, only_in, with_new, distinct, slots, weaker, guard_templates, literals_of, same_formula, equal_cells, equal_copies, unchanged, apart_by, shifted, name_templates, written_templates, block_templates, loop_templates, names_written}
+use Rattle.sm_syntax.specs.claim.Syntax.{Yes, No, And, Or}
+use Rattle.sm_moves.specs.CopySets.{members, pairs}
 use Rattle.sm_moves.proofs.SetsLemmas.{Each, each_append, each_map, each_flat_map}
-use Rattle.sm_template.specs.Distinct.{with_new, distinct}
-use Rattle.sm_template.specs.Guards.{slots, weaker, guard_templates}
-use Rattle.sm_template.specs.Literals.{literals_of}
-use Rattle.sm_template.specs.SameFormulas.{same_formula}
-use Rattle.sm_template.specs.Templates.{equal_cells, equal_copies, unchanged, apart_by, shifted, name_templates, written_templates, block_templates, loop_templates}
-use Rattle.sm_template.specs.Written.{names_written}
 
 -- what holds of all things holds of each of a list
 each_any : {T : Type 0} (P : T → Type 0) → ((x : T) → P x) → (xs : List T) → Each P xs

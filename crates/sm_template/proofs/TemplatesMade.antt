@@ -1,20 +1,5 @@
 -- The templates of kinds and of names, one after the other.
-use Rattle.std.proofs.Common.{◌≡◌, ℕ, zero, suc, ℤ, ◌+◌, ◌<◌, Some, List, [], ◌∷◌, ◌++◌, map, take, length, get_or, sym, ap, ◌∙◌, subst, arith}
-use Rattle.std.specs.List.{flat_map}
-use Rattle.std.proofs.lemmas.List.{map_more, append-nil}
-use Rattle.std.proofs.lemmas.Grind.{flat_map-append}
-use Rattle.sm_syntax.specs.declared.tree.Name.{Name}
-use Rattle.sm_syntax.specs.text.Sorts.{Sorts}
-use Rattle.sm_syntax.specs.declared.tree.Sort.{Sort}
-use Rattle.sm_term.specs.declared.formula.Formula.{Formula}
-use Rattle.sm_term.specs.Assertions.{Assertion}
-use Rattle.sm_term.specs.Tables.{TableValue, sorts_in}
-use Rattle.sm_term.specs.TableLaws.{AddsTerms}
-use Rattle.sm_plan.specs.SortedStates.{AreOutputsDeclared}
-use Rattle.sm_template.specs.declared.shapes.Shape.{Shape}
-use Rattle.sm_template.specs.AddedForms.{IsFormMade, AddsForms}
-use Rattle.sm_template.specs.NameShapes.{shape_form, FitsShape, AreShapesFit}
-use Rattle.sm_template.specs.Templates.{name_templates}
+use Rattle.sm_template.proofs.Imports.{◌≡◌, ℕ, zero, suc, ℤ, ◌+◌, ◌<◌, Some, List, [], ◌∷◌, ◌++◌, map, take, length, get_or, sym, ap, ◌∙◌, subst, arith, flat_map, map_more, append-nil, flat_map-append, Name, Sorts, Sort, Formula, Assertion, TableValue, sorts_in, AddsTerms, AreOutputsDeclared, Shape, IsFormMade, AddsForms, shape_form, FitsShape, AreShapesFit, name_templates}
 use Rattle.sm_template.proofs.AddedLemmas.{added_then, added_one}
 use Rattle.sm_template.proofs.NameShapesLemmas.{shape_sorted}
 

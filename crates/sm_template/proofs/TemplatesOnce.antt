@@ -1,20 +1,6 @@
 -- No template of a name stands twice, and templates depend on declarations and literals alone.
-use Rattle.std.proofs.Common.{◌≡◌, List, ◌++◌, ap}
-use Rattle.std.specs.List.{flat_map}
-use Rattle.std.proofs.Math.Path.{fun_ext}
-use Rattle.sm_syntax.specs.claim.Syntax.{Code}
-use Rattle.sm_syntax.specs.claim.Fill.{Fillings}
-use Rattle.sm_syntax.specs.claim.ConflictFree.{Copy}
-use Rattle.sm_syntax.specs.text.Parts.{Parts}
-use Rattle.sm_term.specs.Assertions.{Assertion}
-use Rattle.sm_plan.specs.Statements.{loop_guard, loop_body}
-use Rattle.sm_moves.specs.CopySets.{members, only_in}
-use Rattle.sm_template.specs.Distinct.{distinct}
-use Rattle.sm_template.specs.Guards.{guard_templates}
-use Rattle.sm_template.specs.Literals.{literals_of}
-use Rattle.sm_template.specs.SameFormulas.{same_formula}
-use Rattle.sm_template.specs.Templates.{name_templates, written_templates}
-use Rattle.sm_template.specs.Written.{names_written}
+use Rattle.sm_template.proofs.Imports.{◌≡◌, List, ◌++◌, ap, flat_map, fun_ext, Code, Fillings, Copy, Parts, Assertion, loop_guard, loop_body, only_in, distinct, guard_templates, literals_of, same_formula, name_templates, written_templates, names_written}
+use Rattle.sm_moves.specs.CopySets.{members}
 use Rattle.sm_template.specs.TemplateLaws.{BlockTemplatesStandOnce, LoopTemplatesStandOnce, TemplatesDependOnTwo}
 use Rattle.sm_template.proofs.BoundsLemmas.{distinct_behind, guard_bounds, all_bounds, bounds_new}
 use Rattle.sm_template.proofs.NameRepeats.{templates_once}

@@ -1,20 +1,8 @@
 -- Formulas of terms that are made.
-use Rattle.std.proofs.Common.{◌≡◌, ℕ, ◌<◌, Some, length, slice_get, sym, ap, ◌∙◌, subst}
-use Rattle.sm_syntax.specs.claim.ConflictFree.{Copy, O, A, B, M}
-use Rattle.sm_syntax.specs.declared.tree.Sort.{Sort}
-use Rattle.sm_syntax.specs.declared.tree.Sort.TheVariants.{Num}
+use Rattle.sm_template.proofs.Imports.{◌≡◌, ℕ, ◌<◌, Some, length, slice_get, sym, ap, ◌∙◌, subst, Copy, Sort, Num, NumberedFormula, numbered, assertion_in, IsFormulaWithin, Formula, tree_sort, TableValue, trees_in, sorts_in, tree_at, Tree, tree_got, there, place, place_sorted, IsFormMade, keeps_change, adds_nothing}
+use Rattle.sm_syntax.specs.claim.ConflictFree.{O, A, B, M}
 use Rattle.sm_term.specs.Assertions as plain
 use Rattle.sm_term.specs.Formulas as over
-use Rattle.sm_term.specs.Formulas.{NumberedFormula, numbered, assertion_in, IsFormulaWithin}
-use Rattle.sm_term.specs.declared.formula.Formula.{Formula}
-use Rattle.sm_term.specs.Sorted.{tree_sort}
-use Rattle.sm_term.specs.Tables.{TableValue, trees_in, sorts_in, tree_at}
-use Rattle.sm_term.specs.Terms.{Tree}
-use Rattle.sm_term.proofs.ExpressionLemmas.{tree_got, there}
-use Rattle.sm_plan.specs.States.{place}
-use Rattle.sm_plan.proofs.SortedStates.{place_sorted}
-use Rattle.sm_template.specs.AddedForms.{IsFormMade}
-use Rattle.sm_template.specs.NameShapes.{keeps_change, adds_nothing}
 
 module _ (v : TableValue) where
   -- a number has a tree

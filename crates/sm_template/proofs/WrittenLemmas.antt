@@ -1,24 +1,13 @@
 -- Names that some copy's code writes, and the declared ones among them.
-use Rattle.std.proofs.Common.{◌≡◌, ℕ, ◌+◌, ◌<◌, ◌==◌, Bool, true, false, cond, ◌||◌, List, [], ◌∷◌, ◌++◌, map, take, length, get_or, refl, sym, ap, ◌∙◌}
+use Rattle.sm_template.proofs.Imports.{◌≡◌, ℕ, ◌+◌, ◌<◌, ◌==◌, Bool, true, false, cond, ◌||◌, List, [], ◌∷◌, ◌++◌, map, take, length, get_or, refl, sym, ap, ◌∙◌, filter, nat_cmp, fun_ext, append-nil, map-append, map_more, Code, Copy, Name, Sort, is_in, outputs_of, either-either, AreWrites, is_written}
 use Rattle.std.specs.BTreeSet.{BTreeSet, contains}
-use Rattle.std.specs.List.{filter}
-use Rattle.std.specs.Ordering.{nat_cmp}
-use Rattle.std.proofs.Math.Path.{fun_ext}
-use Rattle.std.proofs.lemmas.List.{append-nil, map-append, map_more}
 use Rattle.std.proofs.lemmas.List.Elements.{filter-append}
 use Rattle.sm_syntax.specs.Assigns.{assigns}
-use Rattle.sm_syntax.specs.claim.Syntax.{Code}
-use Rattle.sm_syntax.specs.claim.ConflictFree.{Copy, O, A, B, M}
+use Rattle.sm_syntax.specs.claim.ConflictFree.{O, A, B, M}
 use Rattle.sm_syntax.specs.declared.copies.PerCopy.{PerCopy}
 use Rattle.sm_syntax.specs.declared.program.Outputs.{Outputs}
-use Rattle.sm_syntax.specs.declared.tree.Name.{Name}
-use Rattle.sm_syntax.specs.declared.tree.Sort.{Sort}
-use Rattle.sm_syntax.specs.text.Conditions.{is_in}
-use Rattle.sm_syntax.specs.trees.Programs.{outputs_of}
 use Rattle.sm_deps.specs.Members.{members, only, either}
-use Rattle.sm_deps.proofs.MembersLemmas.{none, either-either}
-use Rattle.sm_template.specs.Sites.{AreWrites}
-use Rattle.sm_template.specs.Written.{is_written}
+use Rattle.sm_deps.proofs.MembersLemmas.{none}
 use Rattle.sm_template.proofs.TemplatesMade.{names_of}
 use Rattle.sm_lemmas.proofs.Tests.{or_false, or_assoc}
 

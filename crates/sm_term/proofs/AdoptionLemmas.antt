@@ -1,29 +1,9 @@
 -- Rows that are put into another table: each is there, and what was there stays.
-use Rattle.std.proofs.Common.{◌≡◌, ℕ, zero, suc, ◌+◌, ◌-◌, ◌<◌, ◌≤◌, Bool, true, false, nat_lt, if◌then◌else◌, Some, List, [], ◌∷◌, ◌++◌, length, map, take, drop, get_or, slice_get, pos, refl, sym, ap, ◌∙◌, subst, arith}
-use Rattle.std.specs.List.{list_any}
-use Rattle.sm_numbering.specs.Numbers.{with_value}
-use Rattle.std.proofs.lemmas.List.{append-nil, append_assoc, map-append, take_more, drop_more, length-take, length-append, get_or-take, get_or_append_left, get_or-append-add}
-use Rattle.std.proofs.Math.Seq.{take-append_seam}
-use Rattle.std.proofs.lemmas.Bool.{ltb-true, ltb-false}
-use Rattle.std.proofs.lemmas.Option.{slice_get-get_or, get_or_from_slice_get, slice_get_within}
-use Rattle.sm_syntax.specs.claim.Syntax.{Code, End}
-use Rattle.sm_syntax.specs.text.Parts.{sort_of}
-use Rattle.sm_syntax.specs.text.Sorts.{Sorts}
-use Rattle.sm_syntax.specs.trees.Views.{code_of}
+use Rattle.sm_term.proofs.Imports.{◌≡◌, ℕ, zero, suc, ◌+◌, ◌-◌, ◌<◌, ◌≤◌, Bool, true, false, nat_lt, if◌then◌else◌, Some, List, [], ◌∷◌, ◌++◌, length, map, take, drop, get_or, slice_get, pos, refl, sym, ap, ◌∙◌, subst, arith, list_any, with_value, append-nil, append_assoc, map-append, take_more, drop_more, length-take, length-append, get_or-take, get_or_append_left, get_or-append-add, take-append_seam, ltb-true, ltb-false, slice_get-get_or, get_or_from_slice_get, slice_get_within, Code, End, sort_of, Sorts, code_of, Body, BodyId, Tree, block_of, same_body, parts_in_list, contents_of, TableValue, trees_in, codes_in, tree_at, code_at, tree_in, trees_behind, IsTermWithin, Term, term_fits, AreTermsSound, with_tree, with_code, with_trees, with_codes, ExtendsTable, trees_numbered, moved_part, moved_body, bodies_in_list, moved_contents, codes_numbered, KeepsRows}
 use Rattle.sm_syntax.specs.declared.tree.Block.{Block}
-use Rattle.sm_term.specs.declared.body.Body.{Body}
-use Rattle.sm_term.specs.declared.term.BodyId.{BodyId}
 use Rattle.sm_term.specs.declared.term.Term.TheVariants as row
-use Rattle.sm_term.specs.Terms.{Tree}
 use Rattle.sm_term.specs.Terms as tree
-use Rattle.sm_term.specs.Bodies.{block_of, same_body}
-use Rattle.sm_term.specs.Rows.{parts_in_list}
-use Rattle.sm_term.specs.RowLaws.{contents_of}
-use Rattle.sm_term.specs.Tables.{TableValue, trees_in, codes_in, tree_at, code_at, tree_in, trees_behind, IsTermWithin, TermId, Term}
-use Rattle.sm_term.specs.Fitting.{term_fits}
-use Rattle.sm_term.specs.TableLaws.{AreTermsSound, with_tree, with_code, with_trees, with_codes, ExtendsTable}
-use Rattle.sm_term.specs.Tails.{trees_numbered}
-use Rattle.sm_term.specs.Moves.{moved_part, moved_body, bodies_in_list, moved_contents, codes_numbered, KeepsRows}
+use Rattle.sm_term.specs.Tables.{TermId}
 use Rattle.sm_term.proofs.TreesLemmas.{length-trees}
 use Rattle.sm_term.proofs.TablesLemmas.{stands}
 use Rattle.sm_term.proofs.MovesLemmas.{moved_tree, moved_within, moved_fits}

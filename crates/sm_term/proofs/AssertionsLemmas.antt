@@ -1,24 +1,12 @@
 -- What formulas say: of conditions, of their contraries, of conjunctions and of refuted facts.
-use Rattle.std.proofs.Common.{◌≡◌, ◌↔◌, ℤ, Bool, true, false, not, ◌&&◌, ◌||◌, IsTrue, List, [], ◌∷◌, ◌++◌, refl, sym, ⊎_elim, arith, int_lt}
-use Rattle.std.specs.Prelude.{◌≤ℤ◌, ◌<ℤ◌}
+use Rattle.sm_term.proofs.Imports.{◌≡◌, ◌↔◌, ℤ, Bool, true, false, not, ◌&&◌, ◌||◌, IsTrue, List, [], ◌∷◌, ◌++◌, refl, sym, ⊎_elim, arith, int_lt, ◌≤ℤ◌, ◌<ℤ◌, cases_Bool, Decides-int_eq, not_from_Decides, Sort, Num, Arr, Expression, Condition, Value, number, array, relation, truth_of, SameAs, Tree, Structure, meaning, Assertion, Holds, AllHold, IsValid, IsRefuted, negate, conj, SymbolicStore, store_meant, term_of, comparison_form, form_of}
 use Rattle.std.specs.Ordering.{int_eq}
-use Rattle.std.proofs.lemmas.Bool.{cases_Bool}
-use Rattle.std.proofs.lemmas.Bool.Decides.{Decides-int_eq, not_from_Decides}
 use Rattle.std.proofs.lemmas.Int.{ints, by_lt_z}
 use Rattle.sm_syntax.proofs.Kept.{int_cases}
 use Rattle.sm_syntax.specs.declared.tree.Cmp.TheVariants as cmp
-use Rattle.sm_syntax.specs.declared.tree.Sort.{Sort}
-use Rattle.sm_syntax.specs.declared.tree.Sort.TheVariants.{Num, Arr}
 use Rattle.sm_syntax.specs.claim.Syntax as syntax
-use Rattle.sm_syntax.specs.claim.Syntax.{Expression, Condition}
 use Rattle.sm_syntax.specs.declared.tree.Cmp.{Cmp}
-use Rattle.sm_syntax.specs.claim.Stores.{Value, number, array}
-use Rattle.sm_syntax.specs.claim.Meaning.{relation, truth_of}
-use Rattle.sm_syntax.specs.SameAs.{SameAs}
-use Rattle.sm_term.specs.Terms.{Tree}
-use Rattle.sm_term.specs.Structures.{Structure, meaning}
-use Rattle.sm_term.specs.Assertions.{Assertion, Yes, No, Eq, Ne, Le, Lt, And, Or, Holds, AllHold, IsValid, IsRefuted, negate, conj}
-use Rattle.sm_term.specs.Symbolic.{SymbolicStore, store_meant, term_of, comparison_form, form_of}
+use Rattle.sm_term.specs.Assertions.{Yes, No, Eq, Ne, Le, Lt, And, Or}
 use Rattle.sm_term.proofs.SymbolicLemmas.{term_means}
 
 -- numbers that can't differ are equal

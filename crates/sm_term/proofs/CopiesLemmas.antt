@@ -1,21 +1,7 @@
 -- A table whose rows are put into a new table in turn, which then stands for the same.
-use Rattle.std.proofs.Common.{◌≡◌, ◌↔◌, ℕ, zero, suc, ◌+◌, map, slice_get, Some, ◌<◌, Bool, true, false, if◌then◌else◌, IsTrue, List, [], ◌∷◌, ◌++◌, length, take, drop, get_or, pos, refl, sym, ap, ◌∙◌, subst, arith}
-use Rattle.std.specs.List.{list_any}
-use Rattle.std.proofs.lemmas.List.{get_or-take, length-take, take_more, take-append-drop}
-use Rattle.std.proofs.lemmas.Option.{slice_get-get_or, get_or_from_slice_get}
-use Rattle.sm_syntax.specs.claim.Syntax.{Code, End}
-use Rattle.sm_syntax.specs.trees.Views.{code_of}
-use Rattle.sm_term.specs.declared.body.Body.{Body}
-use Rattle.sm_term.specs.Bodies.{block_of}
-use Rattle.sm_syntax.specs.text.Sorts.{Sorts}
+use Rattle.sm_term.proofs.Imports.{◌≡◌, ◌↔◌, ℕ, zero, suc, ◌+◌, map, slice_get, Some, ◌<◌, Bool, true, false, if◌then◌else◌, IsTrue, List, [], ◌∷◌, ◌++◌, length, take, drop, get_or, pos, refl, sym, ap, ◌∙◌, subst, arith, list_any, get_or-take, length-take, take_more, take-append-drop, slice_get-get_or, get_or_from_slice_get, Code, End, code_of, Body, block_of, Sorts, Tree, same_code, same_tree, contents_of, code_at, tree_in, trees_behind, IsTermWithin, Term, term_fits, AreCodesApart, IsTable, with_tree, with_code}
 use Rattle.sm_term.specs.declared.term.Term.TheVariants as row
-use Rattle.sm_term.specs.Terms.{Tree}
 use Rattle.sm_term.specs.Terms as tree
-use Rattle.sm_term.specs.SameTerms.{same_code, same_tree}
-use Rattle.sm_term.specs.RowLaws.{contents_of}
-use Rattle.sm_term.specs.Tables.{code_at, tree_in, trees_behind, IsTermWithin, Term}
-use Rattle.sm_term.specs.Fitting.{term_fits}
-use Rattle.sm_term.specs.TableLaws.{AreCodesApart, IsTable, with_tree, with_code}
 use Rattle.sm_term.proofs.SameTermsLemmas.{same_code_is, same_tree_is}
 use Rattle.sm_term.proofs.TermsLemmas.{alike, within_alike, fits_alike}
 use Rattle.sm_term.proofs.TreesLemmas.{length-trees, tree_in-more, fits-more}

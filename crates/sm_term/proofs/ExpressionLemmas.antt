@@ -1,20 +1,9 @@
 -- Terms of expressions over a table that grows.
-use Rattle.std.proofs.Common.{◌≡◌, ℕ, zero, suc, pos, ◌<◌, ◌≤◌, true, Option, Some, None, List, [], ◌∷◌, ◌++◌, length, slice_get, refl, sym, ap, ◌∙◌, subst, arith, is_some}
+use Rattle.sm_term.proofs.Imports.{◌≡◌, ℕ, zero, suc, pos, ◌<◌, ◌≤◌, true, Option, Some, None, List, [], ◌∷◌, ◌++◌, length, slice_get, refl, sym, ap, ◌∙◌, subst, arith, is_some, slice_get_within, slice_get_past, slice_get-get_or, get_or_from_slice_get, length-append, Expression, Var, Plus, Minus, Times, Sorts, IsWellSortedExpression, Sort, Num, Tree, tree_sort, IsDeclaredIn, IsStoreSorted, SymbolicStore, term_of, tree_or_start, store_in, IsStoreWithin, SymStore, has_sort, TableValue, trees_in, sorts_in, tree_at, AddsTerms}
 use Rattle.std.proofs.Math.Path.{fun_ext}
-use Rattle.std.proofs.lemmas.Option.{slice_get_within, slice_get_past, slice_get-get_or, get_or_from_slice_get}
-use Rattle.std.proofs.lemmas.List.{length-append}
-use Rattle.sm_syntax.specs.claim.Syntax.{Expression, Lit, Var, Read, Neg, Plus, Minus, Times}
-use Rattle.sm_syntax.specs.text.Sorts.{Sorts, IsWellSortedExpression}
-use Rattle.sm_syntax.specs.declared.tree.Sort.{Sort}
-use Rattle.sm_syntax.specs.declared.tree.Sort.TheVariants.{Num}
-use Rattle.sm_term.specs.Terms.{Tree}
+use Rattle.sm_syntax.specs.claim.Syntax.{Lit, Read, Neg}
 use Rattle.sm_term.specs.Terms as tree
-use Rattle.sm_term.specs.Sorted.{tree_sort, IsDeclaredIn, IsStoreSorted}
-use Rattle.sm_term.specs.Symbolic.{SymbolicStore, term_of}
-use Rattle.sm_term.specs.SymStores.{tree_or_start, store_in, IsStoreWithin, SymStore}
-use Rattle.sm_term.specs.Fitting.{has_sort}
-use Rattle.sm_term.specs.Tables.{TableValue, trees_in, sorts_in, tree_at, TermId}
-use Rattle.sm_term.specs.TableLaws.{AddsTerms}
+use Rattle.sm_term.specs.Tables.{TermId}
 use Rattle.sm_term.proofs.SameTermsLemmas.{same_sort_is}
 use Rattle.sm_term.proofs.TermsLemmas.{part_before}
 use Rattle.sm_term.proofs.TreesLemmas.{tree_at-more, before-later}

@@ -1,15 +1,6 @@
 -- Formulas over a table that grows.
-use Rattle.std.proofs.Common.{◌≡◌, ℕ, ◌≤◌, List, ◌++◌, length, refl, sym, ap, ◌∙◌, subst, arith}
-use Rattle.std.proofs.lemmas.List.{length-append}
-use Rattle.sm_syntax.specs.claim.Syntax.{Condition}
-use Rattle.sm_syntax.specs.text.Sorts.{Sorts, IsWellSortedCondition}
+use Rattle.sm_term.proofs.Imports.{◌≡◌, ℕ, ◌≤◌, List, ◌++◌, length, refl, sym, ap, ◌∙◌, subst, arith, length-append, Condition, Sorts, IsWellSortedCondition, Tree, form_of, store_in, IsStoreWithin, SymStore, NumberedFormula, contrary, assertion_in, IsFormulaWithin, TableValue, trees_in, sorts_in, AddsTerms}
 use Rattle.sm_term.specs.Formulas as form
-use Rattle.sm_term.specs.Terms.{Tree}
-use Rattle.sm_term.specs.Symbolic.{form_of}
-use Rattle.sm_term.specs.SymStores.{store_in, IsStoreWithin, SymStore}
-use Rattle.sm_term.specs.Formulas.{NumberedFormula, contrary, assertion_in, IsFormulaWithin}
-use Rattle.sm_term.specs.Tables.{TableValue, trees_in, sorts_in}
-use Rattle.sm_term.specs.TableLaws.{AddsTerms}
 use Rattle.sm_term.proofs.TreesLemmas.{tree_at-more}
 use Rattle.sm_term.proofs.ExpressionLemmas.{store-more}
 

@@ -1,9 +1,6 @@
 -- The contrary of a formula over numbers is the negation of the formula over trees.
-use Rattle.std.proofs.Common.{◌≡◌, List, refl}
-use Rattle.sm_syntax.specs.text.Sorts.{Sorts}
-use Rattle.sm_term.specs.Terms.{Tree}
-use Rattle.sm_term.specs.Assertions.{negate}
-use Rattle.sm_term.specs.Formulas.{NumberedFormula, Yes, No, Eq, Ne, Le, Lt, And, Or, contrary, assertion_in}
+use Rattle.sm_term.proofs.Imports.{◌≡◌, List, refl, Sorts, Tree, negate, NumberedFormula, contrary, assertion_in}
+use Rattle.sm_term.specs.Formulas.{Yes, No, Eq, Ne, Le, Lt, And, Or}
 
 -- the contrary over numbers, and over trees
 pub contrary_negates : (sorts : Sorts) (trees : List Tree) (f : NumberedFormula) → assertion_in sorts trees (contrary f) ≡ negate (assertion_in sorts trees f)

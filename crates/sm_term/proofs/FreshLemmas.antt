@@ -1,12 +1,7 @@
 -- New values of one node, and what doesn't name them.
-use Rattle.std.proofs.Common.{◌≡◌, ◌↔◌, ◌≤◌, ℕ, Bool, if◌then◌else◌, List, [], ◌∷◌, ◌++◌, refl, ap, arith}
-use Rattle.std.proofs.lemmas.Bool.{ne_eqb}
-use Rattle.sm_syntax.specs.claim.Stores.{Store}
-use Rattle.sm_syntax.specs.claim.Meaning.{run}
-use Rattle.sm_syntax.specs.claim.ConflictFree.{Copy}
-use Rattle.sm_term.specs.Terms.{Tree, Lit, Start, Havoc, Slot, Cell, Read, Write, Neg, Add, Sub, Mul, Fun, Arguments, Over, Given}
-use Rattle.sm_term.specs.Structures.{Structure, value_at, meaning, store_given, with_havoc}
-use Rattle.sm_term.specs.Assertions.{Assertion, Yes, No, Eq, Ne, Le, Lt, And, Or, Holds, AllHold}
+use Rattle.sm_term.proofs.Imports.{◌≡◌, ◌↔◌, ◌≤◌, ℕ, Bool, if◌then◌else◌, List, [], ◌∷◌, ◌++◌, refl, ap, arith, ne_eqb, Store, run, Copy, Tree, Start, Havoc, Slot, Write, Add, Sub, Mul, Fun, Arguments, Over, Given, Structure, value_at, meaning, store_given, with_havoc, Assertion, Holds, AllHold}
+use Rattle.sm_term.specs.Terms.{Lit, Cell, Read, Neg}
+use Rattle.sm_term.specs.Assertions.{Yes, No, Eq, Ne, Le, Lt, And, Or}
 use Rattle.sm_term.specs.Fresh.{IsBelow, AreBelow, IsFormBelow, AreFormsBelow}
 use Rattle.sm_term.proofs.SlotsLemmas.{same_at, both_at, some_at, not_at, at_most_at, less_at}
 

@@ -1,11 +1,6 @@
 -- Terms with one head: they have one sort and as many arguments, and differ in these alone.
-use Rattle.std.proofs.Common.{◌≡◌, ℕ, ◌==◌, ◌&&◌, IsTrue, List, [], ◌∷◌, refl, ap}
-use Rattle.std.proofs.lemmas.Bool.{eqb-true, and_parts}
-use Rattle.sm_syntax.specs.text.Sorts.{Sorts}
-use Rattle.sm_syntax.specs.claim.Syntax.{Code}
-use Rattle.sm_term.specs.Terms.{Tree, Read, Write, Neg, Add, Sub, Mul, Fun, Arguments, Over, Given}
-use Rattle.sm_term.specs.Sorted.{tree_sort, sort_named}
-use Rattle.sm_term.specs.SameTerms.{same_code}
+use Rattle.sm_term.proofs.Imports.{◌≡◌, ℕ, ◌==◌, ◌&&◌, IsTrue, List, [], ◌∷◌, refl, ap, eqb-true, and_parts, Sorts, Code, Tree, Write, Add, Sub, Mul, Fun, Arguments, Over, Given, tree_sort, sort_named, same_code}
+use Rattle.sm_term.specs.Terms.{Read, Neg}
 use Rattle.sm_term.specs.Heads.{terms_given, arguments_of, same_names, same_head}
 use Rattle.sm_term.proofs.SameTermsLemmas.{same_code_is}
 

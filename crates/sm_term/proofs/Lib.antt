@@ -1,3 +1,4 @@
+mod Imports
 pub mod SymbolicLemmas
 pub mod AssertionsLemmas
 pub mod SlotsLemmas

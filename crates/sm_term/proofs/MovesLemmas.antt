@@ -1,20 +1,8 @@
 -- A row whose parts and body are moved stands for the same in the other table.
-use Rattle.std.proofs.Common.{◌≡◌, ℕ, ◌<◌, Bool, ◌&&◌, List, [], ◌∷◌, length, map, refl, sym, ap, ◌∙◌, subst, arith}
-use Rattle.sm_syntax.specs.declared.tree.Name.{Name}
-use Rattle.sm_syntax.specs.claim.Syntax.{Code}
-use Rattle.sm_syntax.specs.claim.ConflictFree.{copy_of}
-use Rattle.sm_syntax.specs.text.Sorts.{Sorts}
-use Rattle.sm_syntax.specs.declared.tree.Sort.{Sort}
-use Rattle.sm_syntax.specs.declared.tree.Sort.TheVariants.{Num, Arr}
+use Rattle.sm_term.proofs.Imports.{◌≡◌, ℕ, ◌<◌, Bool, ◌&&◌, List, [], ◌∷◌, length, map, refl, sym, ap, ◌∙◌, subst, arith, Name, Code, copy_of, Sorts, Sort, Num, Arr, Tree, term_numbers, names_of_term, parts_of_term, names_in_list, parts_in_list, Contents, contents_of, IsDeclaredIn, tree_at, code_at, arguments_in, tree_in, IsTermWithin, AreBefore, Term, has_sort, arguments_fit, term_fits, moved_numbers, moved_contents}
 use Rattle.sm_term.specs.declared.term.Term.TheVariants as row
-use Rattle.sm_term.specs.Terms.{Tree}
 use Rattle.sm_term.specs.Terms as tree
-use Rattle.sm_term.specs.Rows.{term_numbers, names_of_term, parts_of_term, names_in_list, parts_in_list}
-use Rattle.sm_term.specs.RowLaws.{Contents, contents_of}
-use Rattle.sm_term.specs.Sorted.{IsDeclaredIn}
-use Rattle.sm_term.specs.Tables.{tree_at, code_at, arguments_in, tree_in, IsTermWithin, AreBefore, TermId, Term}
-use Rattle.sm_term.specs.Fitting.{has_sort, arguments_fit, term_fits}
-use Rattle.sm_term.specs.Moves.{moved_numbers, moved_contents}
+use Rattle.sm_term.specs.Tables.{TermId}
 use Rattle.sm_term.proofs.TermsLemmas.{declared_alike}
 
 module _ (sorts : Sorts) (codes there : List Code) (trees whole : List Tree) (n : ℕ) (part body : ℕ → ℕ)

@@ -1,16 +1,9 @@
 -- The row of an operation on two terms of a table.
-use Rattle.std.proofs.Common.{◌≡◌, ℕ, ◌<◌, true, List}
-use Rattle.std.proofs.lemmas.Bool.{and_from}
-use Rattle.sm_syntax.specs.claim.Syntax.{Code}
-use Rattle.sm_syntax.specs.text.Sorts.{Sorts}
-use Rattle.sm_syntax.specs.declared.tree.Sort.TheVariants.{Num}
+use Rattle.sm_term.proofs.Imports.{◌≡◌, ℕ, ◌<◌, true, List, and_from, Code, Sorts, Num, Tree, pair_tree, pair_row, has_sort, term_fits, tree_at, tree_in, IsTermWithin}
 use Rattle.sm_term.specs.declared.symbolic.Operation.{Operation}
 use Rattle.sm_term.specs.declared.symbolic.Operation.TheVariants.{Sum, Difference, Product}
-use Rattle.sm_term.specs.Terms.{Tree}
 use Rattle.sm_term.specs.Terms as tree
-use Rattle.sm_term.specs.Pairs.{pair_tree, pair_row}
-use Rattle.sm_term.specs.Fitting.{has_sort, term_fits}
-use Rattle.sm_term.specs.Tables.{tree_at, tree_in, IsTermWithin, TermId}
+use Rattle.sm_term.specs.Tables.{TermId}
 
 -- the parts of the row are there
 pub pair_within : (sorts : Sorts) (bodies n : ℕ) (op : Operation) (t u : TermId) → t.0 < n → u.0 < n → IsTermWithin sorts bodies n (pair_row op t u)

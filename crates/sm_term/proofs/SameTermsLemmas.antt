@@ -1,12 +1,6 @@
 -- Terms pass the test of being the same exactly where they are equal.
-use Rattle.std.proofs.Common.{◌≡◌, ◌↔◌, ◌==◌, true, ◌&&◌, IsTrue, refl}
-use Rattle.std.proofs.lemmas.Bool.{eqb-true, and_parts}
-use Rattle.std.proofs.lemmas.Bool.Decides.{Decides-int_eq}
-use Rattle.sm_syntax.specs.declared.tree.Sort.{Sort}
-use Rattle.sm_syntax.specs.declared.tree.Sort.TheVariants.{Num, Arr}
-use Rattle.sm_syntax.specs.claim.ConflictFree.{Copy, O, A, B, M}
-use Rattle.sm_term.specs.Terms.{Tree, Lit, Start, Havoc, Slot, Cell, Read, Write, Neg, Add, Sub, Mul, Fun, Arguments, Over, Given}
-use Rattle.sm_term.specs.SameTerms.{is_copy, same_sort, same_code, same_tree, same_arguments}
+use Rattle.sm_term.proofs.Imports.{◌≡◌, ◌↔◌, ◌==◌, true, ◌&&◌, IsTrue, refl, eqb-true, and_parts, Decides-int_eq, Sort, Num, Arr, Copy, O, A, B, M, Tree, Start, Havoc, Slot, Write, Add, Sub, Mul, Fun, Arguments, Over, Given, is_copy, same_sort, same_code, same_tree, same_arguments}
+use Rattle.sm_term.specs.Terms.{Lit, Cell, Read, Neg}
 use Rattle.sm_term.specs.SameTestLaws.{both, three, says, same_number, same_whole}
 use Rattle.sm_term.specs.SameCodeLaws.{code_gives, code_itself}
 pub use Rattle.sm_term.specs.SameTestLaws.{same_comparison_is, same_expression_is, same_condition_is}

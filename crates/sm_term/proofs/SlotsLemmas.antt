@@ -1,15 +1,7 @@
 -- Slots and the terms that stand for them.
-use Rattle.std.proofs.Common.{◌≡◌, ◌↔◌, List, [], ◌∷◌, refl, ap}
-use Rattle.std.specs.Prelude.{◌≤ℤ◌, ◌<ℤ◌}
-use Rattle.sm_syntax.specs.declared.tree.Sort.{Sort}
-use Rattle.sm_syntax.specs.claim.Stores.{Value, number, Store}
-use Rattle.sm_syntax.specs.claim.Meaning.{run}
-use Rattle.sm_syntax.specs.claim.ConflictFree.{Copy}
-use Rattle.sm_syntax.specs.SameAs.{SameAs}
-use Rattle.sm_term.specs.Terms.{Tree, Lit, Start, Havoc, Slot, Cell, Read, Write, Neg, Add, Sub, Mul, Fun, Arguments, Over, Given}
-use Rattle.sm_term.specs.Structures.{Structure, value_at, meaning, store_given, with_slots}
-use Rattle.sm_term.specs.Assertions.{Assertion, Yes, No, Eq, Ne, Le, Lt, And, Or, Holds, AllHold}
-use Rattle.sm_term.specs.Symbolic.{SymbolicStore, store_meant}
+use Rattle.sm_term.proofs.Imports.{◌≡◌, ◌↔◌, List, [], ◌∷◌, refl, ap, ◌≤ℤ◌, ◌<ℤ◌, Sort, Value, number, Store, run, Copy, SameAs, Tree, Start, Havoc, Slot, Write, Add, Sub, Mul, Fun, Arguments, Over, Given, Structure, value_at, meaning, store_given, with_slots, Assertion, Holds, AllHold, SymbolicStore, store_meant}
+use Rattle.sm_term.specs.Terms.{Lit, Cell, Read, Neg}
+use Rattle.sm_term.specs.Assertions.{Yes, No, Eq, Ne, Le, Lt, And, Or}
 use Rattle.sm_term.specs.Slots.{fill_term, fill_arguments, at_stores, all_at_stores}
 
 -- the structure with the meanings of symbolic stores at the slots

@@ -1,8 +1,6 @@
 -- Formulas that keep to sorts, negated and joined.
-use Rattle.sm_syntax.specs.text.Sorts.{Sorts}
-use Rattle.sm_term.specs.Assertions.{Assertion, Yes, No, Eq, Ne, Le, Lt, And, Or, negate}
-use Rattle.sm_term.specs.Sorted.{IsFormSorted, AreFormsSorted}
-use Rattle.std.proofs.Common.{List, [], ◌∷◌, ◌++◌}
+use Rattle.sm_term.proofs.Imports.{Sorts, Assertion, negate, IsFormSorted, AreFormsSorted, List, [], ◌∷◌, ◌++◌}
+use Rattle.sm_term.specs.Assertions.{Yes, No, Eq, Ne, Le, Lt, And, Or}
 
 -- a formula's contrary
 pub negate_sorted : (sorts : Sorts) (f : Assertion) → IsFormSorted sorts f → IsFormSorted sorts (negate f)

@@ -1,10 +1,6 @@
 -- The term of an expression means its value.
-use Rattle.std.proofs.Common.{◌≡◌, neg_ℤ, refl, ap}
-use Rattle.sm_syntax.specs.claim.Syntax.{Expression, Lit, Var, Read, Neg, Plus, Minus, Times}
-use Rattle.sm_syntax.specs.claim.Stores.{Value, Number, number, array}
-use Rattle.sm_syntax.specs.claim.Meaning.{value_of}
-use Rattle.sm_term.specs.Structures.{Structure, meaning}
-use Rattle.sm_term.specs.Symbolic.{SymbolicStore, store_meant, term_of}
+use Rattle.sm_term.proofs.Imports.{◌≡◌, neg_ℤ, refl, ap, Expression, Var, Plus, Minus, Times, Value, Number, number, array, value_of, Structure, meaning, SymbolicStore, store_meant, term_of}
+use Rattle.sm_syntax.specs.claim.Syntax.{Lit, Read, Neg}
 
 -- the term of an expression means the expression's value in the store that the symbolic store means
 pub term_means : (m : Structure) (e : Expression) (s : SymbolicStore) → meaning m (term_of e s) ≡ value_of e (store_meant m s)

@@ -1,26 +1,8 @@
 -- What is so of tables of terms stays so where a term or a body is put behind, or the last are cut.
-use Rattle.std.proofs.Common.{◌≡◌, ℕ, zero, suc, pos, ◌+◌, ◌<◌, ◌≤◌, Bool, true, false, ◌||◌, if◌then◌else◌, List, [], ◌∷◌, ◌++◌, map, length, take, get_or, slice_get, refl, sym, ap, ◌∙◌, subst, arith, Some, true≢false, ⊎_elim}
-use Rattle.std.specs.List.{list_any}
-use Rattle.sm_numbering.specs.Numbers.{with_value}
-use Rattle.std.proofs.Math.Seq.{get_or-append_seam}
-use Rattle.std.proofs.lemmas.Bool.{cases_lt}
-use Rattle.std.proofs.lemmas.List.{get_or_append_left, length-append, append_assoc, get_or-take, length-take, append-nil}
-use Rattle.std.proofs.lemmas.Option.{slice_get-get_or, get_or_from_slice_get, slice_get_within}
-use Rattle.sm_syntax.specs.claim.Syntax.{Code, End}
-use Rattle.sm_syntax.specs.text.Sorts.{Sorts, IsWellSorted}
+use Rattle.sm_term.proofs.Imports.{◌≡◌, ℕ, zero, suc, pos, ◌+◌, ◌<◌, ◌≤◌, Bool, true, false, ◌||◌, if◌then◌else◌, List, [], ◌∷◌, ◌++◌, map, length, take, get_or, slice_get, refl, sym, ap, ◌∙◌, subst, arith, Some, true≢false, ⊎_elim, list_any, with_value, get_or-append_seam, cases_lt, get_or_append_left, length-append, append_assoc, get_or-take, length-take, append-nil, slice_get-get_or, get_or_from_slice_get, slice_get_within, Code, End, Sorts, IsWellSorted, Tree, same_code, same_tree, code_of, Body, block_of, body_code, same_body-Decides, same_term, same_term-Decides, IsSorted, TableValue, trees_in, sorts_in, codes_in, tree_at, code_at, tree_in, trees_behind, IsTermWithin, Term, term_fits, AreTermsSound, AreApart, AreCodesApart, AreTreesSorted, AreCodesSorted, IsTable, with_tree, with_code, AddsTerms}
 use Rattle.sm_term.specs.declared.term.Term.TheVariants as row
-use Rattle.sm_term.specs.Terms.{Tree}
 use Rattle.sm_term.specs.Terms as tree
-use Rattle.sm_term.specs.SameTerms.{same_code, same_tree}
-use Rattle.sm_syntax.specs.trees.Views.{code_of}
-use Rattle.sm_term.specs.declared.body.Body.{Body}
-use Rattle.sm_term.specs.Bodies.{block_of, body_code, same_body, same_body-Decides}
-use Rattle.sm_term.specs.Rows.{same_term}
-use Rattle.sm_term.specs.RowLaws.{same_term-Decides}
-use Rattle.sm_term.specs.Sorted.{IsSorted}
-use Rattle.sm_term.specs.Tables.{TableValue, trees_in, sorts_in, codes_in, tree_at, code_at, tree_in, trees_behind, IsTermWithin, Term}
-use Rattle.sm_term.specs.Fitting.{term_fits}
-use Rattle.sm_term.specs.TableLaws.{AreTermsSound, AreApart, AreCodesApart, AreTreesSorted, AreCodesSorted, IsTable, with_tree, with_code, AddsTerms}
+use Rattle.sm_term.specs.Bodies.{same_body}
 use Rattle.sm_term.proofs.SameTermsLemmas.{same_code_is, same_tree_is}
 use Rattle.sm_term.proofs.TermsLemmas.{alike, unlike, term_sorted}
 use Rattle.sm_term.proofs.TreesLemmas.{length-trees, take-trees, trees-push, tree_at-more, tree_in-more, fits-more, within-later, trees-codes, sound-codes, sound-take, sound-push}

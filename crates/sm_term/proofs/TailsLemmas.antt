@@ -1,15 +1,5 @@
 -- The last terms of a table, behind the trees of the first.
-use Rattle.std.proofs.Common.{◌≡◌, ℕ, zero, suc, List, [], ◌∷◌, ◌++◌, length, take, drop, map, refl, sym, ap, ◌∙◌, subst}
-use Rattle.std.proofs.lemmas.List.{append_assoc, append-nil}
-use Rattle.sm_syntax.specs.claim.Syntax.{Code}
-use Rattle.sm_syntax.specs.text.Sorts.{Sorts}
-use Rattle.sm_term.specs.Terms.{Tree}
-use Rattle.sm_syntax.specs.trees.Views.{code_of}
-use Rattle.sm_term.specs.declared.body.Body.{Body}
-use Rattle.sm_term.specs.Bodies.{block_of, body_code}
-use Rattle.sm_term.specs.RowLaws.{contents_of}
-use Rattle.sm_term.specs.Tables.{tree_in, trees_behind, Term}
-use Rattle.sm_term.specs.TableLaws.{AreTermsSound}
+use Rattle.sm_term.proofs.Imports.{◌≡◌, ℕ, zero, suc, List, [], ◌∷◌, ◌++◌, length, take, drop, map, refl, sym, ap, ◌∙◌, subst, append_assoc, append-nil, Code, Sorts, Tree, code_of, Body, block_of, body_code, contents_of, tree_in, trees_behind, Term, AreTermsSound}
 use Rattle.sm_term.proofs.TermsLemmas.{alike, within_alike, fits_alike}
 
 -- what stands behind the first trees

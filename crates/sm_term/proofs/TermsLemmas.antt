@@ -1,23 +1,9 @@
 -- Terms of one table: their trees, which are equal exactly where they hold the same, and their sorts.
-use Rattle.std.proofs.Common.{◌≡◌, ℕ, zero, suc, ◌+◌, ◌<◌, ◌≤◌, Bool, true, false, ◌&&◌, IsTrue, List, [], ◌∷◌, length, drop, slice_get, refl, sym, ap, ◌∙◌, subst, arith, Option, Some, None, is_some, unwrap_or}
-use Rattle.std.proofs.lemmas.Bool.{and_parts}
-use Rattle.std.proofs.lemmas.List.{drop_all}
-use Rattle.sm_syntax.specs.declared.tree.Name.{Name}
-use Rattle.sm_syntax.specs.claim.Syntax.{Code}
-use Rattle.sm_syntax.specs.claim.ConflictFree.{copy_of}
-use Rattle.sm_syntax.specs.text.Sorts.{Sorts}
-use Rattle.sm_syntax.specs.declared.tree.Sort.{Sort}
-use Rattle.sm_syntax.specs.declared.tree.Sort.TheVariants.{Num, Arr}
+use Rattle.sm_term.proofs.Imports.{◌≡◌, ℕ, zero, suc, ◌+◌, ◌<◌, ◌≤◌, Bool, true, false, ◌&&◌, IsTrue, List, [], ◌∷◌, length, drop, slice_get, refl, sym, ap, ◌∙◌, subst, arith, Option, Some, None, is_some, unwrap_or, and_parts, drop_all, Name, Code, copy_of, Sorts, Sort, Num, Arr, Tree, Arguments, Over, Given, kind_numbers, term_numbers, names_of_term, parts_of_term, names_in_list, parts_in_list, Contents, contents_of, sort_named, tree_sort, IsSorted, AreArgumentsSorted, IsDeclaredIn, tree_at, code_at, arguments_in, tree_in, IsTermWithin, AreBefore, AreNamesDeclared, Term, has_sort, arguments_fit, term_fits, AreApart, AreCodesApart, AreCodesSorted, AreTreesSorted}
 use Rattle.sm_syntax.specs.trees.Copies.{number_of}
 use Rattle.sm_term.specs.declared.term.Term.TheVariants as row
-use Rattle.sm_term.specs.Terms.{Tree, Arguments, Over, Given}
 use Rattle.sm_term.specs.Terms as tree
-use Rattle.sm_term.specs.Rows.{kind_numbers, term_numbers, names_of_term, parts_of_term, names_in_list, parts_in_list}
-use Rattle.sm_term.specs.RowLaws.{Contents, contents_of}
-use Rattle.sm_term.specs.Sorted.{sort_named, tree_sort, IsSorted, AreArgumentsSorted, IsDeclaredIn}
-use Rattle.sm_term.specs.Tables.{tree_at, code_at, arguments_in, tree_in, IsTermWithin, AreBefore, AreNamesDeclared, TermId, Term}
-use Rattle.sm_term.specs.Fitting.{has_sort, arguments_fit, term_fits}
-use Rattle.sm_term.specs.TableLaws.{AreApart, AreCodesApart, AreCodesSorted, AreTreesSorted}
+use Rattle.sm_term.specs.Tables.{TermId}
 use Rattle.sm_term.proofs.SameTermsLemmas.{same_sort_is}
 
 -- a copy's number gives the copy back

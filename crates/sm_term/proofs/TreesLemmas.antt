@@ -1,15 +1,8 @@
 -- The trees of a table's terms: one for each, and what was there stays where more are put behind.
-use Rattle.std.proofs.Common.{◌≡◌, ℕ, zero, suc, pos, ◌<◌, ◌≤◌, true, List, [], ◌∷◌, ◌++◌, length, take, refl, sym, ap, ◌∙◌, subst, arith}
-use Rattle.std.proofs.lemmas.List.{get_or_append_left, length-append, append_assoc}
-use Rattle.sm_syntax.specs.declared.tree.Name.{Name}
-use Rattle.sm_syntax.specs.claim.Syntax.{Code, End}
-use Rattle.sm_syntax.specs.text.Sorts.{Sorts}
+use Rattle.sm_term.proofs.Imports.{◌≡◌, ℕ, zero, suc, pos, ◌<◌, ◌≤◌, true, List, [], ◌∷◌, ◌++◌, length, take, refl, sym, ap, ◌∙◌, subst, arith, get_or_append_left, length-append, append_assoc, Name, Code, End, Sorts, Tree, Arguments, Given, tree_at, arguments_in, tree_in, trees_behind, IsTermWithin, AreBefore, Term, arguments_fit, term_fits, AreTermsSound}
 use Rattle.sm_term.specs.declared.term.Term.TheVariants as row
-use Rattle.sm_term.specs.Terms.{Tree, Arguments, Given}
 use Rattle.sm_term.specs.Terms as tree
-use Rattle.sm_term.specs.Tables.{tree_at, arguments_in, tree_in, trees_behind, IsTermWithin, AreBefore, TermId, Term}
-use Rattle.sm_term.specs.Fitting.{arguments_fit, term_fits}
-use Rattle.sm_term.specs.TableLaws.{AreTermsSound}
+use Rattle.sm_term.specs.Tables.{TermId}
 
 -- as many trees as terms
 pub length-trees : (codes : List Code) (older : List Tree) (ts : List Term) → length (trees_behind codes older ts) ≡ length ts

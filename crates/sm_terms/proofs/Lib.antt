@@ -1,2 +1,3 @@
+mod Imports
 pub mod WithTermLemmas
 pub mod ListingLemmas

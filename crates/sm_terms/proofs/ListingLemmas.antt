@@ -1,21 +1,11 @@
 -- Steps on a stack make the same terms, whichever is taken next.
-use Rattle.std.proofs.Common.{◌≡◌, ℕ, zero, suc, ◌+◌, ◌<◌, ◌≤◌, Bool, true, false, ◌||◌, if◌then◌else◌, nat_eq, List, [], ◌∷◌, ◌++◌, length, get_or, refl, sym, ap, ◌∙◌, subst, arith}
-use Rattle.std.specs.List.{list_any}
+use Rattle.sm_terms.proofs.Imports.{◌≡◌, ℕ, zero, suc, ◌+◌, ◌<◌, ◌≤◌, Bool, true, false, ◌||◌, if◌then◌else◌, nat_eq, List, [], ◌∷◌, ◌++◌, length, get_or, refl, sym, ap, ◌∙◌, subst, arith, list_any, Tree, Lit, Start, Havoc, Slot, Cell, Read, Write, Neg, Add, Sub, Mul, Fun, Arguments, Over, Given, tree_at, AreBefore, same_tree, arguments_of, terms_given, put, with_term, is_among, trees_of, Step, Visit, Put, trees_at, AreBelow, AllAmong, IsClosed, after, after_all, IsReady, AreReady, AreStepsWithin, Leads, visits, cost_of, cost_of_arguments, cost_of_step, cost_of_steps}
 use Rattle.std.proofs.lemmas.List.{map-append, length-append}
 use Rattle.sm_numbering.specs.Numbers.{with_value}
-use Rattle.sm_term.specs.Terms.{Tree, Lit, Start, Havoc, Slot, Cell, Read, Write, Neg, Add, Sub, Mul, Fun, Arguments, Over, Given}
-use Rattle.sm_term.specs.Tables.{tree_at, AreBefore}
 use Rattle.sm_term.specs.declared.term.TermId.{TermId}
 use Rattle.sm_term.specs.TableLaws.{AreApart}
-use Rattle.sm_term.specs.SameTerms.{same_tree}
-use Rattle.sm_term.specs.Heads.{arguments_of, terms_given}
 use Rattle.sm_term.proofs.TreesLemmas.{tree_at-more}
 use Rattle.sm_theory.proofs.SidesLemmas.{numbers_tell}
-use Rattle.sm_theory.specs.TermsOfFormulas.{put, with_term, is_among}
-use Rattle.sm_euf.specs.Arguments.{trees_of}
-use Rattle.sm_terms.specs.declared.listing.Step.{Step}
-use Rattle.sm_terms.specs.declared.listing.Step.TheVariants.{Visit, Put}
-use Rattle.sm_terms.specs.Listing.{trees_at, AreBelow, AllAmong, IsClosed, after, after_all, IsReady, AreReady, AreStepsWithin, Leads, visits, cost_of, cost_of_arguments, cost_of_step, cost_of_steps}
 use Rattle.sm_terms.proofs.WithTermLemmas.{with_terms, with_term_is, among_with_terms, closed_put, same_with_term, put_there, put_new}
 
 -- steps behind others are taken first

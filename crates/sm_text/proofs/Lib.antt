@@ -1,3 +1,4 @@
+mod Imports
 pub mod Cut
 pub mod Numbering
 pub mod Sound

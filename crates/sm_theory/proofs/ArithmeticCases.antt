@@ -1,20 +1,8 @@
 -- Lines of arithmetic worked by hand: each once good, and once bad for each part of its condition.
-use Rattle.std.proofs.Common.{◌≡◌, ◌^◌, ◌-◌, ℕ, zero, suc, ℤ, pos, negsuc, Option, Some, None, List, [], ◌∷◌, refl}
-use Rattle.sm_syntax.specs.text.Sorts.{Sorts}
-use Rattle.sm_syntax.specs.declared.tree.Sort.TheVariants.{Num, Arr}
+use Rattle.sm_theory.proofs.Imports.{◌≡◌, ◌^◌, ◌-◌, ℕ, zero, suc, ℤ, pos, negsuc, Option, Some, None, List, [], ◌∷◌, refl, Sorts, Num, Arr, Linear, Kind, Fits, combination, floor_of, ceiling_of, Tree, Lit, Start, Neg, Add, Sub, Mul, same_tree, Ne, Le, Lt, BranchFact, Formal, Sum, linear_of, atom_form, constant_form, CertificateLine, Same, Apart, Lin, Elim, Tight, Close, arithmetic_adds, ways}
 use Rattle.sm_num.specs.declared.kind.Kind.TheVariants as kind
-use Rattle.sm_num.specs.Forms.{Linear}
-use Rattle.sm_num.specs.declared.kind.Kind.{Kind}
-use Rattle.sm_num.specs.Combining.{Fits, combination}
-use Rattle.sm_num.specs.Eliminating.{gcd, floor_of, ceiling_of}
-use Rattle.sm_term.specs.Terms.{Tree, Lit, Start, Neg, Add, Sub, Mul}
-use Rattle.sm_term.specs.SameTerms.{same_tree}
-use Rattle.sm_term.specs.Assertions.{Eq, Ne, Le, Lt}
-use Rattle.sm_theory.specs.Facts.{BranchFact, Formal, Sum}
-use Rattle.sm_theory.specs.LinearTerms.{linear_of, atom_form, constant_form}
-use Rattle.sm_theory.specs.Lines.{CertificateLine, Same, Apart, Lin, Elim, Tight, Close}
-use Rattle.sm_theory.specs.Arithmetic.{arithmetic_adds}
-use Rattle.sm_theory.specs.Ways.{ways}
+use Rattle.sm_num.specs.Eliminating.{gcd}
+use Rattle.sm_term.specs.Assertions.{Eq}
 
 -- names 0 and 1 are numbers, each other name is an array
 abbrev declared : Sorts

@@ -1,31 +1,9 @@
 -- What a line of arithmetic adds is sorted, names no later new values, and is added on another branch
 -- too on which the facts stand.
-use Rattle.std.proofs.Common.{◌≡◌, ℕ, ℤ, pos, negsuc, Bool, true, false, not, if◌then◌else◌, Some, None, List, [], ◌∷◌, subst}
-use Rattle.std.specs.Ordering.{int_eq}
-use Rattle.sm_syntax.specs.text.Sorts.{Sorts}
-use Rattle.sm_syntax.specs.declared.tree.Sort.TheVariants.{Num, Arr}
+use Rattle.sm_theory.proofs.Imports.{◌≡◌, ℕ, ℤ, pos, negsuc, Bool, true, false, not, if◌then◌else◌, Some, None, List, [], ◌∷◌, subst, int_eq, Sorts, Num, Arr, Linear, Kind, Outcome, Fits, Leaves, then_with, computed, can_cancel, elimination, tightened, Gives, gives_both, gives_more, gives_fits, then_gives, AreReduced, AreAmong, IsReduced, combination_reduced, combination_among, elimination_reduced, elimination_among, tightened_among, Tree, HasSort, IsFormSorted, tree_sort, IsBelow, IsFormBelow, same_tree, same_sort_is, Assertion, Yes, No, Ne, Le, Lt, And, Or, BranchFact, Formal, Sum, linear_of, CertificateLine, Same, Apart, Lin, Elim, Tight, followed, formula_at, form_at, is_numeric, compared_forms, form_fact, with_constant, difference, one_more, form_of_comparison, cancelled, arithmetic_adds, EachAtom, IsFactSorted, AreFactsSorted, IsFactBelow, AreFactsBelow, IsLineSorted, IsLineBelow, moved_line, ReadsAlike}
 use Rattle.sm_num.specs.declared.op.Op.TheVariants as op
 use Rattle.sm_num.specs.declared.kind.Kind.TheVariants as kind
-use Rattle.sm_num.specs.Forms.{Linear}
-use Rattle.sm_num.specs.declared.kind.Kind.{Kind}
-use Rattle.sm_num.specs.Combining.{Outcome, Fits, Leaves, then_with, computed}
-use Rattle.sm_num.specs.Eliminating.{can_cancel, elimination}
-use Rattle.sm_num.specs.Tightening.{tightened}
-use Rattle.sm_num.proofs.OutcomeLemmas.{Gives, gives_both, gives_more, gives_fits, then_gives}
-use Rattle.sm_num.proofs.SameAtomLemmas.{AreReduced}
-use Rattle.sm_num.proofs.ResultsReduced.{AreAmong, IsReduced, combination_reduced, combination_among, elimination_reduced, elimination_among, tightened_among}
-use Rattle.sm_term.specs.Terms.{Tree}
-use Rattle.sm_term.specs.Sorted.{HasSort, IsFormSorted, tree_sort}
-use Rattle.sm_term.specs.Fresh.{IsBelow, IsFormBelow}
-use Rattle.sm_term.specs.SameTerms.{same_tree}
-use Rattle.sm_term.proofs.SameTermsLemmas.{same_sort_is}
-use Rattle.sm_term.specs.Assertions.{Assertion, Yes, No, Eq, Ne, Le, Lt, And, Or}
-use Rattle.sm_theory.specs.Facts.{BranchFact, Formal, Sum}
-use Rattle.sm_theory.specs.LinearTerms.{linear_of}
-use Rattle.sm_theory.specs.Lines.{CertificateLine, Same, Apart, Lin, Elim, Tight, followed, formula_at, form_at}
-use Rattle.sm_theory.specs.Arithmetic.{is_numeric, compared_forms, form_fact, with_constant, difference, one_more, form_of_comparison, cancelled, arithmetic_adds}
-use Rattle.sm_theory.specs.SortedFacts.{EachAtom, IsFactSorted, AreFactsSorted, IsFactBelow, AreFactsBelow, IsLineSorted, IsLineBelow}
-use Rattle.sm_theory.specs.Moved.{moved_line, ReadsAlike}
+use Rattle.sm_term.specs.Assertions.{Eq}
 use Rattle.sm_theory.proofs.FactsLemmas.{fact_is_sorted, fact_is_below, followed_from, formula_stands, form_stands, followed_gives, gives_itself, formula_moves, form_moves}
 use Rattle.sm_theory.proofs.LinearSameTree.{tree_sound, tree_reflexive}
 use Rattle.sm_theory.proofs.LinearTermsLemmas.{FormAtoms, IsInherited, linear_reduced, linear_atoms, sorted_inherited, below_inherited}

@@ -1,36 +1,10 @@
 -- What a line of arithmetic adds holds wherever the facts do.
-use Rattle.std.proofs.Common.{◌≡◌, ℤ, pos, negsuc, ◌+ℤ◌, ◌-ℤ◌, ◌*ℤ◌, Bool, true, false, ◌&&◌, not, if◌then◌else◌, IsTrue, Some, None, List, refl, sym, ap, subst, ◌∙◌, arith}
-use Rattle.std.specs.Prelude.{◌≤ℤ◌, ◌<ℤ◌}
-use Rattle.std.specs.Ordering.{int_eq}
-use Rattle.std.proofs.lemmas.Bool.{and_parts}
-use Rattle.std.proofs.lemmas.Bool.Decides.{Decides-int_eq}
-use Rattle.sm_syntax.specs.text.Sorts.{Sorts}
-use Rattle.sm_syntax.specs.declared.tree.Sort.TheVariants.{Num, Arr}
+use Rattle.sm_theory.proofs.Imports.{◌≡◌, ℤ, pos, negsuc, ◌+ℤ◌, ◌-ℤ◌, ◌*ℤ◌, Bool, true, false, ◌&&◌, not, if◌then◌else◌, IsTrue, Some, None, List, refl, sym, ap, subst, ◌∙◌, arith, ◌≤ℤ◌, ◌<ℤ◌, int_eq, and_parts, Decides-int_eq, Sorts, Num, Arr, fits_form, Linear, Satisfies, HoldsAt, sum_of_parts, Kind, Outcome, Fits, Leaves, then_with, computed, formed, can_cancel, elimination, tightened, is_contradictory, value_of_form, sums, one_mul, mul-neg_left, Gives, gives_more, gives_both, gives_fits, then_gives, computed_gives, AreReduced, combination_gives_value, Tree, Structure, same_tree, Assertion, Yes, No, Ne, Le, Lt, And, Or, Holds, BranchFact, Formal, Sum, IsFact, AreFacts, number_meant, linear_of, CertificateLine, Same, Apart, Lin, Elim, Tight, followed, formula_at, form_at, formula_if, is_numeric, same_parts, compared_forms, form_fact, difference, one_more, form_of_comparison, cancelled, arithmetic_adds, AreFactsSorted, IsLineSorted}
 use Rattle.sm_num.specs.declared.op.Op.TheVariants as op
 use Rattle.sm_num.specs.declared.kind.Kind.TheVariants as kind
-use Rattle.sm_num.specs.Range.{fits_form}
-use Rattle.sm_num.specs.Forms.{Linear, Satisfies, HoldsAt, sum_of_parts}
-use Rattle.sm_num.specs.declared.kind.Kind.{Kind}
-use Rattle.sm_num.specs.Combining.{Outcome, Fits, Leaves, then_with, computed, formed}
-use Rattle.sm_num.specs.Eliminating.{can_cancel, elimination}
-use Rattle.sm_num.specs.Tightening.{tightened, is_contradictory}
-use Rattle.sm_num.specs.FormLaws.{value_of_form}
-use Rattle.sm_num.proofs.RingLemmas.{sums, one_mul, mul-neg_left}
-use Rattle.sm_num.proofs.OutcomeLemmas.{Gives, gives_more, gives_both, gives_fits, then_gives, computed_gives}
-use Rattle.sm_num.proofs.SameAtomLemmas.{AreReduced}
-use Rattle.sm_num.proofs.FormValues.{combination_gives_value}
 use Rattle.sm_num.proofs.EliminationSound.{elimination_holds}
 use Rattle.sm_num.proofs.TighteningSound.{tighten_means, contradictory_never}
-use Rattle.sm_term.specs.Terms.{Tree}
-use Rattle.sm_term.specs.Structures.{Structure}
-use Rattle.sm_term.specs.SameTerms.{same_tree}
-use Rattle.sm_term.specs.Assertions.{Assertion, Yes, No, Eq, Ne, Le, Lt, And, Or, Holds}
-use Rattle.sm_theory.specs.Facts.{BranchFact, Formal, Sum, IsFact, AreFacts, number_meant}
-use Rattle.sm_theory.specs.LinearTerms.{linear_of}
-use Rattle.sm_theory.specs.Lines.{CertificateLine, Same, Apart, Lin, Elim, Tight, followed, formula_at, form_at}
-use Rattle.sm_theory.specs.Equality.{formula_if}
-use Rattle.sm_theory.specs.Arithmetic.{is_numeric, same_parts, compared_forms, form_fact, difference, one_more, form_of_comparison, cancelled, arithmetic_adds}
-use Rattle.sm_theory.specs.SortedFacts.{AreFactsSorted, IsLineSorted}
+use Rattle.sm_term.specs.Assertions.{Eq}
 use Rattle.sm_theory.proofs.FactsLemmas.{fact_holds, fact_is_sorted, followed_from, formula_stands, form_stands}
 use Rattle.sm_theory.proofs.LinearTermsLemmas.{linear_reduced, linear_value}
 use Rattle.sm_theory.proofs.LinearSameTree.{tree_sound, tree_reflexive}

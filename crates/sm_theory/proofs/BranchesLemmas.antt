@@ -1,11 +1,5 @@
 -- Branches: formulas as facts, and facts in front of others.
-use Rattle.std.proofs.Common.{◌↔◌, ℕ, List, [], ◌∷◌, ◌++◌}
-use Rattle.sm_syntax.specs.text.Sorts.{Sorts}
-use Rattle.sm_term.specs.Structures.{Structure}
-use Rattle.sm_term.specs.Assertions.{Assertion}
-use Rattle.sm_term.specs.Sorted.{AreFormsSorted}
-use Rattle.sm_theory.specs.Facts.{BranchFact, AreFacts, as_facts}
-use Rattle.sm_theory.specs.SortedFacts.{AreFactsSorted, AreFactsBelow}
+use Rattle.sm_theory.proofs.Imports.{◌↔◌, ℕ, List, [], ◌∷◌, ◌++◌, Sorts, Structure, Assertion, AreFormsSorted, BranchFact, AreFacts, as_facts, AreFactsSorted, AreFactsBelow}
 
 -- they are sorted as facts exactly where they are sorted
 pub known_sorted : (sorts : Sorts) (fs : List Assertion) → AreFactsSorted sorts (as_facts fs) ↔ AreFormsSorted sorts fs

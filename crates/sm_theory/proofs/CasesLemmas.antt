@@ -1,17 +1,9 @@
 -- Worked cases: each line that is no arithmetic where its condition is met, and where each part of the
 -- condition fails.
-use Rattle.std.proofs.Common.{◌≡◌, ℕ, zero, suc, pos, Some, None, List, [], ◌∷◌, refl}
+use Rattle.sm_theory.proofs.Imports.{◌≡◌, ℕ, zero, suc, pos, Some, None, List, [], ◌∷◌, refl, Code, Sorts, Num, Arr, Kind, Tree, Start, Read, Write, Neg, Add, Sub, Mul, Fun, Over, Given, Assertion, Yes, No, Ne, Le, Lt, And, Or, Formal, Sum, as_facts, CertificateLine, Both, Either, Cases, Order, Refl, Sym, Trans, Subst, Cong, Hit, Miss, Close, Clash, Ways, ways}
 use Rattle.sm_syntax.specs.claim.Syntax as syntax
-use Rattle.sm_syntax.specs.claim.Syntax.{Code}
-use Rattle.sm_syntax.specs.text.Sorts.{Sorts}
-use Rattle.sm_syntax.specs.declared.tree.Sort.TheVariants.{Num, Arr}
-use Rattle.sm_num.specs.declared.kind.Kind.{Kind}
 use Rattle.sm_num.specs.declared.kind.Kind.TheVariants as kind
-use Rattle.sm_term.specs.Terms.{Tree, Start, Read, Write, Neg, Add, Sub, Mul, Fun, Over, Given}
-use Rattle.sm_term.specs.Assertions.{Assertion, Yes, No, Eq, Ne, Le, Lt, And, Or}
-use Rattle.sm_theory.specs.Facts.{Formal, Sum, as_facts}
-use Rattle.sm_theory.specs.Lines.{CertificateLine, Both, Either, Cases, Order, Refl, Sym, Trans, Subst, Cong, Hit, Miss, Close, Clash}
-use Rattle.sm_theory.specs.Ways.{Ways, ways}
+use Rattle.sm_term.specs.Assertions.{Eq}
 
 -- names 0 to 2 are numbers, 3 and 4 arrays
 abbrev declared : Sorts

@@ -1,23 +1,13 @@
 -- Terms with one head and with arguments that are equal by sort are equal by sort: also summaries,
 -- since their code goes by the values that it needs.
-use Rattle.std.proofs.Common.{◌≡◌, ℕ, ℤ, ◌==◌, Bool, true, false, if◌then◌else◌, IsTrue, Option, Some, None, is_some, unwrap_or, List, [], ◌∷◌, refl, subst, sym, ap, ◌∙◌}
-use Rattle.std.proofs.lemmas.Bool.{eqb-true, and_parts}
-use Rattle.sm_syntax.specs.SameAs.{SameAs}
-use Rattle.sm_syntax.specs.text.Sorts.{Sorts}
-use Rattle.sm_syntax.specs.declared.tree.Sort.{Sort}
-use Rattle.sm_syntax.specs.declared.tree.Sort.TheVariants.{Num, Arr}
+use Rattle.sm_theory.proofs.Imports.{◌≡◌, ℕ, ℤ, ◌==◌, Bool, true, false, if◌then◌else◌, IsTrue, Option, Some, None, List, [], ◌∷◌, refl, subst, sym, ap, ◌∙◌, eqb-true, and_parts, SameAs, Sorts, Sort, Num, Arr, Code, Value, Store, number, array, with_element, zero_value, Tree, Read, Write, Neg, Add, Sub, Mul, Fun, Arguments, Over, Given, Structure, meaning, store_given, value_at, tree_sort, sort_named, IsSorted, AreArgumentsSorted, IsDeclaredIn, terms_given, arguments_of, same_names, same_head, same_head_of_summaries}
+use Rattle.std.proofs.Common.{is_some, unwrap_or}
 use Rattle.sm_syntax.specs.text.Conditions.{is_in}
-use Rattle.sm_syntax.specs.claim.Syntax.{Code}
-use Rattle.sm_syntax.specs.claim.Stores.{Value, Store, number, array, with_element, put, zero_value}
+use Rattle.sm_syntax.specs.claim.Stores.{put}
 use Rattle.sm_syntax.specs.claim.Meaning.{run}
 use Rattle.sm_deps.specs.Inputs.{inputs}
 use Rattle.sm_deps.specs.Laws.{EndAlike, SameIfSorted}
 use Rattle.sm_deps.proofs.InputsSound.{inputs_alike_by_sort}
-use Rattle.sm_term.specs.Terms.{Tree, Read, Write, Neg, Add, Sub, Mul, Fun, Arguments, Over, Given}
-use Rattle.sm_term.specs.Structures.{Structure, meaning, store_given, value_at}
-use Rattle.sm_term.specs.Sorted.{tree_sort, sort_named, IsSorted, AreArgumentsSorted, IsDeclaredIn}
-use Rattle.sm_term.specs.Heads.{terms_given, arguments_of, same_names, same_head}
-use Rattle.sm_term.proofs.HeadsLemmas.{same_head_of_summaries}
 
 -- a value is itself, as what has any sort
 pub same_itself : (sort : Sort) (v : Value) → SameAs sort v v

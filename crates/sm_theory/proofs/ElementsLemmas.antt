@@ -1,27 +1,8 @@
 -- Lines of arrays: from what each adds its fact, and that the fact holds, is sorted and below as the
 -- facts are, and is added on another branch with the same facts.
-use Rattle.std.proofs.Common.{◌≡◌, ℕ, ℤ, Bool, true, ◌&&◌, if◌then◌else◌, IsTrue, Option, Some, List, subst, sym, ap, ◌∙◌}
-use Rattle.std.specs.Ordering.{int_eq}
-use Rattle.std.proofs.lemmas.Bool.{and_parts, and_from, false_from_ne_true}
-use Rattle.std.proofs.lemmas.Bool.Decides.{Decides-int_eq}
-use Rattle.sm_syntax.specs.SameAs.{SameAs}
-use Rattle.sm_syntax.specs.text.Sorts.{Sorts}
-use Rattle.sm_syntax.specs.declared.tree.Sort.{Sort}
-use Rattle.sm_syntax.specs.declared.tree.Sort.TheVariants.{Num}
-use Rattle.sm_syntax.specs.claim.Stores.{number, array, with_element}
-use Rattle.sm_term.specs.Terms.{Tree, Read, Write}
-use Rattle.sm_term.specs.Structures.{Structure, meaning}
+use Rattle.sm_theory.proofs.Imports.{◌≡◌, ℕ, ℤ, Bool, true, ◌&&◌, if◌then◌else◌, IsTrue, Option, Some, List, subst, sym, ap, ◌∙◌, int_eq, and_parts, and_from, false_from_ne_true, Decides-int_eq, SameAs, Sorts, Sort, Num, number, array, with_element, Tree, Read, Write, Structure, meaning, tree_sort, IsSorted, IsBelow, same_tree, same_tree_is, BranchFact, Formal, IsFact, AreFacts, Hit, Miss, followed, equation_at, contrary_at, formula_if, says_equal, IsFactSorted, AreFactsSorted, IsFactBelow, AddsWhatHolds, AddsWhatIsSorted, AddsWhatIsBelow, AddsAnywhere, arrays}
 use Rattle.sm_term.specs.Assertions.{Eq}
-use Rattle.sm_term.specs.Sorted.{tree_sort, IsSorted}
-use Rattle.sm_term.specs.Fresh.{IsBelow}
-use Rattle.sm_term.specs.SameTerms.{same_tree}
-use Rattle.sm_term.proofs.SameTermsLemmas.{same_tree_is}
-use Rattle.sm_theory.specs.Facts.{BranchFact, Formal, IsFact, AreFacts}
-use Rattle.sm_theory.specs.Lines.{Hit, Miss, followed, equation_at, contrary_at}
-use Rattle.sm_theory.specs.Equality.{formula_if, says_equal}
 use Rattle.sm_theory.specs.Elements.{Written, written_in, read_in, read_of_written, element_adds}
-use Rattle.sm_theory.specs.SortedFacts.{IsFactSorted, AreFactsSorted, IsFactBelow}
-use Rattle.sm_theory.specs.Laws.{AddsWhatHolds, AddsWhatIsSorted, AddsWhatIsBelow, AddsAnywhere, arrays}
 use Rattle.sm_theory.proofs.FactsLemmas.{fact_holds, fact_is_sorted, contrary, contrary_stands, followed_from, Gives, followed_gives, gives_itself, equation_moves, contrary_moves}
 use Rattle.sm_theory.proofs.EqualityLemmas.{formula_if_from, formula_if_moves, says_from, says_moves}
 use Rattle.sm_theory.proofs.EqualitySound.{says_means}

@@ -1,22 +1,7 @@
 -- Lines of equality: from which facts each adds what, that it is sorted and below as these are, and
 -- that another branch with the same facts gives it too.
-use Rattle.std.proofs.Common.{◌≡◌, ◌⊎◌, ℕ, Bool, true, false, ◌&&◌, slice_get, IsTrue, Option, Some, None, List, [], ◌∷◌, map, inl, inr, ⊎_elim, refl, subst, sym, ap, ◌∙◌}
-use Rattle.std.specs.List.{AllByRecursion}
-use Rattle.std.proofs.lemmas.Bool.{and_parts, and_from}
-use Rattle.sm_syntax.specs.text.Sorts.{Sorts}
-use Rattle.sm_term.specs.Terms.{Tree}
-use Rattle.sm_term.specs.Assertions.{Assertion, Eq, Ne}
-use Rattle.sm_term.specs.Sorted.{tree_sort}
-use Rattle.sm_term.specs.SameTerms.{same_tree}
-use Rattle.sm_term.specs.Heads.{arguments_of, same_head}
-use Rattle.sm_term.proofs.SameTermsLemmas.{same_tree_is}
-use Rattle.sm_term.proofs.HeadsLemmas.{same_head_has_sort}
-use Rattle.sm_theory.specs.Facts.{BranchFact, Formal}
-use Rattle.sm_theory.specs.Lines.{Refl, Sym, Trans, Subst, Cong, followed, formula_in, Sides, equal_sides, unequal_sides, equation_at, contrary_at}
-use Rattle.sm_theory.specs.Equality.{formula_if, turned_equation, turned_contrary, or_other, chained, substituted, says_equal, say_equal, is_inhabited_list, equality_adds}
-use Rattle.sm_theory.specs.SortedFacts.{IsFactSorted, IsFactBelow}
-use Rattle.sm_theory.specs.Moved.{StandsMoved}
-use Rattle.sm_theory.specs.Laws.{AddsWhatIsSorted, AddsWhatIsBelow, AddsAnywhere, equality}
+use Rattle.sm_theory.proofs.Imports.{◌≡◌, ◌⊎◌, ℕ, Bool, true, false, ◌&&◌, slice_get, IsTrue, Option, Some, None, List, [], ◌∷◌, map, inl, inr, ⊎_elim, refl, subst, sym, ap, ◌∙◌, AllByRecursion, and_parts, and_from, Sorts, Tree, Assertion, Ne, tree_sort, same_tree, arguments_of, same_head, same_tree_is, same_head_has_sort, BranchFact, Formal, Refl, Sym, Trans, Subst, Cong, followed, formula_in, Sides, equal_sides, unequal_sides, equation_at, contrary_at, formula_if, turned_equation, turned_contrary, or_other, chained, substituted, says_equal, say_equal, is_inhabited_list, equality_adds, IsFactSorted, IsFactBelow, StandsMoved, AddsWhatIsSorted, AddsWhatIsBelow, AddsAnywhere, equality}
+use Rattle.sm_term.specs.Assertions.{Eq}
 use Rattle.sm_theory.proofs.FactsLemmas.{fact_is_sorted, fact_is_below, equation, contrary, followed_from, equation_stands, contrary_stands, Gives, followed_gives, gives_itself, equation_moves, contrary_moves}
 
 -- the first of two, or the second

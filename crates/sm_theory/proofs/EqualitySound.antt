@@ -1,19 +1,6 @@
 -- What equality adds holds wherever the facts do.
-use Rattle.std.proofs.Common.{◌≡◌, ℕ, slice_get, IsTrue, Some, List, [], ◌∷◌, ⊎_elim, subst, sym, ap, ◌∙◌}
-use Rattle.std.proofs.lemmas.Bool.{and_parts}
-use Rattle.sm_syntax.specs.SameAs.{SameAs}
-use Rattle.sm_syntax.specs.text.Sorts.{Sorts}
-use Rattle.sm_syntax.specs.declared.tree.Sort.{Sort}
-use Rattle.sm_term.specs.Terms.{Tree}
-use Rattle.sm_term.specs.Structures.{Structure, meaning}
-use Rattle.sm_term.specs.Assertions.{Eq, Ne}
-use Rattle.sm_term.specs.Sorted.{tree_sort}
-use Rattle.sm_term.specs.Heads.{arguments_of}
-use Rattle.sm_theory.specs.Facts.{BranchFact, Formal, IsFact, AreFacts}
-use Rattle.sm_theory.specs.Lines.{Refl, Sym, Trans, Subst, Cong, Sides, equation_at}
-use Rattle.sm_theory.specs.Equality.{says_equal, say_equal}
-use Rattle.sm_theory.specs.SortedFacts.{AreFactsSorted}
-use Rattle.sm_theory.specs.Laws.{AddsWhatHolds, equality}
+use Rattle.sm_theory.proofs.Imports.{◌≡◌, ℕ, slice_get, IsTrue, Some, List, [], ◌∷◌, ⊎_elim, subst, sym, ap, ◌∙◌, and_parts, SameAs, Sorts, Sort, Tree, Structure, meaning, Ne, tree_sort, arguments_of, BranchFact, Formal, IsFact, AreFacts, Refl, Sym, Trans, Subst, Cong, Sides, equation_at, says_equal, say_equal, AreFactsSorted, AddsWhatHolds, equality}
+use Rattle.sm_term.specs.Assertions.{Eq}
 use Rattle.sm_theory.proofs.FactsLemmas.{fact_holds, fact_is_sorted, equation, contrary, equation_stands}
 use Rattle.sm_theory.proofs.EqualityLemmas.{says_from, turned_from, trans_from, subst_from, cong_from}
 use Rattle.sm_theory.proofs.CongruenceSound.{same_itself, same_turned, same_joined, Alike, cong_means}

@@ -1,20 +1,9 @@
 -- The exact line worked by hand: once good, and once bad for each part of its condition.
-use Rattle.std.proofs.Common.{◌≡◌, ℕ, suc, ℤ, pos, negsuc, Some, None, List, [], ◌∷◌, refl}
-use Rattle.sm_syntax.specs.text.Sorts.{Sorts}
-use Rattle.sm_syntax.specs.declared.tree.Sort.TheVariants.{Num}
+use Rattle.sm_theory.proofs.Imports.{◌≡◌, ℕ, suc, ℤ, pos, negsuc, Some, None, List, [], ◌∷◌, refl, Sorts, Num, Linear, Kind, Tree, Lit, Start, Add, Mul, No, Le, BranchFact, Formal, Sum, Exact, all_terms, forms_of_branch, moved_line, Ways, ways}
 use Rattle.sm_num.specs.declared.kind.Kind.TheVariants as kind
-use Rattle.sm_num.specs.Forms.{Linear}
-use Rattle.sm_num.specs.declared.kind.Kind.{Kind}
 use Rattle.sm_num.specs.Eliminating.{gcd}
 use Rattle.sm_omega.specs.Exact.{exact}
-use Rattle.sm_term.specs.Terms.{Tree, Lit, Start, Add, Mul}
-use Rattle.sm_term.specs.Assertions.{No, Eq, Le}
-use Rattle.sm_theory.specs.Facts.{BranchFact, Formal, Sum}
-use Rattle.sm_theory.specs.Lines.{Exact}
-use Rattle.sm_theory.specs.TermsOfFormulas.{all_terms}
-use Rattle.sm_theory.specs.ExactLine.{forms_of_branch}
-use Rattle.sm_theory.specs.Moved.{moved_line}
-use Rattle.sm_theory.specs.Ways.{Ways, ways}
+use Rattle.sm_term.specs.Assertions.{Eq}
 
 -- each name is a number
 abbrev declared : Sorts

@@ -1,31 +1,11 @@
 -- What the exact line adds holds wherever the facts do: forms by the places of their atoms say what the
 -- forms say, and are as the program keeps them. What it adds is sorted, and names no new values.
-use Rattle.std.proofs.Common.{◌≡◌, ℕ, zero, suc, ◌+◌, nat_le, ℤ, pos, ◌+ℤ◌, ◌*ℤ◌, Bool, true, false, ◌&&◌, if◌then◌else◌, slice_get, IsTrue, Some, None, List, [], ◌∷◌, refl, subst, sym, ap, ◌∙◌, arith}
-use Rattle.std.specs.Ordering.{int_eq}
-use Rattle.std.specs.List.{list_all, filter_map}
-use Rattle.std.proofs.lemmas.Bool.{and_parts}
-use Rattle.std.proofs.lemmas.Bool.Decides.{Decides-int_eq}
-use Rattle.sm_num.specs.Range.{fits_form}
-use Rattle.sm_num.specs.Forms.{Linear, sum_of_parts, HoldsAt, Satisfies, coefficient, parts_without, AreParts, IsKept}
-use Rattle.sm_num.specs.Combining.{with_part}
-use Rattle.sm_num.proofs.FormValues.{sum_without, sum_with_part}
-use Rattle.sm_num.proofs.KeptLemmas.{parts_from}
+use Rattle.sm_theory.proofs.Imports.{◌≡◌, ℕ, zero, suc, ◌+◌, nat_le, ℤ, pos, ◌+ℤ◌, ◌*ℤ◌, Bool, true, false, ◌&&◌, if◌then◌else◌, slice_get, IsTrue, Some, None, List, [], ◌∷◌, refl, subst, sym, ap, ◌∙◌, arith, int_eq, list_all, filter_map, and_parts, Decides-int_eq, fits_form, Linear, sum_of_parts, HoldsAt, Satisfies, coefficient, parts_without, AreParts, IsKept, with_part, sum_without, sum_with_part, parts_from, Tree, Structure, No, same_tree, BranchFact, Formal, Sum, number_meant, AreFacts, Exact, followed, formula_in, form_in, formula_if, all_terms, parts_by_places, is_in_range, where_in_range, form_by_places, forms_by_places, forms_of_branch, has_no_solution, exact_adds, with_exact, IsFactSorted, IsFactBelow, TheoryAdds, AddsWhatHolds, AddsWhatIsSorted, AddsWhatIsBelow, AddsAnywhere}
 use Rattle.sm_omega.specs.Counting.{Done, Passed, Outside, Shallow}
 use Rattle.sm_omega.specs.Rules.{Answer}
 use Rattle.sm_omega.specs.Exact.{exact}
 use Rattle.sm_omega.specs.ExactLaws.{AllHold, AllKept, IsRightFor}
 use Rattle.sm_omega.proofs.ExactRight.{exact_right}
-use Rattle.sm_term.specs.Terms.{Tree}
-use Rattle.sm_term.specs.Structures.{Structure}
-use Rattle.sm_term.specs.Assertions.{No}
-use Rattle.sm_term.specs.SameTerms.{same_tree}
-use Rattle.sm_theory.specs.Facts.{BranchFact, Formal, Sum, number_meant, AreFacts}
-use Rattle.sm_theory.specs.Lines.{Exact, followed, formula_in, form_in}
-use Rattle.sm_theory.specs.Equality.{formula_if}
-use Rattle.sm_theory.specs.TermsOfFormulas.{all_terms}
-use Rattle.sm_theory.specs.ExactLine.{parts_by_places, is_in_range, where_in_range, form_by_places, forms_by_places, forms_of_branch, has_no_solution, exact_adds, with_exact}
-use Rattle.sm_theory.specs.SortedFacts.{IsFactSorted, IsFactBelow}
-use Rattle.sm_theory.specs.Laws.{TheoryAdds, AddsWhatHolds, AddsWhatIsSorted, AddsWhatIsBelow, AddsAnywhere}
 use Rattle.sm_theory.proofs.FactsLemmas.{followed_from}
 use Rattle.sm_theory.proofs.EqualityLemmas.{formula_if_from}
 use Rattle.sm_theory.proofs.LinearSameTree.{tree_sound}

@@ -1,17 +1,7 @@
 -- Facts that a line names: what is so of all facts of a branch is so of each, and a fact stands on
 -- another branch under another number.
-use Rattle.std.proofs.Common.{◌≡◌, ℕ, zero, suc, false, IsTrue, slice_get, Option, Some, None, List, [], ◌∷◌, refl, subst, ap, ◌∙◌}
-use Rattle.std.specs.List.{AllByRecursion}
-use Rattle.sm_syntax.specs.text.Sorts.{Sorts}
-use Rattle.sm_term.specs.Structures.{Structure}
-use Rattle.sm_term.specs.Assertions.{Assertion, Eq, Ne}
-use Rattle.sm_num.specs.Forms.{Linear}
-use Rattle.sm_term.specs.Terms.{Tree}
-use Rattle.sm_theory.specs.Facts.{BranchFact, Formal, Sum, IsFact, AreFacts}
-use Rattle.sm_theory.specs.Lines.{CertificateLine, followed, formula_in, form_in, formula_at, form_at, Sides, equal_sides, unequal_sides, equation_at, contrary_at}
-use Rattle.sm_theory.specs.SortedFacts.{IsFactSorted, AreFactsSorted, IsFactBelow, AreFactsBelow}
-use Rattle.sm_theory.specs.Named.{facts_named, reads_all}
-use Rattle.sm_theory.specs.Moved.{StandsMoved, StandAmong, ReadsAlike}
+use Rattle.sm_theory.proofs.Imports.{◌≡◌, ℕ, zero, suc, false, IsTrue, slice_get, Option, Some, None, List, [], ◌∷◌, refl, subst, ap, ◌∙◌, AllByRecursion, Sorts, Structure, Assertion, Ne, Linear, Tree, BranchFact, Formal, Sum, IsFact, AreFacts, CertificateLine, followed, formula_in, form_in, formula_at, form_at, Sides, equal_sides, unequal_sides, equation_at, contrary_at, IsFactSorted, AreFactsSorted, IsFactBelow, AreFactsBelow, facts_named, reads_all, StandsMoved, StandAmong, ReadsAlike}
+use Rattle.sm_term.specs.Assertions.{Eq}
 
 -- each fact of a branch holds where all do
 pub fact_holds : (m : Structure) (facts : List BranchFact) (n : ℕ) (k : BranchFact) → AreFacts m facts → slice_get facts n ≡ Some k → IsFact m k

@@ -1,20 +1,8 @@
 -- The form of a term is kept for what it should be where those of its parts are.
-use Rattle.std.proofs.Common.{◌≡◌, ◌<◌, ℕ, ℤ, pos, negsuc, if◌then◌else◌, length, List, refl, sym, subst, ◌∙◌}
-use Rattle.std.proofs.lemmas.Option.{get_or_from_slice_get, slice_get-get_or, slice_get_within}
-use Rattle.sm_num.specs.Range.{fits_form}
+use Rattle.sm_theory.proofs.Imports.{◌≡◌, ◌<◌, ℕ, ℤ, pos, negsuc, if◌then◌else◌, length, List, refl, sym, subst, ◌∙◌, get_or_from_slice_get, slice_get-get_or, slice_get_within, fits_form, Linear, combined, combination, Tree, Lit, Neg, Add, Sub, Mul, same_tree, Code, tree_at, tree_in, Term, AreApart, constant_form, atom_form, or_atom, scaled_form, product_form, linear_of, StandsAt, HaveOnePlace, IsKeptFor}
 use Rattle.sm_num.specs.declared.kind.Kind.TheVariants as kind
-use Rattle.sm_num.specs.Forms.{Linear}
-use Rattle.sm_num.specs.Combining.{combined, combination}
-use Rattle.sm_term.specs.Terms.{Tree, Lit, Neg, Add, Sub, Mul}
-use Rattle.sm_term.specs.SameTerms.{same_tree}
-use Rattle.sm_syntax.specs.claim.Syntax.{Code}
 use Rattle.sm_term.specs.declared.term.Term.TheVariants as row
-use Rattle.sm_term.specs.Tables.{tree_at, tree_in}
 use Rattle.sm_term.specs.declared.term.TermId.{TermId}
-use Rattle.sm_term.specs.declared.term.Term.{Term}
-use Rattle.sm_term.specs.TableLaws.{AreApart}
-use Rattle.sm_theory.specs.LinearTerms.{constant_form, atom_form, or_atom, scaled_form, product_form, linear_of}
-use Rattle.sm_theory.specs.Standing.{StandsAt, HaveOnePlace, IsKeptFor}
 use Rattle.sm_theory.proofs.LinearStanding.{combined_stands}
 use Rattle.sm_theory.proofs.LinearNumbers.{atom_stands, or_atom_stands, literal_stands, scaled_stands, product_stands}
 

@@ -1,3 +1,4 @@
+mod Imports
 pub mod FactsLemmas
 pub mod LinesOver
 pub mod BranchesLemmas

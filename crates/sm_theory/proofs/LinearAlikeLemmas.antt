@@ -1,25 +1,9 @@
 -- Reduced parts in which each atom has one coefficient have one sum, in whatever order they stand.
-use Rattle.std.proofs.Common.{◌≡◌, ◌⊎◌, ℕ, ◌%◌, ◌==◌, nat_abs, ℤ, pos, ◌+ℤ◌, ◌*ℤ◌, Bool, true, false, not, if◌then◌else◌, List, [], ◌∷◌, refl, sym, ap, subst, ◌∙◌, ⊎_elim, inl, inr}
-use Rattle.std.specs.Ordering.{int_eq}
-use Rattle.std.proofs.lemmas.Bool.{cases_Bool, and_parts}
-use Rattle.std.proofs.lemmas.Bool.Decides.{Decides-int_eq}
-use Rattle.sm_num.specs.Forms.{Linear, sum_of_parts, coefficient, parts_without}
-use Rattle.sm_num.specs.declared.kind.Kind.{Kind}
-use Rattle.sm_num.proofs.OutcomeLemmas.{Each}
-use Rattle.sm_num.proofs.SameAtomLemmas.{IsSound, IsReflexive, IsApart, AreReduced, not_both, apart_zero, coefficient_past, coefficient_one, coefficient_filter, reduced_filter}
-use Rattle.sm_num.proofs.FormValues.{sum_without}
+use Rattle.sm_theory.proofs.Imports.{◌≡◌, ◌⊎◌, ℕ, ◌%◌, ◌==◌, nat_abs, ℤ, pos, ◌+ℤ◌, ◌*ℤ◌, Bool, true, false, not, if◌then◌else◌, List, [], ◌∷◌, refl, sym, ap, subst, ◌∙◌, ⊎_elim, inl, inr, int_eq, cases_Bool, and_parts, Decides-int_eq, Linear, sum_of_parts, coefficient, parts_without, Kind, Each, IsSound, IsReflexive, IsApart, AreReduced, not_both, apart_zero, coefficient_past, coefficient_one, coefficient_filter, reduced_filter, sum_without, floor_of, divisor_of_parts, divided_parts, has_no_part, one_is_zero, tightened_by, tightened, divided_among, floor_some, Tree, same_tree, same_tree_is, agree_with, same_parts, EachAtom, StandOnce}
 use Rattle.sm_num.specs.declared.kind.Kind.TheVariants as kind
-use Rattle.sm_num.specs.Eliminating.{floor_of, divisor_of_parts, divided_parts}
-use Rattle.sm_num.specs.Tightening.{has_no_part, one_is_zero, tightened_by, tightened}
-use Rattle.sm_num.proofs.ResultsReduced.{divided_among, floor_some}
 use Rattle.sm_num.proofs.DivisionLemmas.{DividesEach, divisor_divides}
 use Rattle.std.proofs.lemmas.Nat.Gcd.{dvd_refl}
-use Rattle.sm_term.specs.Terms.{Tree}
-use Rattle.sm_term.specs.SameTerms.{same_tree}
-use Rattle.sm_term.proofs.SameTermsLemmas.{same_tree_is}
 use Rattle.sm_theory.proofs.LinearSameTree.{tree_sound, tree_reflexive}
-use Rattle.sm_theory.specs.Arithmetic.{agree_with, same_parts}
-use Rattle.sm_theory.specs.SortedFacts.{EachAtom, StandOnce}
 
 module _ {A : Type 0} (same : A → A → Bool) where
   -- each atom has one coefficient in both

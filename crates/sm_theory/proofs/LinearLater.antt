@@ -1,20 +1,6 @@
 -- Kept forms compared, with 1 more, and where more terms have places.
-use Rattle.std.proofs.Common.{◌≡◌, ◌↔◌, ◌<◌, ℕ, suc, nat_lt, ℤ, pos, ◌+ℤ◌, true, false, IsTrue, slice_get, Some, None, List, [], ◌∷◌, refl, sym, ap, subst, ◌∙◌, ⊎_elim, arith}
-use Rattle.std.specs.Ordering.{int_eq}
-use Rattle.std.proofs.lemmas.Bool.{cases_Bool, and_from, ltb-true, ltb-false}
-use Rattle.std.proofs.lemmas.Bool.Decides.{Decides-int_eq}
-use Rattle.sm_num.specs.Range.{fits_form}
+use Rattle.sm_theory.proofs.Imports.{◌≡◌, ◌↔◌, ◌<◌, ℕ, suc, nat_lt, ℤ, pos, ◌+ℤ◌, true, false, IsTrue, slice_get, Some, None, List, [], ◌∷◌, refl, sym, ap, subst, ◌∙◌, ⊎_elim, arith, int_eq, cases_Bool, and_from, ltb-true, ltb-false, Decides-int_eq, fits_form, Linear, coefficient, AreParts, Outcome, Fits, Leaves, then_with, computed, same_atom, Each, Gives, computed_gives, same_atom_sound, same_atom_reflexive, coefficient_one, coefficient_past, apart_zero, parts_apart, Tree, same_tree, agree_with, same_parts, with_constant, one_more, StandsAt, HaveOnePlace, IsKeptFor, IsOutcomeFor, PlacesStay}
 use Rattle.sm_num.specs.declared.op.Op.TheVariants as op
-use Rattle.sm_num.specs.Forms.{Linear, coefficient, AreParts}
-use Rattle.sm_num.specs.Combining.{Outcome, Fits, Leaves, then_with, computed}
-use Rattle.sm_num.specs.FormLaws.{same_atom}
-use Rattle.sm_num.proofs.OutcomeLemmas.{Each, Gives, computed_gives}
-use Rattle.sm_num.proofs.SameAtomLemmas.{same_atom_sound, same_atom_reflexive, coefficient_one, coefficient_past, apart_zero}
-use Rattle.sm_num.proofs.KeptLemmas.{parts_apart}
-use Rattle.sm_term.specs.Terms.{Tree}
-use Rattle.sm_term.specs.SameTerms.{same_tree}
-use Rattle.sm_theory.specs.Arithmetic.{agree_with, same_parts, with_constant, one_more}
-use Rattle.sm_theory.specs.Standing.{StandsAt, HaveOnePlace, IsKeptFor, IsOutcomeFor, PlacesStay}
 use Rattle.sm_theory.proofs.LinearAlikeLemmas.{Alike, same_parts_alike, once_reduced, own_coefficients}
 use Rattle.sm_theory.proofs.LinearPlaces.{one_thing, place_of, place_or_not}
 

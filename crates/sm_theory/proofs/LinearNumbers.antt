@@ -1,19 +1,6 @@
 -- The form of a term by numbers is kept for the form of the term.
-use Rattle.std.proofs.Common.{◌≡◌, ℕ, ℤ, pos, negsuc, ◌+ℤ◌, Bool, true, false, if◌then◌else◌, IsTrue, slice_get, Some, None, List, [], ◌∷◌, refl, sym, ap, subst, ◌∙◌, ⊎_elim, arith}
-use Rattle.std.proofs.lemmas.Bool.{cases_Bool}
-use Rattle.sm_num.specs.Range.{fits_form}
+use Rattle.sm_theory.proofs.Imports.{◌≡◌, ℕ, ℤ, pos, negsuc, ◌+ℤ◌, Bool, true, false, if◌then◌else◌, IsTrue, slice_get, Some, None, List, [], ◌∷◌, refl, sym, ap, subst, ◌∙◌, ⊎_elim, arith, cases_Bool, fits_form, Linear, coefficient, Outcome, Fits, Leaves, formed, scaled, combined, combination, has_no_part, same_atom, same_atom_sound, same_atom_reflexive, AreReduced, coefficient_one, parts_reduced, other_product_alone, Tree, Lit, Start, Havoc, Slot, Cell, Read, Write, Neg, Add, Sub, Mul, Fun, same_tree, constant_form, atom_form, or_atom, scaled_form, product_form, linear_of, linear_by, StandsAt, HaveOnePlace, IsKeptFor, IsOutcomeFor, HasPlaces}
 use Rattle.sm_num.specs.declared.kind.Kind.TheVariants as kind
-use Rattle.sm_num.specs.Forms.{Linear, coefficient}
-use Rattle.sm_num.specs.Combining.{Outcome, Fits, Leaves, formed, scaled, combined, combination}
-use Rattle.sm_num.specs.Tightening.{has_no_part}
-use Rattle.sm_num.specs.FormLaws.{same_atom}
-use Rattle.sm_num.proofs.SameAtomLemmas.{same_atom_sound, same_atom_reflexive, AreReduced, coefficient_one}
-use Rattle.sm_num.proofs.KeptLemmas.{parts_reduced}
-use Rattle.sm_num.proofs.AlikeLemmas.{other_product_alone}
-use Rattle.sm_term.specs.Terms.{Tree, Lit, Start, Havoc, Slot, Cell, Read, Write, Neg, Add, Sub, Mul, Fun}
-use Rattle.sm_term.specs.SameTerms.{same_tree}
-use Rattle.sm_theory.specs.LinearTerms.{constant_form, atom_form, or_atom, scaled_form, product_form, linear_of, linear_by}
-use Rattle.sm_theory.specs.Standing.{StandsAt, HaveOnePlace, IsKeptFor, IsOutcomeFor, HasPlaces}
 use Rattle.sm_theory.proofs.LinearSameTree.{tree_sound, tree_reflexive}
 use Rattle.sm_theory.proofs.LinearAlikeLemmas.{once_reduced}
 use Rattle.sm_theory.proofs.LinearTermsLemmas.{scaled_is_combination}

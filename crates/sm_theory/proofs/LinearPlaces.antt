@@ -1,21 +1,9 @@
 -- A form over numbers stands for a form over terms exactly where, put over the terms at its numbers,
 -- it is alike.
-use Rattle.std.proofs.Common.{◌≡◌, ◌⊎◌, ℕ, zero, suc, ℤ, pos, true, false, IsTrue, slice_get, Option, Some, None, List, [], ◌∷◌, refl, sym, ap, subst, ◌∙◌, ⊎_elim, inl, inr}
+use Rattle.sm_theory.proofs.Imports.{◌≡◌, ◌⊎◌, ℕ, zero, suc, ℤ, pos, true, false, IsTrue, slice_get, Option, Some, None, List, [], ◌∷◌, refl, sym, ap, subst, ◌∙◌, ⊎_elim, inl, inr, cases_Bool, fits_form, Linear, coefficient, renamed_form, IsKept, same_atom, AreAlike, Each, same_atom_sound, same_atom_reflexive, not_both, coefficient_past, AreAmong, AreInside, reduced_some, parts_reduced, Tree, Cell, same_tree, same_tree_is, StandsAt, HaveOnePlace, StandsFor, IsKeptFor}
 use Rattle.std.specs.Prelude.{unwrap_or}
-use Rattle.std.proofs.lemmas.Bool.{cases_Bool}
-use Rattle.sm_num.specs.Range.{fits_form}
-use Rattle.sm_num.specs.Forms.{Linear, coefficient, renamed_form, IsKept}
-use Rattle.sm_num.specs.FormLaws.{same_atom, AreAlike}
-use Rattle.sm_num.proofs.OutcomeLemmas.{Each}
-use Rattle.sm_num.proofs.SameAtomLemmas.{same_atom_sound, same_atom_reflexive, not_both, coefficient_past}
 use Rattle.sm_num.proofs.RenamingLemmas.{renamed_parts, renamed_coefficient, Renames}
-use Rattle.sm_num.proofs.ResultsReduced.{AreAmong, AreInside, reduced_some}
-use Rattle.sm_num.proofs.KeptLemmas.{parts_reduced}
 use Rattle.sm_num.proofs.OverOtherAtoms as over
-use Rattle.sm_term.specs.Terms.{Tree, Cell}
-use Rattle.sm_term.specs.SameTerms.{same_tree}
-use Rattle.sm_term.proofs.SameTermsLemmas.{same_tree_is}
-use Rattle.sm_theory.specs.Standing.{StandsAt, HaveOnePlace, StandsFor, IsKeptFor}
 use Rattle.sm_theory.proofs.LinearSameTree.{tree_sound, tree_reflexive}
 use Rattle.sm_theory.proofs.LinearAlikeLemmas.{once_reduced, reduced_once, own_coefficients}
 use Rattle.sm_num.proofs.KeptForms.{coefficient_fits}

@@ -1,8 +1,5 @@
 -- The test of terms, as linear forms ask for it.
-use Rattle.std.proofs.Common.{refl}
-use Rattle.sm_num.proofs.SameAtomLemmas.{IsSound, IsReflexive}
-use Rattle.sm_term.specs.SameTerms.{same_tree}
-use Rattle.sm_term.proofs.SameTermsLemmas.{same_tree_is}
+use Rattle.sm_theory.proofs.Imports.{refl, IsSound, IsReflexive, same_tree, same_tree_is}
 
 -- terms that pass as the same are equal
 pub tree_sound : IsSound same_tree

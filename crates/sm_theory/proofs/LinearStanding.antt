@@ -1,18 +1,6 @@
 -- What is computed of forms over numbers is kept for what is computed of the forms over terms for which
 -- they are kept.
-use Rattle.std.proofs.Common.{◌≡◌, ℕ, ℤ, List, refl, subst}
-use Rattle.sm_num.specs.Forms.{Linear, IsKept}
-use Rattle.sm_num.specs.declared.kind.Kind.{Kind}
-use Rattle.sm_num.specs.Combining.{Outcome, Fits, Leaves, combined, combination}
-use Rattle.sm_num.specs.Eliminating.{can_cancel, eliminated, elimination}
-use Rattle.sm_num.specs.Tightening.{tightened, is_contradictory}
-use Rattle.sm_num.specs.FormLaws.{same_atom, ComeOutAlike, renamed_outcome}
-use Rattle.sm_num.proofs.OutcomeLemmas.{Gives}
-use Rattle.sm_num.proofs.ResultsReduced.{AreAmong, IsReduced, combination_reduced, elimination_reduced}
-use Rattle.sm_num.proofs.KeptLemmas.{combined_kept, combined_among, eliminated_kept, eliminated_among}
-use Rattle.sm_term.specs.Terms.{Tree}
-use Rattle.sm_term.specs.SameTerms.{same_tree}
-use Rattle.sm_theory.specs.Standing.{StandsAt, HaveOnePlace, StandsFor, IsKeptFor, IsOutcomeFor}
+use Rattle.sm_theory.proofs.Imports.{◌≡◌, ℕ, ℤ, List, refl, subst, Linear, IsKept, Kind, Outcome, Fits, Leaves, combined, combination, can_cancel, eliminated, elimination, tightened, is_contradictory, same_atom, ComeOutAlike, renamed_outcome, Gives, AreAmong, IsReduced, combination_reduced, elimination_reduced, combined_kept, combined_among, eliminated_kept, eliminated_among, Tree, same_tree, StandsAt, HaveOnePlace, StandsFor, IsKeptFor, IsOutcomeFor}
 use Rattle.sm_theory.proofs.LinearSameTree.{tree_sound, tree_reflexive}
 use Rattle.sm_num.proofs.OverOtherAtoms as over
 use Rattle.sm_theory.proofs.LinearPlaces.{IsPlace, term_at, term_at_is, places_rename, keeps_stands, stands_keeps}

@@ -1,28 +1,8 @@
 -- The linear form of a term: it has the term's value, its parts are reduced and in the range, and its
 -- atoms are what the term is.
-use Rattle.std.proofs.Common.{◌≡◌, ℕ, ℤ, pos, negsuc, neg_ℤ, ◌+ℤ◌, ◌-ℤ◌, ◌*ℤ◌, Bool, true, false, if◌then◌else◌, IsTrue, List, [], ◌∷◌, filter, refl, sym, ap, subst, ◌∙◌, arith}
-use Rattle.sm_syntax.specs.text.Sorts.{Sorts}
-use Rattle.sm_syntax.specs.declared.tree.Sort.TheVariants.{Num}
-use Rattle.sm_num.specs.Range.{fits_form}
+use Rattle.sm_theory.proofs.Imports.{◌≡◌, ℕ, ℤ, pos, negsuc, neg_ℤ, ◌+ℤ◌, ◌-ℤ◌, ◌*ℤ◌, Bool, true, false, if◌then◌else◌, IsTrue, List, [], ◌∷◌, filter, refl, sym, ap, subst, ◌∙◌, arith, Sorts, Num, fits_form, Linear, sum_of_parts, Outcome, Fits, Leaves, combined_number, formed, scaled, combination, has_no_part, value_of_form, sums, ring, one_mul, mul-neg_left, other_product_alone, Gives, gives_more, gives_both, AreReduced, combination_gives_value, AreAmong, IsReduced, combination_reduced, combination_among, Tree, Lit, Start, Havoc, Slot, Cell, Read, Write, Neg, Add, Sub, Mul, Fun, Structure, HasSort, IsBelow, same_tree, number_meant, constant_form, atom_form, or_atom, scaled_form, product_form, linear_of}
 use Rattle.sm_num.specs.declared.kind.Kind.TheVariants as kind
-use Rattle.sm_num.specs.Forms.{Linear, sum_of_parts}
-use Rattle.sm_num.specs.Combining.{Outcome, Fits, Leaves, combined_number, formed, scaled, combination}
-use Rattle.sm_num.specs.Tightening.{has_no_part}
-use Rattle.sm_num.specs.FormLaws.{value_of_form}
-use Rattle.sm_num.proofs.RingLemmas.{sums, ring, one_mul, mul-neg_left}
 use lib.IntN.{*ℤ_comm}
-use Rattle.sm_num.proofs.AlikeLemmas.{other_product_alone}
-use Rattle.sm_num.proofs.OutcomeLemmas.{Gives, gives_more, gives_both}
-use Rattle.sm_num.proofs.SameAtomLemmas.{AreReduced}
-use Rattle.sm_num.proofs.FormValues.{combination_gives_value}
-use Rattle.sm_num.proofs.ResultsReduced.{AreAmong, IsReduced, combination_reduced, combination_among}
-use Rattle.sm_term.specs.Terms.{Tree, Lit, Start, Havoc, Slot, Cell, Read, Write, Neg, Add, Sub, Mul, Fun}
-use Rattle.sm_term.specs.Structures.{Structure}
-use Rattle.sm_term.specs.Sorted.{HasSort}
-use Rattle.sm_term.specs.Fresh.{IsBelow}
-use Rattle.sm_term.specs.SameTerms.{same_tree}
-use Rattle.sm_theory.specs.Facts.{number_meant}
-use Rattle.sm_theory.specs.LinearTerms.{constant_form, atom_form, or_atom, scaled_form, product_form, linear_of}
 use Rattle.sm_theory.proofs.LinearSameTree.{tree_sound, tree_reflexive}
 
 -- what the atom has, and the form that was computed where there is one

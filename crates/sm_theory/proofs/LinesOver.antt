@@ -1,7 +1,5 @@
 -- Lines with other terms.
-use Rattle.std.proofs.Common.{◌≡◌, List, [], ◌∷◌, map, refl, sym, ap, ap₂, subst}
-use Rattle.sm_theory.specs.Lines.{LineOver, Both, Either, Cases, Order, Refl, Sym, Trans, Subst, Cong, Same, Apart, Hit, Miss, Lin, Elim, Tight, Exact, Close, Clash}
-use Rattle.sm_theory.specs.Named.{facts_named, terms_named, with_terms, reads_all, is_split, EachOf, EachNamed}
+use Rattle.sm_theory.proofs.Imports.{◌≡◌, List, [], ◌∷◌, map, refl, sym, ap, ap₂, subst, LineOver, Both, Either, Cases, Order, Refl, Sym, Trans, Subst, Cong, Same, Apart, Hit, Miss, Lin, Elim, Tight, Exact, Close, Clash, facts_named, terms_named, with_terms, reads_all, is_split, EachOf, EachNamed}
 
 -- such a line names the other terms
 pub terms_with : {S T : Type 0} (new : S → T) (l : LineOver S) → terms_named (with_terms new l) ≡ map new (terms_named l)

@@ -1,9 +1,5 @@
 -- The number 1 put to a form: the form with 1 more.
-use Rattle.std.proofs.Common.{◌≡◌, ℕ, ℤ, pos, List, ap, ◌∙◌}
-use Rattle.sm_num.specs.Forms.{Linear, IsKept}
-use Rattle.sm_num.specs.Combining.{Outcome, Fits, then_with, computed, combined, combined_number, formed}
-use Rattle.sm_theory.specs.LinearTerms.{constant_form}
-use Rattle.sm_theory.specs.Arithmetic.{one_more}
+use Rattle.sm_theory.proofs.Imports.{◌≡◌, ℕ, ℤ, pos, List, ap, ◌∙◌, Linear, IsKept, Outcome, Fits, then_with, computed, combined, combined_number, formed, constant_form, one_more}
 use Rattle.sm_num.proofs.OneForm.{computed_once, merged_once}
 use Rattle.sm_num.specs.declared.op.Op.TheVariants as op
 

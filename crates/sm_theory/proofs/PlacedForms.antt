@@ -1,20 +1,6 @@
 -- A form over numbers that is kept for a form over terms, by the places of the terms, is the form_by_places form.
 -- Where an atom has no place, there is none. The terms of formulas have one place each.
-use Rattle.std.proofs.Common.{◌≡◌, ◌<◌, ℕ, zero, suc, ◌+◌, ◌-◌, nat_lt, ℤ, pos, Bool, true, false, not, if◌then◌else◌, slice_get, Option, Some, None, List, [], ◌∷◌, refl, subst, sym, ap, ◌∙◌, ⊎_elim, arith}
-use Rattle.std.specs.Ordering.{int_eq}
-use Rattle.std.specs.List.{list_all}
-use Rattle.std.proofs.lemmas.Bool.{cases_Bool, and_from, ltb-true, ltb-false}
-use Rattle.sm_num.specs.Range.{fits_form}
-use Rattle.sm_num.specs.Forms.{Linear, coefficient, parts_without, AreParts}
-use Rattle.sm_num.specs.Combining.{with_part}
-use Rattle.sm_num.specs.FormLaws.{same_atom}
-use Rattle.sm_num.proofs.SameAtomLemmas.{AreReduced, same_atom_sound, same_atom_reflexive, other_test, not_both, apart_zero, coefficient_one, coefficient_past, coefficient_filter, reduced_filter}
-use Rattle.sm_num.proofs.KeptLemmas.{parts_apart, parts_reduced}
-use Rattle.sm_term.specs.Terms.{Tree}
-use Rattle.sm_term.specs.SameTerms.{same_tree}
-use Rattle.sm_theory.specs.Lines.{followed}
-use Rattle.sm_theory.specs.ExactLine.{parts_by_places, where_in_range, form_by_places, forms_by_places}
-use Rattle.sm_theory.specs.Standing.{StandsAt, HaveOnePlace, IsKeptFor}
+use Rattle.sm_theory.proofs.Imports.{◌≡◌, ◌<◌, ℕ, zero, suc, ◌+◌, ◌-◌, nat_lt, ℤ, pos, Bool, true, false, not, if◌then◌else◌, slice_get, Option, Some, None, List, [], ◌∷◌, refl, subst, sym, ap, ◌∙◌, ⊎_elim, arith, int_eq, list_all, cases_Bool, and_from, ltb-true, ltb-false, fits_form, Linear, coefficient, parts_without, AreParts, with_part, same_atom, AreReduced, same_atom_sound, same_atom_reflexive, other_test, not_both, apart_zero, coefficient_one, coefficient_past, coefficient_filter, reduced_filter, parts_apart, parts_reduced, Tree, same_tree, followed, parts_by_places, where_in_range, form_by_places, forms_by_places, StandsAt, HaveOnePlace, IsKeptFor}
 use Rattle.sm_theory.proofs.LinearSameTree.{tree_sound, tree_reflexive}
 use Rattle.sm_theory.proofs.LinearAlikeLemmas.{none_there, once_reduced}
 use Rattle.sm_theory.proofs.ExactLineSound.{part_fits, with_parts}

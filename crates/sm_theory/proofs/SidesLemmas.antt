@@ -1,16 +1,6 @@
 -- Facts that are found by their numbers on a branch of the program stand for those that are found on
 -- the branch that it stands for, and terms of a table are told by their numbers.
-use Rattle.std.proofs.Common.{◌≡◌, ◌<◌, ℕ, zero, suc, true, List, [], ◌∷◌, length, slice_get, nat_eq, ap}
-use Rattle.std.proofs.lemmas.Bool.Decides.{same_from_decides, Decides-eqb}
-use Rattle.sm_syntax.specs.text.Sorts.{Sorts}
-use Rattle.sm_term.specs.Terms.{Tree}
-use Rattle.sm_term.specs.Tables.{tree_at}
-use Rattle.sm_term.specs.TableLaws.{AreApart}
-use Rattle.sm_term.specs.SameTerms.{same_tree}
-use Rattle.sm_term.proofs.SameTermsLemmas.{same_tree_is}
-use Rattle.sm_theory.specs.Facts.{BranchFact}
-use Rattle.sm_theory.specs.Views.{FactStands, AllStand, Fact}
-use Rattle.sm_theory.specs.Sides.{OptionStands}
+use Rattle.sm_theory.proofs.Imports.{◌≡◌, ◌<◌, ℕ, zero, suc, true, List, [], ◌∷◌, length, slice_get, nat_eq, ap, same_from_decides, Decides-eqb, Sorts, Tree, tree_at, AreApart, same_tree, same_tree_is, BranchFact, FactStands, AllStand, Fact, OptionStands}
 
 -- the fact with a number stands for the fact with it
 pub fact_found : (sorts : Sorts) (trees : List Tree) (fs : List Fact) (facts : List BranchFact) → AllStand sorts trees fs facts → (n : ℕ) →

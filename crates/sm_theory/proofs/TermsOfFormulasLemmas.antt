@@ -1,11 +1,7 @@
 -- The terms of formulas have one place each.
-use Rattle.std.proofs.Common.{◌≡◌, ◌⊎◌, ℕ, zero, suc, Bool, true, false, ◌||◌, if◌then◌else◌, List, [], ◌∷◌, ◌++◌, length, inl, inr, refl, subst, sym, ap, ◌∙◌, ⊎_elim}
-use Rattle.std.specs.List.{list_any}
-use Rattle.sm_term.specs.Terms.{Tree, Lit, Start, Havoc, Slot, Cell, Read, Write, Neg, Add, Sub, Mul, Fun, Arguments, Over, Given}
-use Rattle.sm_term.specs.Assertions.{Assertion, Yes, No, Eq, Ne, Le, Lt, And, Or}
-use Rattle.sm_term.specs.SameTerms.{same_tree}
-use Rattle.sm_theory.specs.TermsOfFormulas.{is_among, put, with_term, with_arguments, with_formula, with_formulas, all_terms}
-use Rattle.sm_theory.specs.Standing.{StandsAt, HaveOnePlace}
+use Rattle.sm_theory.proofs.Imports.{◌≡◌, ◌⊎◌, ℕ, zero, suc, Bool, true, false, ◌||◌, if◌then◌else◌, List, [], ◌∷◌, ◌++◌, length, inl, inr, refl, subst, sym, ap, ◌∙◌, ⊎_elim, list_any, Tree, Lit, Start, Havoc, Slot, Cell, Read, Write, Neg, Add, Sub, Mul, Fun, Arguments, Over, Given, Assertion, Yes, No, Ne, Le, Lt, And, Or, same_tree, is_among, with_term, with_arguments, with_formula, with_formulas, all_terms, StandsAt, HaveOnePlace}
+use Rattle.sm_term.specs.Assertions.{Eq}
+use Rattle.sm_theory.specs.TermsOfFormulas.{put}
 use Rattle.sm_theory.proofs.LinearSameTree.{tree_reflexive}
 
 -- what has a place is among the terms

@@ -1,13 +1,5 @@
 -- Theories together, and the laws of the ways in which a branch goes on, from those of theories.
-use Rattle.std.proofs.Common.{◌≡◌, Option, Some, None, List, ⊎_elim, refl, subst, sym}
-use Rattle.sm_theory.specs.Facts.{BranchFact}
-use Rattle.sm_theory.specs.Lines.{Refl, Sym, Trans, Subst, Cong, Same, Apart, Hit, Miss, Lin, Elim, Tight, Exact}
-use Rattle.sm_theory.specs.Equality.{or_other, equality_adds}
-use Rattle.sm_theory.specs.Arithmetic.{arithmetic_adds}
-use Rattle.sm_theory.specs.ExactLine.{with_exact}
-use Rattle.sm_theory.specs.Ways.{adds}
-use Rattle.sm_theory.specs.Moved.{moved_line}
-use Rattle.sm_theory.specs.Laws.{TheoryAdds, AddsWhatHolds, AddsWhatIsSorted, AddsWhatIsBelow, AddsAnywhere, SomeWayHolds, WaysAreSorted, WaysAreBelow, WaysAddSoMany, WaysMove, arithmetic, equality, arrays}
+use Rattle.sm_theory.proofs.Imports.{◌≡◌, Option, Some, None, List, ⊎_elim, refl, subst, sym, BranchFact, Refl, Sym, Trans, Subst, Cong, Same, Apart, Hit, Miss, Lin, Elim, Tight, Exact, or_other, equality_adds, arithmetic_adds, with_exact, adds, moved_line, TheoryAdds, AddsWhatHolds, AddsWhatIsSorted, AddsWhatIsBelow, AddsAnywhere, SomeWayHolds, WaysAreSorted, WaysAreBelow, WaysAddSoMany, WaysMove, arithmetic, equality, arrays}
 use Rattle.sm_theory.proofs.FactsLemmas.{Gives}
 use Rattle.sm_theory.proofs.EqualityLemmas.{or_else_from, equality_sorted, equality_below, equality_anywhere}
 use Rattle.sm_theory.proofs.EqualitySound.{equality_holds}

@@ -1,16 +1,7 @@
 -- A walk over the terms under a term: its way descends, and each form that is made is one fewer that is missing.
-use Rattle.std.proofs.Common.{◌≡◌, ◌≢◌, ◌<◌, ◌≤◌, ◌+◌, ℕ, zero, suc, true, false, if◌then◌else◌, nat_eq, Option, Some, None, List, [], ◌∷◌, ◌++◌, refl, sym, ap, subst, ◌∙◌, ⊎_elim, arith}
+use Rattle.sm_theory.proofs.Imports.{◌≡◌, ◌≢◌, ◌<◌, ◌≤◌, ◌+◌, ℕ, zero, suc, true, false, if◌then◌else◌, nat_eq, Option, Some, None, List, [], ◌∷◌, ◌++◌, refl, sym, ap, subst, ◌∙◌, ⊎_elim, arith, update, cases_Bool, Decides-eqb, Linear, Tree, tree_at, linear_of, IsKeptFor, AreFormsOf, Descends, IsWay, AreOpen, missing_below}
 use Rattle.std.specs.Prelude.{is_some, unwrap_or}
-use Rattle.std.specs.Map.{update}
 use Rattle.std.proofs.lemmas.Map.{update_here, update_apart}
-use Rattle.std.proofs.lemmas.Bool.{cases_Bool}
-use Rattle.std.proofs.lemmas.Bool.Decides.{Decides-eqb}
-use Rattle.sm_num.specs.Forms.{Linear}
-use Rattle.sm_term.specs.Terms.{Tree}
-use Rattle.sm_term.specs.Tables.{tree_at}
-use Rattle.sm_theory.specs.LinearTerms.{linear_of}
-use Rattle.sm_theory.specs.Standing.{IsKeptFor}
-use Rattle.sm_theory.specs.FormsOfTerms.{AreFormsOf, Descends, IsWay, AreOpen, missing_below}
 
 -- a way ends below its start
 descends_below : (from : ℕ) (ns : List ℕ) (to : ℕ) → Descends from ns to → to < from

@@ -1,23 +1,7 @@
 -- Ways in which a branch goes on, where theories add what is told: from what they come, that they are
 -- sorted and below as the facts are, and that they are the same on another branch with the facts.
-use Rattle.std.proofs.Common.{◌≡◌, ℕ, Bool, true, false, ◌&&◌, if◌then◌else◌, slice_get, IsTrue, Option, Some, None, List, [], ◌∷◌, length, refl, subst, sym, ap, ◌∙◌}
-use Rattle.std.proofs.lemmas.Bool.{and_parts}
-use Rattle.sm_syntax.specs.text.Sorts.{Sorts}
-use Rattle.sm_syntax.specs.declared.tree.Sort.TheVariants.{Num}
-use Rattle.sm_term.specs.Terms.{Tree}
-use Rattle.sm_term.specs.Assertions.{Assertion, Eq, Ne, Lt, And, Or}
-use Rattle.sm_term.specs.Sorted.{tree_sort, HasSort}
-use Rattle.sm_term.specs.SameTerms.{same_sort}
-use Rattle.sm_term.proofs.SameTermsLemmas.{same_sort_is}
-use Rattle.sm_theory.specs.Facts.{BranchFact, Formal}
-use Rattle.sm_theory.specs.Lines.{CertificateLine, Both, Either, Cases, Order, Close, Clash, followed, Sides, formula_at, equation_at, contrary_at}
-use Rattle.sm_theory.specs.Equality.{says_equal}
-use Rattle.sm_theory.specs.Arithmetic.{is_numeric}
-use Rattle.sm_theory.specs.Ways.{adding, splitting, closing_if, both_parts, either_part, ordered, cannot_hold, ways_with}
-use Rattle.sm_theory.specs.SortedFacts.{IsFactSorted, AreFactsSorted, IsFactBelow, AreFactsBelow, IsLineSorted, IsLineBelow}
-use Rattle.sm_theory.specs.Moved.{moved_line, ReadsAlike}
-use Rattle.sm_theory.specs.Named.{facts_added}
-use Rattle.sm_theory.specs.Laws.{EachWay}
+use Rattle.sm_theory.proofs.Imports.{◌≡◌, ℕ, Bool, true, false, ◌&&◌, if◌then◌else◌, slice_get, IsTrue, Option, Some, None, List, [], ◌∷◌, length, refl, subst, sym, ap, ◌∙◌, and_parts, Sorts, Num, Tree, Assertion, Ne, Lt, And, Or, tree_sort, HasSort, same_sort, same_sort_is, BranchFact, Formal, CertificateLine, Both, Either, Cases, Order, Close, Clash, followed, Sides, formula_at, equation_at, contrary_at, says_equal, is_numeric, adding, splitting, closing_if, both_parts, either_part, ordered, cannot_hold, ways_with, IsFactSorted, AreFactsSorted, IsFactBelow, AreFactsBelow, IsLineSorted, IsLineBelow, moved_line, ReadsAlike, facts_added, EachWay}
+use Rattle.sm_term.specs.Assertions.{Eq}
 use Rattle.sm_theory.proofs.FactsLemmas.{fact_is_sorted, fact_is_below, contrary, followed_from, formula_stands, contrary_stands, Gives, followed_gives, gives_itself, formula_moves, equation_moves, contrary_moves}
 use Rattle.sm_theory.proofs.EqualityLemmas.{says_moves}
 

@@ -1,28 +1,6 @@
 -- Where the facts hold, not every way in which a branch goes on fails.
-use Rattle.std.proofs.Common.{◌≡◌, ℤ, pos, negsuc, ◌+ℤ◌, true, false, ◌&&◌, IsTrue, Option, Some, List, [], ◌∷◌, subst, sym, arith}
-use Rattle.std.specs.Prelude.{◌<ℤ◌}
-use Rattle.std.specs.Ordering.{int_eq}
-use Rattle.std.proofs.lemmas.Bool.{not-true}
-use Rattle.std.proofs.lemmas.Bool.Decides.{Decides-int_eq}
-use Rattle.std.proofs.lemmas.Int.{ints}
-use Rattle.sm_syntax.specs.SameAs.{SameAs}
-use Rattle.sm_syntax.specs.text.Sorts.{Sorts}
-use Rattle.sm_syntax.specs.declared.tree.Sort.{Sort}
-use Rattle.sm_syntax.specs.declared.tree.Sort.TheVariants.{Num}
-use Rattle.sm_syntax.specs.claim.Stores.{number}
+use Rattle.sm_theory.proofs.Imports.{◌≡◌, ℤ, pos, negsuc, ◌+ℤ◌, true, false, ◌&&◌, IsTrue, Option, Some, List, [], ◌∷◌, subst, sym, arith, ◌<ℤ◌, int_eq, not-true, Decides-int_eq, ints, SameAs, Sorts, Sort, Num, number, Satisfies, sum_of_parts, Kind, has_no_part, fails, Tree, Structure, meaning, No, Ne, And, Or, Holds, same_tree_is, BranchFact, Formal, Sum, number_meant, IsFact, AreFacts, CertificateLine, Both, Either, Cases, Order, Close, Clash, cannot_hold, ways_with, AreFactsSorted, NoWayHolds}
 use Rattle.sm_num.specs.declared.kind.Kind.TheVariants as kind
-use Rattle.sm_num.specs.Forms.{Satisfies, sum_of_parts}
-use Rattle.sm_num.specs.declared.kind.Kind.{Kind}
-use Rattle.sm_num.specs.Tightening.{has_no_part, fails}
-use Rattle.sm_term.specs.Terms.{Tree}
-use Rattle.sm_term.specs.Structures.{Structure, meaning}
-use Rattle.sm_term.specs.Assertions.{No, Ne, And, Or, Holds}
-use Rattle.sm_term.proofs.SameTermsLemmas.{same_tree_is}
-use Rattle.sm_theory.specs.Facts.{BranchFact, Formal, Sum, number_meant, IsFact, AreFacts}
-use Rattle.sm_theory.specs.Lines.{CertificateLine, Both, Either, Cases, Order, Close, Clash}
-use Rattle.sm_theory.specs.Ways.{cannot_hold, ways_with}
-use Rattle.sm_theory.specs.SortedFacts.{AreFactsSorted}
-use Rattle.sm_theory.specs.Laws.{NoWayHolds}
 use Rattle.sm_theory.proofs.FactsLemmas.{fact_holds, fact_is_sorted, equation, contrary, equation_stands}
 use Rattle.sm_theory.proofs.CongruenceSound.{same_itself}
 use Rattle.sm_theory.proofs.ElementsLemmas.{says_apart}

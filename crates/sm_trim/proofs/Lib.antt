@@ -1,3 +1,4 @@
+mod Imports
 pub mod NamesLemmas
 pub mod NumbersLemmas
 pub mod WaysLemmas

@@ -1,15 +1,5 @@
 -- Lines one after another, the facts after them, and new numbers.
-use Rattle.std.proofs.Common.{◌≡◌, ◌<◌, ◌≤◌, ◌+◌, ◌-◌, ℕ, zero, suc, List, [], ◌∷◌, ◌++◌, length, get_or, take, drop, refl, ap, sym, ◌∙◌, arith, append_assoc}
-use Rattle.std.specs.List.{range_with_len}
-use Rattle.std.proofs.lemmas.List.{length-take, take-append-le}
-use Rattle.sm_term.specs.Terms.{Tree}
-use Rattle.sm_theory.specs.Lines.{CertificateLine}
-use Rattle.sm_theory.specs.Named.{facts_added}
-use Rattle.sm_theory.specs.Moved.{moved_line}
-use Rattle.sm_theory.specs.Views.{line_in}
-use Rattle.sm_theory.specs.declared.line.CertLine.{CertLine}
-use Rattle.sm_trim.specs.Pruned.{new_number, numbered_on}
-use Rattle.sm_trim.specs.Views.{facts_past}
+use Rattle.sm_trim.proofs.Imports.{◌≡◌, ◌<◌, ◌≤◌, ◌+◌, ◌-◌, ℕ, zero, suc, List, [], ◌∷◌, ◌++◌, length, get_or, take, drop, refl, ap, sym, ◌∙◌, arith, append_assoc, range_with_len, length-take, take-append-le, Tree, CertificateLine, facts_added, moved_line, line_in, CertLine, new_number, numbered_on, facts_past}
 use Rattle.sm_trim.proofs.UsedStays.{same_line}
 
 -- one number more

@@ -1,9 +1,5 @@
 -- Marks of facts, set and taken off.
-use Rattle.std.proofs.Common.{◌≡◌, ◌<◌, ◌≤◌, ◌+◌, ◌-◌, ℕ, suc, Bool, true, false, ◌||◌, nat_lt, refl, ap, sym, ◌∙◌, subst, arith}
-use Rattle.std.proofs.lemmas.Bool.{ltb-false, ltb-true}
-use Rattle.sm_trim.specs.declared.marks.Marks.{Marks}
-use Rattle.sm_trim.specs.Used.{some_pass}
-use Rattle.sm_trim.specs.Views.{AreMarks, MarksMore}
+use Rattle.sm_trim.proofs.Imports.{◌≡◌, ◌<◌, ◌≤◌, ◌+◌, ◌-◌, ℕ, suc, Bool, true, false, ◌||◌, nat_lt, refl, ap, sym, ◌∙◌, subst, arith, ltb-false, ltb-true, Marks, some_pass, AreMarks, MarksMore}
 
 -- where facts that are named are marked too, the marks are those of what needs these as well
 pub marks_more : (at : ℕ) (named needed : ℕ → Bool) (m k : Marks) → AreMarks at needed m → MarksMore named m k →

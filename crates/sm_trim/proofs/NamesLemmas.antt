@@ -1,11 +1,5 @@
 -- What lines name, here and with other numbers of facts.
-use Rattle.std.proofs.Common.{◌≡◌, ◌⊎◌, ◌<◌, ◌+◌, ℕ, zero, suc, Bool, true, false, ◌&&◌, ◌||◌, nat_eq, nat_lt, List, [], ◌∷◌, map, inl, inr, refl, ap, sym, ◌∙◌, subst, arith}
-use Rattle.std.specs.List.{list_any, AllByRecursion}
-use Rattle.std.proofs.lemmas.Bool.{and_parts, eq-eqb, eqb-true, lt-ltb, or_right, or_left, and_from}
-use Rattle.sm_theory.specs.Lines.{CertificateLine, Both, Either, Cases, Order, Refl, Sym, Trans, Subst, Cong, Same, Apart, Hit, Miss, Lin, Elim, Tight, Exact, Close, Clash}
-use Rattle.sm_theory.specs.Named.{facts_named, reads_all, facts_added, terms_named}
-use Rattle.sm_theory.specs.Moved.{moved_line}
-use Rattle.sm_trim.specs.Used.{names_fact, some_pass}
+use Rattle.sm_trim.proofs.Imports.{◌≡◌, ◌⊎◌, ◌<◌, ◌+◌, ℕ, zero, suc, Bool, true, false, ◌&&◌, ◌||◌, nat_eq, nat_lt, List, [], ◌∷◌, map, inl, inr, refl, ap, sym, ◌∙◌, subst, arith, list_any, AllByRecursion, and_parts, eq-eqb, eqb-true, lt-ltb, or_right, or_left, and_from, CertificateLine, Both, Either, Cases, Order, Refl, Sym, Trans, Subst, Cong, Same, Apart, Hit, Miss, Lin, Elim, Tight, Exact, Close, Clash, facts_named, reads_all, facts_added, terms_named, moved_line, names_fact, some_pass}
 
 pub either_passes : (a b : Bool) → (a || b) ≡ true → (a ≡ true) ⊎ (b ≡ true)
 either_passes true b e = inl refl

@@ -1,10 +1,7 @@
 -- New numbers of facts.
-use Rattle.std.proofs.Common.{◌≡◌, ◌⊎◌, ◌<◌, ◌≤◌, ◌+◌, ◌-◌, ℕ, List, ◌++◌, length, get_or, ap, sym, ◌∙◌, arith, inl, inr}
-use Rattle.std.specs.List.{range_with_len}
+use Rattle.sm_trim.proofs.Imports.{◌≡◌, ◌⊎◌, ◌<◌, ◌≤◌, ◌+◌, ◌-◌, ℕ, List, ◌++◌, length, get_or, ap, sym, ◌∙◌, arith, inl, inr, range_with_len, length-append, get_or-append-add, get_or_past, new_number, numbered_on}
 use Rattle.std.proofs.Math.ListN.{get_or-append}
-use Rattle.std.proofs.lemmas.List.{length-append, get_or-append-add, get_or_past}
 use Rattle.std.proofs.lemmas.List.FromFn.{length-range_with_len, get_or-range_with_len}
-use Rattle.sm_trim.specs.Pruned.{new_number, numbered_on}
 
 -- the numbers up to fact `at`
 abbrev pub padded : List ℕ → ℕ → List ℕ

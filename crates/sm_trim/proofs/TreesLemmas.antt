@@ -1,26 +1,13 @@
 -- Trees of the program, as what is left of certificates.
-use Rattle.std.proofs.Common.{◌≡◌, ◌<◌, ◌+◌, ℕ, Bool, true, false, ◌||◌, if◌then◌else◌, List, [], ◌∷◌, ◌++◌, length, get_or, take, drop, refl, ap, sym, ◌∙◌, subst}
+use Rattle.sm_trim.proofs.Imports.{◌≡◌, ◌<◌, ◌+◌, ℕ, Bool, true, false, ◌||◌, if◌then◌else◌, List, [], ◌∷◌, ◌++◌, length, get_or, take, drop, refl, ap, sym, ◌∙◌, subst, Tree, CertificateLine, facts_added, moved_line, line_in, CertLine, Certificate, Next, lines_before, LeftLine, LeftTree, fold_out-LeftTree, Marks, names_fact, some_pass, Pruned, LeftNext, LeftClosed, LeftSplit, needs, with_line, with_split, pruned, new_number, numbered_on, closed_up, left_before, pruned_in, facts_past, AreMarks, MarksMore, Leaves}
 use Rattle.std.specs.Prelude.{Box}
 use Rattle.std.specs.declared.alloc.Global.{Global}
-use Rattle.sm_term.specs.Terms.{Tree}
-use Rattle.sm_theory.specs.Lines.{CertificateLine}
-use Rattle.sm_theory.specs.Named.{facts_added}
-use Rattle.sm_theory.specs.Moved.{moved_line}
-use Rattle.sm_theory.specs.Views.{line_in}
-use Rattle.sm_theory.specs.declared.line.CertLine.{CertLine}
-use Rattle.sm_cert.specs.Certificates.{Certificate, Next}
-use Rattle.sm_cert.specs.Views.{lines_before}
-use Rattle.sm_trim.specs.declared.left.LeftLine.{LeftLine}
-use Rattle.sm_trim.specs.declared.left.LeftTree.{LeftTree, fold_out-LeftTree}
 use Rattle.sm_trim.specs.declared.left.LeftEnd.{LeftEnd, fold-LeftEnd, fold-roll-LeftEnd}
 use Rattle.sm_trim.specs.declared.left.LeftEnd.TheOpen as layer
 use Rattle.sm_trim.specs.declared.left.LeftEnd.TheVariants as ends
 use Rattle.sm_trim.specs.declared.left.LeftEnd.TheVariants.{rolls-Close, rolls-Split}
 use Rattle.sm_trim.specs.declared.left.Needing.{Needing}
-use Rattle.sm_trim.specs.declared.marks.Marks.{Marks}
-use Rattle.sm_trim.specs.Used.{names_fact, some_pass}
-use Rattle.sm_trim.specs.Pruned.{Pruned, LeftNext, LeftClosed, LeftSplit, needs, with_line, with_split, pruned, new_number, numbered_on, closed_up}
-use Rattle.sm_trim.specs.Views.{left_before, tree_layer, end_layer, pruned_in, facts_past, AreMarks, MarksMore, Leaves}
+use Rattle.sm_trim.specs.Views.{tree_layer, end_layer}
 use Rattle.sm_trim.proofs.MarksLemmas.{marks_more}
 use Rattle.sm_trim.proofs.LinesLemmas.{here_on, up_to, past_pushed}
 

@@ -1,15 +1,5 @@
 -- What a trimmed tree is, clause by clause.
-use Rattle.std.proofs.Common.{◌≡◌, ◌≤◌, ℕ, List, [], length, Result, Ok, Err, IfOk, sym, subst}
-use Rattle.std.specs.List.{Contains}
-use Rattle.sm_syntax.specs.text.Sorts.{Sorts}
-use Rattle.sm_term.specs.Terms.{Tree}
-use Rattle.sm_theory.specs.Facts.{BranchFact}
-use Rattle.sm_cert.specs.Certificates.{Certificate, Closes, lines_in}
-use Rattle.sm_cert.specs.Views.{certificate_in, lines_of, AreLinesWithin}
-use Rattle.sm_cert.specs.declared.tree.CertTree.{CertTree}
-use Rattle.sm_trim.specs.Used.{IsUsed}
-use Rattle.sm_trim.specs.Named.{terms_in, EachNamesFew}
-use Rattle.sm_trim.specs.Pruned.{closed_up, pruned}
+use Rattle.sm_trim.proofs.Imports.{◌≡◌, ◌≤◌, ℕ, List, [], length, Result, Ok, Err, IfOk, sym, subst, Contains, Sorts, Tree, BranchFact, Certificate, Closes, lines_in, certificate_in, lines_of, AreLinesWithin, CertTree, IsUsed, terms_in, EachNamesFew, closed_up, pruned}
 use Rattle.sm_trim.proofs.TrimmedCloses.{trimmed_closes}
 use Rattle.sm_trim.proofs.TrimmedUsed.{trimmed_is_used}
 use Rattle.sm_trim.proofs.UsedStays.{used_stays}

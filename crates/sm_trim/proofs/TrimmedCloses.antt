@@ -1,20 +1,8 @@
 -- What is left of a certificate closes the branch, with new numbers of facts.
-use Rattle.std.proofs.Common.{◌≡◌, ◌⊎◌, ◌<◌, ◌≤◌, ◌+◌, ℕ, suc, max, nat_lt, if◌then◌else◌, Bool, true, false, ◌||◌, slice_get, Option, Some, None, List, [], ◌∷◌, ◌++◌, length, inl, inr, refl, ap, sym, ◌∙◌, arith, IsTrue}
+use Rattle.sm_trim.proofs.Imports.{◌≡◌, ◌⊎◌, ◌<◌, ◌≤◌, ◌+◌, ℕ, suc, max, nat_lt, if◌then◌else◌, Bool, true, false, ◌||◌, slice_get, Option, Some, None, List, [], ◌∷◌, ◌++◌, length, inl, inr, refl, ap, sym, ◌∙◌, arith, IsTrue, length-append, ltb-true, ltb-false, or_left, or_right, Sorts, BranchFact, CertificateLine, reads_all, facts_added, moved_line, StandsMoved, ReadsAlike, ways, adds, ways_move_from, Certificate, Next, Closed, Split, lines_in, splits_above, first_bad, TooManySplits, bad_line, Closes, names_fact, some_pass, Pruned, LeftNext, LeftSplit, needs, with_line, with_split, pruned, new_number, numbered_on, closed_up}
 use Rattle.std.proofs.lemmas.Option.{slice_get_within}
-use Rattle.std.proofs.lemmas.List.{length-append}
-use Rattle.std.proofs.lemmas.Bool.{ltb-true, ltb-false, or_left, or_right}
-use Rattle.sm_syntax.specs.text.Sorts.{Sorts}
-use Rattle.sm_theory.specs.Facts.{BranchFact}
-use Rattle.sm_theory.specs.Lines.{CertificateLine}
-use Rattle.sm_theory.specs.Named.{reads_all, facts_added}
-use Rattle.sm_theory.specs.Moved.{moved_line, StandsMoved, ReadsAlike}
 use Rattle.sm_theory.specs.Equality.{or_other}
-use Rattle.sm_theory.specs.Ways.{ways, adds}
 use Rattle.sm_theory.proofs.ArithmeticKept.{arithmetic_moves}
-use Rattle.sm_theory.proofs.TheoriesLemmas.{ways_move_from}
-use Rattle.sm_cert.specs.Certificates.{Certificate, Next, Closed, Split, lines_in, splits_above, first_bad, TooManySplits, bad_line, Closes}
-use Rattle.sm_trim.specs.Used.{names_fact, some_pass}
-use Rattle.sm_trim.specs.Pruned.{Pruned, LeftNext, LeftSplit, needs, with_line, with_split, pruned, new_number, numbered_on, closed_up}
 use Rattle.sm_trim.proofs.NamesLemmas.{pass_at, each_named, names_all}
 use Rattle.sm_trim.proofs.NumbersLemmas.{numbered_length, number_before, number_there}
 use Rattle.sm_trim.proofs.WaysLemmas.{in_one, in_none, in_two, one_long, both_long, adds_some}

@@ -1,15 +1,6 @@
 -- What is left of a certificate has no more lines and terms, and no greater numbers of facts.
-use Rattle.std.proofs.Common.{◌≡◌, ◌⊎◌, ◌<◌, ◌≤◌, ◌+◌, ℕ, suc, Bool, true, false, if◌then◌else◌, List, [], ◌∷◌, ◌++◌, map, length, inl, inr, refl, ap, sym, ◌∙◌, subst, arith}
-use Rattle.std.specs.List.{AllByRecursion, Contains}
+use Rattle.sm_trim.proofs.Imports.{◌≡◌, ◌⊎◌, ◌<◌, ◌≤◌, ◌+◌, ℕ, suc, Bool, true, false, if◌then◌else◌, List, [], ◌∷◌, ◌++◌, map, length, inl, inr, refl, ap, sym, ◌∙◌, subst, arith, AllByRecursion, Contains, Tree, CertificateLine, facts_named, facts_added, terms_named, moved_line, Certificate, Next, Closed, Split, lines_in, some_pass, terms_in, NamesFew, EachNamesFew, Pruned, LeftNext, LeftSplit, needs, with_line, with_split, pruned, new_number, numbered_on, closed_up}
 use Rattle.std.proofs.lemmas.List.Elements.{Contains-append_left, Contains-append_right, Contains-append_cases}
-use Rattle.sm_term.specs.Terms.{Tree}
-use Rattle.sm_theory.specs.Lines.{CertificateLine}
-use Rattle.sm_theory.specs.Named.{facts_named, facts_added, terms_named}
-use Rattle.sm_theory.specs.Moved.{moved_line}
-use Rattle.sm_cert.specs.Certificates.{Certificate, Next, Closed, Split, lines_in}
-use Rattle.sm_trim.specs.Used.{some_pass}
-use Rattle.sm_trim.specs.Named.{terms_in, NamesFew, EachNamesFew}
-use Rattle.sm_trim.specs.Pruned.{Pruned, LeftNext, LeftSplit, needs, with_line, with_split, pruned, new_number, numbered_on, closed_up}
 use Rattle.sm_trim.proofs.NamesLemmas.{moved_alike}
 use Rattle.sm_trim.proofs.NumbersLemmas.{numbered_length, number_before, number_there, number_past, Place, Before, There, Past, place}
 

@@ -1,14 +1,7 @@
 -- Each line of what is left is used.
-use Rattle.std.proofs.Common.{◌≡◌, ◌⊎◌, ◌<◌, ◌≤◌, ◌+◌, ℕ, suc, Bool, true, false, ◌&&◌, ◌||◌, if◌then◌else◌, IsTrue, List, [], length, inl, inr, refl, ap, sym, ◌∙◌, subst, arith}
-use Rattle.sm_theory.specs.Lines.{CertificateLine}
-use Rattle.sm_theory.specs.Named.{facts_added}
-use Rattle.sm_theory.specs.Moved.{moved_line}
-use Rattle.sm_cert.specs.Certificates.{Certificate, Next, Closed, Split}
-use Rattle.sm_trim.specs.Used.{names_fact, some_pass, is_used, IsUsed}
-use Rattle.sm_trim.specs.Pruned.{Pruned, LeftNext, LeftSplit, needs, with_line, with_split, pruned, new_number, numbered_on, closed_up}
+use Rattle.sm_trim.proofs.Imports.{◌≡◌, ◌⊎◌, ◌<◌, ◌≤◌, ◌+◌, ℕ, suc, Bool, true, false, ◌&&◌, ◌||◌, if◌then◌else◌, IsTrue, List, [], length, inl, inr, refl, ap, sym, ◌∙◌, subst, arith, CertificateLine, facts_added, moved_line, Certificate, Next, Closed, Split, names_fact, some_pass, is_used, IsUsed, Pruned, LeftNext, LeftSplit, needs, with_line, with_split, pruned, new_number, numbered_on, closed_up, or_left, or_right, and_from}
 use Rattle.sm_trim.proofs.NamesLemmas.{either_passes, pass_at, passed_at, moved_alike, names_moved}
 use Rattle.sm_trim.proofs.NumbersLemmas.{numbered_length, number_before, number_there, Place, Before, There, Past, place}
-use Rattle.std.proofs.lemmas.Bool.{or_left, or_right, and_from}
 
 -- the facts before that are needed have numbers there
 abbrev pub AreThere : ℕ → ℕ → List ℕ → Pruned → Type 0

@@ -1,23 +1,11 @@
 -- What is left of a certificate names only terms of a kind where the certificate does, and is within a table where it is.
-use Rattle.std.proofs.Common.{◌≡◌, ◌⊎◌, ◌<◌, ◌≤◌, ◌+◌, ℕ, suc, pos, Bool, true, false, if◌then◌else◌, List, [], ◌∷◌, ◌++◌, replicate, inl, inr, subst, sym, ◌∙◌, arith}
-use Rattle.std.proofs.lemmas.List.{get_or-replicate, get_or_past, length-replicate}
-use Rattle.sm_term.specs.Terms.{Tree, Cell, Lit}
+use Rattle.sm_trim.proofs.Imports.{◌≡◌, ◌⊎◌, ◌<◌, ◌≤◌, ◌+◌, ℕ, suc, pos, Bool, true, false, if◌then◌else◌, List, [], ◌∷◌, ◌++◌, replicate, inl, inr, subst, sym, ◌∙◌, arith, get_or-replicate, get_or_past, length-replicate, Tree, Cell, Lit, CertificateLine, facts_added, EachOf, EachNamed, moved_line, line_in, IsLineWithin, numbered_line, CertLine, Certificate, Next, Closed, Split, lines_before, certificate_in, end_lines, tree_lines, lines_of, AreLinesWithin, CertTree, CertTree-F, roll-CertTree, map-CertTree, fold-roll-CertTree, ind-CertTree, end_in, lines_of_end, within_parts, some_pass, Pruned, LeftNext, LeftSplit, needs, with_line, with_split, pruned, new_number, numbered_on, closed_up}
 use Rattle.sm_term.specs.Tables.{tree_at}
-use Rattle.sm_theory.specs.Lines.{CertificateLine}
-use Rattle.sm_theory.specs.Named.{facts_added, EachOf, EachNamed}
-use Rattle.sm_theory.specs.Moved.{moved_line}
-use Rattle.sm_theory.specs.Views.{line_in, IsLineWithin, numbered_line}
-use Rattle.sm_theory.specs.declared.line.CertLine.{CertLine}
 use Rattle.sm_theory.proofs.LinesOver.{each_with, each_back, each_more}
 use Rattle.sm_cert.specs.declared.tree.CertEnd.TheOpen as layer
-use Rattle.sm_cert.specs.Certificates.{Certificate, Next, Closed, Split}
 use Rattle.sm_cert.specs.NamedTerms.{EachTerm}
-use Rattle.sm_cert.specs.Views.{lines_before, tree_layer, end_layer, certificate_in, end_lines, tree_lines, lines_of, AreLinesWithin}
-use Rattle.sm_cert.specs.declared.tree.CertTree.{CertTree, CertTree-F, roll-CertTree, map-CertTree, fold-roll-CertTree, ind-CertTree}
+use Rattle.sm_cert.specs.Views.{tree_layer, end_layer}
 use Rattle.sm_cert.specs.declared.tree.CertEnd.{CertEnd, CertEnd-F, roll-CertEnd, map-CertEnd, fold-roll-CertEnd}
-use Rattle.sm_cert.proofs.CheckLemmas.{end_in, lines_of_end, within_parts}
-use Rattle.sm_trim.specs.Used.{some_pass}
-use Rattle.sm_trim.specs.Pruned.{Pruned, LeftNext, LeftSplit, needs, with_line, with_split, pruned, new_number, numbered_on, closed_up}
 use Rattle.sm_trim.proofs.NamesLemmas.{moved_alike}
 use Rattle.sm_trim.proofs.NumbersLemmas.{less_or_not}
 

@@ -1,6 +1,5 @@
 -- The laws of trimming.
-use Rattle.std.proofs.Common.{refl, length}
-use Rattle.sm_trim.specs.Laws.{trimmed, TrimmedCloses, TrimmedIsUsed, UsedStays, TrimmedTwice}
+use Rattle.sm_trim.proofs.Imports.{refl, length, trimmed, TrimmedCloses, TrimmedIsUsed, UsedStays, TrimmedTwice}
 use Rattle.sm_trim.proofs.TrimmedCloses.{trimmed_closes}
 use Rattle.sm_trim.proofs.TrimmedUsed.{trimmed_is_used}
 use Rattle.sm_trim.proofs.UsedStays.{used_stays}

@@ -1,12 +1,5 @@
 -- A certificate of which each line is used is left as it is.
-use Rattle.std.proofs.Common.{◌≡◌, ◌⊎◌, ◌≤◌, ◌+◌, ℕ, suc, Bool, true, false, ◌&&◌, ◌||◌, if◌then◌else◌, List, [], ◌∷◌, map, length, inl, inr, refl, ap, sym, ◌∙◌, arith}
-use Rattle.std.proofs.lemmas.Bool.{and_parts, or_left, or_right}
-use Rattle.sm_theory.specs.Lines.{CertificateLine, Both, Either, Cases, Order, Refl, Sym, Trans, Subst, Cong, Same, Apart, Hit, Miss, Lin, Elim, Tight, Exact, Close, Clash}
-use Rattle.sm_theory.specs.Named.{facts_added}
-use Rattle.sm_theory.specs.Moved.{moved_line}
-use Rattle.sm_cert.specs.Certificates.{Certificate, Next, Closed, Split}
-use Rattle.sm_trim.specs.Used.{names_fact, some_pass, is_used, IsUsed}
-use Rattle.sm_trim.specs.Pruned.{Pruned, LeftNext, LeftSplit, needs, with_line, with_split, pruned, new_number, numbered_on, closed_up}
+use Rattle.sm_trim.proofs.Imports.{◌≡◌, ◌⊎◌, ◌≤◌, ◌+◌, ℕ, suc, Bool, true, false, ◌&&◌, ◌||◌, if◌then◌else◌, List, [], ◌∷◌, map, length, inl, inr, refl, ap, sym, ◌∙◌, arith, and_parts, or_left, or_right, CertificateLine, Both, Either, Cases, Order, Refl, Sym, Trans, Subst, Cong, Same, Apart, Hit, Miss, Lin, Elim, Tight, Exact, Close, Clash, facts_added, moved_line, Certificate, Next, Closed, Split, names_fact, some_pass, is_used, IsUsed, Pruned, LeftNext, LeftSplit, needs, with_line, with_split, pruned, new_number, numbered_on, closed_up}
 use Rattle.sm_trim.proofs.NamesLemmas.{either_passes, some_more}
 use Rattle.sm_trim.proofs.NumbersLemmas.{numbered_length, number_before, number_there, number_past, Place, Before, There, Past, place}
 

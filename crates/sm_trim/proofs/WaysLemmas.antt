@@ -1,13 +1,6 @@
 -- What the ways of a good line are.
-use Rattle.std.proofs.Common.{◌≡◌, ℕ, suc, Option, Some, None, List, [], ◌∷◌, length, refl, sym, subst, ◌∙◌}
-use Rattle.sm_syntax.specs.text.Sorts.{Sorts}
-use Rattle.sm_theory.specs.Facts.{BranchFact}
-use Rattle.sm_theory.specs.Lines.{CertificateLine, Both}
-use Rattle.sm_theory.specs.Named.{facts_added}
-use Rattle.sm_theory.specs.Ways.{Ways, ways}
+use Rattle.sm_trim.proofs.Imports.{◌≡◌, ℕ, suc, Option, Some, None, List, [], ◌∷◌, length, refl, sym, subst, ◌∙◌, Sorts, BranchFact, CertificateLine, Both, facts_added, Ways, ways, ways_add_so_many, in_one_way, in_no_way, in_two_ways}
 use Rattle.sm_theory.proofs.WaysLemmas.{both_line}
-use Rattle.sm_theory.proofs.TheoriesLemmas.{ways_add_so_many}
-use Rattle.sm_cert.specs.Certificates.{in_one_way, in_no_way, in_two_ways}
 
 -- a line with one way goes on in one way where what follows has no bad line
 pub in_one : (v : Ways) (n : ℕ) (next : List BranchFact → Option ℕ) (way : List BranchFact) → v ≡ Some (way ∷ []) → next way ≡ None →

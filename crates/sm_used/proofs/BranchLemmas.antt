@@ -1,13 +1,6 @@
 -- What the lines name that close a branch, from the last line to the first.
-use Rattle.std.proofs.Common.{◌≡◌, ◌∙◌, ◌++◌, ◌||◌, ℕ, zero, suc, Bool, true, false, if◌then◌else◌, List, [], ◌∷◌, reverse, refl, sym, ap, subst}
-use Rattle.std.specs.List.{list_any}
-use Rattle.std.proofs.lemmas.List.{reverse-append}
+use Rattle.sm_used.proofs.Imports.{◌≡◌, ◌∙◌, ◌++◌, ◌||◌, ℕ, zero, suc, Bool, true, false, if◌then◌else◌, List, [], ◌∷◌, reverse, refl, sym, ap, subst, list_any, reverse-append, is_closing, is_split, NumberedLine, Both, Either, Cases, Order, Refl, Sym, Trans, Subst, Cong, Same, Apart, Hit, Miss, Lin, Elim, Tight, Exact, Close, Clash, ProofLine, Header, Term, Form, Node, Cert, branches_after, closing_lines, is_fact_named, line_names_fact, lines_behind, is_in, GoesOnce, Know, known, Names}
 use Rattle.std.proofs.lemmas.List.Folds.{list_any-append}
-use Rattle.sm_theory.specs.Named.{is_closing, is_split}
-use Rattle.sm_proof.specs.Lines.{NumberedLine, Both, Either, Cases, Order, Refl, Sym, Trans, Subst, Cong, Same, Apart, Hit, Miss, Lin, Elim, Tight, Exact, Close, Clash, ProofLine, Header, Term, Form, Node, Cert}
-use Rattle.sm_prune.specs.UsedLines.{branches_after, closing_lines, is_fact_named, line_names_fact, lines_behind}
-use Rattle.sm_used.specs.Names.{is_in, GoesOnce, Know, known}
-use Rattle.sm_used.specs.declared.names.Names.{Names}
 use Rattle.sm_lemmas.proofs.Tests.{or_false}
 
 -- ---- lines that close branches

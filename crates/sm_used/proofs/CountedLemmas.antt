@@ -1,27 +1,18 @@
 -- Lines that the checker takes are read, counted and used.
-use Rattle.std.proofs.Common.{◌≡◌, ◌∙◌, ◌++◌, ℕ, suc, ◌==◌, Bool, true, false, if◌then◌else◌, Option, Some, None, Result, Ok, Err, List, [], ◌∷◌, length, map, append_assoc, refl, sym, ap, subst}
-use Rattle.std.specs.Prelude.{option_map, IfOk, Vec}
+use Rattle.sm_used.proofs.Imports.{◌≡◌, ◌∙◌, ◌++◌, ℕ, suc, ◌==◌, Bool, true, false, if◌then◌else◌, Option, Some, None, Result, Ok, Err, List, [], ◌∷◌, length, map, append_assoc, refl, sym, ap, subst, option_map, Vec, append-nil, map-append, AreRead, NumberedLine, ProofLine, Header, Term, Form, Node, Cert, Pending, Due, Branch, Progress, start_progress, taken, taken_at, FileLines, Subject, Standing, Unopened, Underway, in_first_line, lines_in, next_standing, opens_if, passes_version, AreCertsUsed, AreNamed, HasNamedLines, HasUsedLines, IsCertUsed, facts_due, GoesOn, HasFacts, IsAt, AreCounted, AreRowsOf, AreUsed, Counts, IsLineUsed, Opens, line_in, Counted}
+use Rattle.std.specs.Prelude.{IfOk}
 use Rattle.std.specs.declared.alloc.Global.{Global}
 use Rattle.std.proofs.Math.ListN.{drop}
-use Rattle.std.proofs.lemmas.List.{append-nil, map-append}
 use Rattle.sm_syntax.specs.text.Sorts.{Sorts}
 use Rattle.sm_term.specs.Symbolic.{SymbolicStore}
 use Rattle.sm_plan.specs.States.{State}
-use Rattle.sm_proof.specs.Cases.{AreRead}
-use Rattle.sm_proof.specs.Lines.{NumberedLine, ProofLine, Header, Term, Form, Node, Cert}
-use Rattle.sm_proof.specs.Passing.{Pending, Due, Branch, Progress, start_progress, taken, taken_at}
 use Rattle.sm_proof.specs.Reading.{first_line, read}
-use Rattle.sm_proof.specs.Verdicts.{FileLines, Subject, Standing, Unopened, Underway, in_first_line, lines_in, next_standing, opens_if, passes_version}
 use Rattle.sm_proof.specs.Versions.{has_exact, may_stand}
 use Rattle.sm_proof.specs.Named.{and_then, tested_or}
 use Rattle.sm_proof.specs.declared.word.Word.{Word}
 use Rattle.sm_proof.specs.declared.word.Word.TheVariants as word
-use Rattle.sm_prune.specs.UsedLines.{AreCertsUsed, AreNamed, HasNamedLines, HasUsedLines, IsCertUsed, facts_due}
-use Rattle.sm_check.specs.Checkers.{GoesOn, HasFacts, IsAt}
 use Rattle.sm_check.specs.declared.checker.Checker.{Checker}
 use Rattle.sm_check.specs.declared.checker.State as checker
-use Rattle.sm_used.specs.Counted.{AreCounted, AreRowsOf, AreUsed, Counts, IsLineUsed, Opens, line_in}
-use Rattle.sm_used.specs.declared.counting.Counted.{Counted}
 
 -- ---- the checker goes on
 

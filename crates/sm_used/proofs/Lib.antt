@@ -1,3 +1,4 @@
+mod Imports
 pub mod BranchLemmas
 pub mod UsedLemmas
 pub mod CountedLemmas

@@ -1,18 +1,10 @@
 -- A line is used, by what its kind asks.
-use Rattle.std.proofs.Common.{◌≡◌, ◌∙◌, ◌++◌, ℕ, Bool, true, false, List, [], ◌∷◌, map, append_assoc, refl, sym, ap, subst, Result, Ok, Err, IfOk}
-use Rattle.std.proofs.lemmas.List.{append-nil}
-use Rattle.std.specs.Prelude.{IsTrue, OnOk}
+use Rattle.sm_used.proofs.Imports.{◌≡◌, ◌∙◌, ◌++◌, ℕ, Bool, true, false, List, [], ◌∷◌, map, append_assoc, refl, sym, ap, subst, Result, Ok, Err, append-nil, IsTrue, OnOk, is_closing, facts_added, is_split, NumberedLine, ProofLine, Cert, line_of, IsCertUsed, IsUsedBy, is_fact_named, is_one_named, lines_behind, AreUsed, IsLineUsed, line_in, GoesOnce, Know, Counted, Names}
+use Rattle.std.proofs.Common.{IfOk}
 use Rattle.sm_theory.specs.declared.line.CertLine.{CertLine}
-use Rattle.sm_theory.specs.Named.{is_closing, facts_added, is_split}
 use Rattle.sm_proof.specs.declared.line.Line.TheVariants as lines
-use Rattle.sm_proof.specs.Lines.{NumberedLine, ProofLine, Cert, line_of}
 use Rattle.sm_proof.specs.declared.line.Line.{Line}
-use Rattle.sm_prune.specs.UsedLines.{IsCertUsed, IsUsedBy, is_fact_named, is_one_named, lines_behind}
 use Rattle.sm_used.proofs.BranchLemmas.{none_known, split_open}
-use Rattle.sm_used.specs.Counted.{AreUsed, IsLineUsed, line_in}
-use Rattle.sm_used.specs.Names.{GoesOnce, Know}
-use Rattle.sm_used.specs.declared.counting.Counted.{Counted}
-use Rattle.sm_used.specs.declared.names.Names.{Names}
 
 pub closing_used : (facts : ℕ) (l : NumberedLine) (lines : List ProofLine) → is_closing l ≡ true → IsCertUsed facts l lines
 closing_used facts l lines closes = subst (λ (b : Bool). IsUsedBy b (is_split l) (facts_added l) facts lines) (sym closes) tt

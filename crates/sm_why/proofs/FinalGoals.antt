@@ -1,13 +1,7 @@
 -- The final goals of a plan are the clauses of the outputs, in order, at the stores of the node that asks them.
-use Rattle.std.proofs.Common.{◌≡◌, ℕ, zero, suc, ◌+◌, ◌/◌, ◌%◌, ◌==◌, true, false, not, ◌&&◌, ◌||◌, nat_le, if◌then◌else◌, Option, Some, None, Ok, Err, List, [], ◌∷◌, ◌++◌, length, map, option_map, inl, inr, refl, ap, sym, subst, ◌∙◌}
-use Rattle.std.proofs.Common.{arith}
-use Rattle.std.specs.Prelude.{slice_get}
-use Rattle.std.specs.List.{flat_map}
-use Rattle.std.proofs.lemmas.Bool.{and_parts}
-use Rattle.std.proofs.lemmas.Option.{same_Some, slice_get-map}
+use Rattle.sm_why.proofs.Imports.{◌≡◌, ℕ, zero, suc, ◌+◌, ◌/◌, ◌%◌, ◌==◌, true, false, not, ◌&&◌, ◌||◌, nat_le, if◌then◌else◌, Option, Some, None, Ok, Err, List, [], ◌∷◌, ◌++◌, length, map, option_map, inl, inr, refl, ap, sym, subst, ◌∙◌, arith, slice_get, flat_map, and_parts, same_Some, slice_get-map, Copy}
 use Rattle.sm_syntax.specs.declared.tree.Sort.{Sort}
 use Rattle.sm_syntax.specs.claim.Syntax.{Code, End, Skip, Assign, Write, If, While, Hole, append}
-use Rattle.sm_syntax.specs.claim.ConflictFree.{Copy}
 use Rattle.sm_term.specs.Assertions.{Assertion, No, negate, conj}
 use Rattle.sm_term.specs.Slots.{at_stores, all_at_stores}
 use Rattle.sm_term.specs.Symbolic.{SymbolicStore, form_of}

@@ -1,17 +1,12 @@
 -- Tokens of holes: where they stand in a text.
-use Rattle.std.proofs.Common.{◌≡◌, ◌<◌, ◌≤◌, ◌+◌, ℕ, Bool, true, false, ◌&&◌, Option, Some, None, List, length, refl, sym, ap, subst, ⊎_elim, arith}
-use Rattle.std.specs.Prelude.{slice_get}
-use Rattle.std.specs.List.{AllByRecursion}
-use Rattle.std.proofs.lemmas.Bool.{cases_eq}
+use Rattle.sm_why.proofs.Imports.{◌≡◌, ◌<◌, ◌≤◌, ◌+◌, ℕ, Bool, true, false, ◌&&◌, Option, Some, None, List, length, refl, sym, ap, subst, ⊎_elim, arith, slice_get, AllByRecursion, cases_eq, get_or_from_slice_get, slice_get_within, begins_hole, is_question, BeginsAt}
 use Rattle.std.proofs.lemmas.List.{length-map}
-use Rattle.std.proofs.lemmas.Option.{get_or_from_slice_get, slice_get_within}
 use Rattle.sm_syntax.specs.declared.symbol.Symbol.{Symbol}
 use Rattle.sm_syntax.specs.text.Symbols.{names_among, symbol_of, symbols_among, symbols_of}
 use Rattle.sm_syntax.specs.text.Tokens.{lexed}
 use Rattle.sm_syntax.specs.declared.token.Token.{Token}
 use Rattle.sm_text.specs.resolving.TokenTexts.{IsTokenOf}
 use Rattle.sm_text.proofs.Cut.Lexing.{all_at, IsTokenOf-lexed}
-use Rattle.sm_why.specs.Sites.{begins_hole, is_question, BeginsAt}
 
 -- a symbol that is there
 question_there : (o : Option Symbol) (b : Bool) → (is_question o && b) ≡ true → (x : Symbol) × (o ≡ Some x)

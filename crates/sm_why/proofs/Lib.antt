@@ -1,3 +1,4 @@
+mod Imports
 pub mod FinalGoals
 pub mod TrialsCounted
 pub mod HolesFound

@@ -1,9 +1,6 @@
 -- Which verdicts are on four ends, and one trial more.
-use Rattle.std.proofs.Common.{◌≡◌, ◌≤◌, ◌+◌, ℕ, suc, Bool, true, false, if◌then◌else◌, Some, None, Result, Ok, Err, IfOk, inl, inr, refl, sym, subst, ◌∙◌, arith}
-use Rattle.std.specs.Prelude.{◌↔◌, IsTrue}
+use Rattle.sm_why.proofs.Imports.{◌≡◌, ◌≤◌, ◌+◌, ℕ, suc, Bool, true, false, if◌then◌else◌, Some, None, Result, Ok, Err, IfOk, inl, inr, refl, sym, subst, ◌∙◌, arith, ◌↔◌, IsTrue, Task, copy_of, program_of, Store, EndsFrom}
 use Rattle.std.specs.declared.alloc.AllocError.{AllocError}
-use Rattle.sm_syntax.specs.claim.ConflictFree.{Task, copy_of, program_of}
-use Rattle.sm_syntax.specs.claim.Stores.{Store}
 use Rattle.sm_eval.specs.declared.error.EvalError.{EvalError}
 use Rattle.sm_eval.specs.declared.error.EvalError.TheVariants as eval
 use Rattle.sm_replay.specs.declared.verdict.Verdict.{Verdict}
@@ -12,7 +9,7 @@ use Rattle.sm_replay.specs.Verdicts.{Judges, Stops}
 use Rattle.sm_replay.specs.declared.error.ReplayError.{ReplayError}
 use Rattle.sm_replay.specs.declared.error.ReplayError.TheVariants.{OutOfTurns, Beyond, BeyondAssumed, Memory}
 use Rattle.sm_why.specs.Ended.{IsEnded}
-use Rattle.sm_why.specs.Trials.{AreCounted, EndsFrom}
+use Rattle.sm_why.specs.Trials.{AreCounted}
 
 -- a store with a verdict on four ends
 ended_so : (t : Task) (s : Store) (n : ℕ) (ends : Bool) → ends ≡ true → EndsFrom t s n → IsTrue ends ↔ EndsFrom t s n

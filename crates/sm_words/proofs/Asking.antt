@@ -1,14 +1,10 @@
 -- What a command asks for, by the texts that its matches give.
-use Rattle.std.proofs.Common.{◌≡◌, ◌∙◌, ◌⊎◌, inl, inr, [], Option, Some, None, Result, Ok, Err, IfOk, IsErrOf, codes, refl, sym, ap}
-use Rattle.clap.specs.Walk.{Text}
-use Rattle.sm_words.specs.Numbers.{cache_by, copy_by, effort_by, seed_by, size_by, turns_by, workers_by, HasBadNumber}
+use Rattle.sm_words.proofs.Imports.{◌≡◌, ◌∙◌, ◌⊎◌, inl, inr, [], Option, Some, None, Result, Ok, Err, IfOk, IsErrOf, codes, refl, sym, ap, Text, cache_by, copy_by, effort_by, seed_by, size_by, turns_by, workers_by, HasBadNumber, Words, asked_by, check_by, verify_by, replay_by, print_by, suggest_by, gen_by, explain_by, batch_by, trim_by, word_faults, argument_text, effort_in, IsRefused, Effort, About, Usage}
 use Rattle.sm_words.specs.Views.{asked_in}
-use Rattle.sm_words.specs.Words.{Words, asked_by, check_by, verify_by, replay_by, print_by, suggest_by, gen_by, explain_by, batch_by, trim_by, word_faults, argument_text, effort_in, IsRefused, Effort, Verb, Check, Verify, Replay, Print}
+use Rattle.sm_words.specs.Words.{Verb, Check, Verify, Replay, Print}
 use Rattle.sm_words.specs.Words.{Suggest, Gen, Explain, Batch, Trim}
 use Rattle.sm_words.specs.declared.words.Request.{Request}
-use Rattle.sm_words.specs.declared.command.Verb.TheVariants.{About}
 use Rattle.sm_words.specs.declared.words.WordsError.{WordsError}
-use Rattle.sm_words.specs.declared.words.WordsError.TheVariants.{Usage}
 
 same_check : {a b a' b' : Option Text} {e e' : Option Effort} → a ≡ a' → b ≡ b' → e ≡ e' → check_by a b e ≡ check_by a' b' e'
 same_check p q r = rw (p, q, r) refl

@@ -1,10 +1,8 @@
 -- The value of one to ten digits fits 64 bits, and is parsed.
-use Rattle.std.proofs.Common.{◌≡◌, ◌≤◌, ℕ, true, List, length, Result, Ok, arith}
+use Rattle.sm_words.proofs.Imports.{◌≡◌, ◌≤◌, ℕ, true, List, length, Result, Ok, arith, both, is_number}
 use Rattle.std.specs.Str.Parse.{ParsesUnsigned, digits_value}
 use Rattle.std.proofs.lemmas.Bool.{leb-true}
 use Rattle.std.proofs.lemmas.Str.Parse.{digits_value_short, numerals_by_value, parse_gives, tells_all_ascii_digits}
-use Rattle.clap.proofs.WalkLemmas.{both}
-use Rattle.sm_words.specs.Numbers.{is_number}
 
 pub parses_number : {E : Type 0} (text : List ℕ) (r : Result ℕ E) → ParsesUnsigned 64 10 text r → is_number text ≡ true
     → r ≡ Ok (digits_value 10 text)

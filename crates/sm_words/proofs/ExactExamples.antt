@@ -1,8 +1,8 @@
 -- The flag `exact`, worked on words that are written out.
-use Rattle.std.proofs.Common.{◌≡◌, [], ◌∷◌, Bool, true, false, Option, Some, None, codes, refl}
+use Rattle.sm_words.proofs.Imports.{◌≡◌, [], ◌∷◌, Bool, true, false, Option, Some, None, codes, refl, Asked, check, gen, asked, Effort}
 use Rattle.clap.proofs.OnLiterals.{clap_on_literals}
 use Rattle.sm_words.specs.Command.{check_command, gen_command, verify_command}
-use Rattle.sm_words.specs.Words.{Asked, check, gen, asked, argument_text, word_faults, Effort}
+use Rattle.sm_words.specs.Words.{argument_text, word_faults}
 
 -- the effort without an option, but for the flag
 abbrev usual : Bool → Effort

@@ -1,19 +1,14 @@
 -- A required word of a command has its text, wherever `clap` takes the words.
-use Rattle.std.proofs.Common.{◌≡◌, ◌≢◌, ◌∙◌, ◌<◌, ◌≤◌, ◌&&◌, ℕ, zero, suc, Bool, true, false, not, List, [], ◌∷◌, map, length, is_some, Option, Some, None, Result, Ok, Err, IfOk, codes, refl, sym, ap, subst, inl, inr, arith, true≢false}
+use Rattle.sm_words.proofs.Imports.{◌≡◌, ◌≢◌, ◌∙◌, ◌<◌, ◌≤◌, ◌&&◌, ℕ, zero, suc, Bool, true, false, not, List, [], ◌∷◌, map, length, is_some, Option, Some, None, Result, Ok, Err, IfOk, codes, refl, sym, ap, subst, inl, inr, arith, true≢false, slice_get, unwrap_or, MatchResult, bytes_eq, bytes_eq-Decides, App, has_simple_rules, matches_of, HasMatchesOf, Rule, Text, first_of, is_empty, rows_of, is_free_arg, is_simple_arg, rule_of, Command, both, first_value-rows, command_of, required_word, Words, HasRequired, Help, Version, About}
 use Rattle.std.specs.List.{All, list_all, slice_index_or}
-use Rattle.std.specs.Prelude.{slice_get, unwrap_or, MatchResult}
-use Rattle.std.specs.Str.{bytes_eq}
-use Rattle.std.proofs.lemmas.Slice.Eq.{bytes_eq-Decides}
 use Rattle.clap.specs.Built.{IsParsedFrom, IsPlainArg}
 use Rattle.clap.specs.Facts.{args_of, unwrap_or_range}
 use Rattle.clap.specs.Faults.{fault_of, has_free_rules, is_simple_and_free}
 use Rattle.clap.specs.Kinds.{FailsBy, IsAmong}
 use Rattle.clap.specs.Matches.{first_value, found_of}
-use Rattle.clap.specs.Simple.{App, app_of, has_simple_rules, matches_of, HasMatchesOf}
+use Rattle.clap.specs.Simple.{app_of}
 use Rattle.clap.specs.Values.{kind_of}
-use Rattle.clap.specs.Walk.{Rule, Text, first_of, is_empty, rows_of, is_free_arg, is_simple_arg, rule_of}
 use Rattle.clap.specs.declared.builder.arg.Arg.{Arg}
-use Rattle.clap.specs.declared.builder.command.Command.{Command}
 use Rattle.clap.specs.declared.parser.matches.ArgMatches.{ArgMatches}
 use Rattle.clap.proofs.CallerLemmas.{required_has_value}
 use Rattle.clap.specs.declared.builder.range.ValueRange.{ValueRange}
@@ -22,12 +17,9 @@ use Rattle.clap.specs.declared.error.kind.ErrorKind.TheVariants.{OutOfMemory}
 use Rattle.clap.proofs.OnLiterals.{clap_on_literals}
 use Rattle.clap.proofs.SimpleLemmas.{is_false, is_nil, plain_fields}
 use Rattle.clap.proofs.TakesLemmas.{each_rule}
-use Rattle.clap.proofs.WalkLemmas.{both, first_value-rows}
 use Rattle.clap.specs.declared.parser.matches.Found.{Found}
-use Rattle.sm_words.specs.Command.{about_command, batch_command, check_command, command_of, explain_command, gen_command, print_command, replay_command, required_word, suggest_command, trim_command, verify_command}
-use Rattle.sm_words.specs.Words.{Words, HasRequired, word_faults, argument_text, Verb, Check, Verify, Replay, Print, Suggest, Gen, Explain, Batch, Trim}
-use Rattle.sm_words.specs.declared.about.About.TheVariants.{Help, Version}
-use Rattle.sm_words.specs.declared.command.Verb.TheVariants.{About}
+use Rattle.sm_words.specs.Command.{about_command, batch_command, check_command, explain_command, gen_command, print_command, replay_command, suggest_command, trim_command, verify_command}
+use Rattle.sm_words.specs.Words.{word_faults, argument_text, Verb, Check, Verify, Replay, Print, Suggest, Gen, Explain, Batch, Trim}
 
 is_none : {X : Type 0} (o : Option X) → not (is_some o) ≡ true → o ≡ None
 is_none None e = refl

@@ -1,3 +1,4 @@
+mod Imports
 pub mod Given
 pub mod Digits
 pub mod Asking

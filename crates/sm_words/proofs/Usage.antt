@@ -1,13 +1,6 @@
 -- Words that no command takes ask for nothing.
-use Rattle.std.proofs.Common.{◌≡◌, ◌≢◌, ◌⊎◌, inl, inr, ℕ, Bool, true, false, if◌then◌else◌, List, [], ◌∷◌, Option, Some, None, codes, refl, option_map}
-use Rattle.std.specs.Prelude.{option_and_then}
-use Rattle.std.specs.Str.{bytes_eq}
-use Rattle.std.proofs.lemmas.Slice.Eq.{bytes_eq-Decides}
-use Rattle.clap.specs.Walk.{Text}
-use Rattle.sm_words.specs.Numbers.{cache_by, copy_by, seed_by, size_by, turns_by, workers_by, HasBadNumber}
-use Rattle.sm_words.specs.Words.{Words, Asked, check, replay, gen, batch, asked, asked_by, asked_where, check_by, verify_by, replay_by, print_by, suggest_by, gen_by, batch_by, explain_by, trim_by, trim, argument_text, effort_in, verb_of}
-use Rattle.sm_words.specs.Words.{unless, HasBadOption, IsRefused, IsUsage, Effort, Verb, Check, Verify, Replay, Print, Suggest, Gen, Explain, Batch, Trim}
-use Rattle.sm_words.specs.declared.command.Verb.TheVariants.{About}
+use Rattle.sm_words.proofs.Imports.{◌≡◌, ◌≢◌, ◌⊎◌, inl, inr, ℕ, Bool, true, false, if◌then◌else◌, List, [], ◌∷◌, Option, Some, None, codes, refl, option_map, option_and_then, bytes_eq, bytes_eq-Decides, Text, cache_by, copy_by, seed_by, size_by, turns_by, workers_by, HasBadNumber, Words, Asked, check, replay, gen, batch, asked, asked_by, asked_where, check_by, verify_by, replay_by, print_by, suggest_by, gen_by, batch_by, explain_by, trim_by, trim, argument_text, effort_in, verb_of, unless, HasBadOption, IsRefused, IsUsage, Effort, About}
+use Rattle.sm_words.specs.Words.{Verb, Check, Verify, Replay, Print, Suggest, Gen, Explain, Batch, Trim}
 
 -- a file isn't another of the same name
 one_file : (file : Text) (other : Option Asked) → (if bytes_eq file file then None else other) ≡ None

@@ -1,13 +1,7 @@
 -- The terms of a branch can be named where what its formulas compare can.
-use Rattle.std.proofs.Common.{◌≡◌, ℕ, zero, suc, Bool, Some, List, [], ◌∷◌, ◌++◌, slice_get, subst}
-use Rattle.sm_syntax.specs.text.Sorts.{Sorts}
-use Rattle.sm_syntax.specs.declared.tree.Sort.TheVariants.{Num, Arr}
-use Rattle.sm_term.specs.Terms.{Tree, Read, Write}
-use Rattle.sm_term.specs.Assertions.{Assertion, Yes, No, Eq, Ne, Le, Lt, And, Or, negate}
-use Rattle.sm_term.specs.Sorted.{tree_sort}
-use Rattle.sm_plan.specs.States.{State}
+use Rattle.sm_write.proofs.Imports.{◌≡◌, ℕ, zero, suc, Bool, Some, List, [], ◌∷◌, ◌++◌, slice_get, subst, Sorts, Num, Arr, Tree, Read, Write, Assertion, negate, tree_sort, State, EachSide, AllSides, EachInState, EachInStates, PassesTest, IsClosed, Nameable}
+use Rattle.sm_term.specs.Assertions.{Yes, No, Eq, Ne, Le, Lt, And, Or}
 use Rattle.sm_write.specs.BranchTerms.{IsTermOf, StatesAreNameable, BranchesAreNameable}
-use Rattle.sm_write.specs.Nameable.{EachSide, AllSides, EachInState, EachInStates, PassesTest, IsClosed, Nameable}
 use Rattle.sm_write.proofs.BuiltTerms.{sides_append, negate_sides, sides_more}
 use Rattle.sm_write.proofs.ReadyPlans.{term_more}
 

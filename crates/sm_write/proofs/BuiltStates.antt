@@ -1,29 +1,14 @@
 -- What a node opens names only what stood in the stores of states up to it, or stands in its own.
-use Rattle.std.proofs.Common.{◌≡◌, ◌⊎◌, inl, inr, ℕ, Bool, true, false, nat_le, ◌==◌, ◌&&◌, ◌||◌, not, if◌then◌else◌, Option, Some, None, List, [], ◌∷◌, ◌++◌, map, refl, sym, subst}
-use Rattle.std.specs.List.{flat_map}
-use Rattle.std.proofs.lemmas.Option.{same_Some}
-use Rattle.sm_syntax.specs.declared.tree.Sort.{Sort}
-use Rattle.sm_syntax.specs.declared.tree.Sort.TheVariants.{Num, Arr}
+use Rattle.sm_write.proofs.Imports.{◌≡◌, ◌⊎◌, inl, inr, ℕ, Bool, true, false, nat_le, ◌==◌, ◌&&◌, ◌||◌, not, if◌then◌else◌, Option, Some, None, List, [], ◌∷◌, ◌++◌, map, refl, sym, subst, flat_map, same_Some, Sort, Num, Arr, Condition, Code, append, Copy, O, A, B, M, Tree, Havoc, Write, Fun, Assertion, negate, conj, arguments_of, terms_given, SymbolicStore, with_term, term_of, form_of, all_at_stores, Copies, copies, with_copy, each, has, no_copies, is_inhabited, subsets, is_kept, State, place, keeps_goals, start_store, start_facts, start_state, Unfit, follows, asks, where_true, after_step, both_ways, opened_by, EachOf, EachSide, AllSides, EachKept, IsBuilt, IsAtom, IsHeld}
 use Rattle.sm_syntax.specs.claim.Syntax as syntax
-use Rattle.sm_syntax.specs.claim.Syntax.{Condition, Code, append}
 use Rattle.sm_syntax.specs.Assigns.{assigns}
-use Rattle.sm_syntax.specs.claim.ConflictFree.{Copy, O, A, B, M, Task}
+use Rattle.sm_syntax.specs.claim.ConflictFree.{Task}
 use Rattle.sm_deps.specs.Inputs.{inputs}
-use Rattle.sm_term.specs.Terms.{Tree, Havoc, Write, Fun}
-use Rattle.sm_term.specs.Assertions.{Assertion, No, negate, conj}
-use Rattle.sm_term.specs.Heads.{arguments_of, terms_given}
-use Rattle.sm_term.specs.Symbolic.{SymbolicStore, with_term, term_of, form_of}
-use Rattle.sm_term.specs.Slots.{all_at_stores}
-use Rattle.sm_plan.specs.Copies.{Copies, copies, with_copy, each, has, no_copies, is_inhabited, subsets}
-use Rattle.sm_plan.specs.Limits.{is_kept}
+use Rattle.sm_term.specs.Assertions.{No}
 use Rattle.sm_plan.specs.Statements.{is_over, is_long, front, rest_after, is_loop, loop_guard, last_guard}
-use Rattle.sm_plan.specs.States.{State, place, keeps_goals, start_store, start_facts, start_state}
 use Rattle.sm_plan.specs.Successors as next
-use Rattle.sm_plan.specs.Nodes.{Node, Step, Abs, Fork, Loop, Block, Dead, Ends, Unfit, Opened, follows, asks, where_true, after_step, both_ways, opened_by}
+use Rattle.sm_plan.specs.Nodes.{Node, Step, Abs, Fork, Loop, Block, Dead, Ends, Opened}
 use Rattle.sm_plan.proofs.CopiesLemmas.{one_copy}
-use Rattle.sm_write.specs.Nameable.{EachOf, EachSide, AllSides}
-use Rattle.sm_write.specs.Writable.{EachKept}
-use Rattle.sm_write.specs.Seen.{IsBuilt, IsAtom, IsHeld}
 use Rattle.sm_write.proofs.BuiltTerms.{IsPlain, ArePlain, built_more, built_known, built_parts, each_more, sides_more, sides_append, negate_sides, conj_sides, IsStoreBuilt, IsStorePlain, term_built, term_plain, form_built}
 use Rattle.sm_write.proofs.BuiltTerms.{all_at_stores_built}
 

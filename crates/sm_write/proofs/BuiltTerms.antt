@@ -1,17 +1,10 @@
 -- Terms that are built of literals, starts, slots and the cell, and of new values and summaries of a kind.
-use Rattle.std.proofs.Common.{◌≡◌, ℕ, List, [], ◌∷◌, ◌++◌, refl, ap, subst, sym}
+use Rattle.sm_write.proofs.Imports.{◌≡◌, ℕ, List, [], ◌∷◌, ◌++◌, refl, ap, subst, sym, Expression, Condition, Code, Copy, Tree, Start, Havoc, Slot, Cell, Read, Write, Neg, Add, Sub, Mul, Fun, Arguments, Given, Assertion, negate, conj, arguments_of, SymbolicStore, term_of, comparison_form, form_of, fill_term, fill_arguments, at_stores, all_at_stores, EachOf, EachSide, AllSides, IsBuilt, IsAtom}
 use Rattle.sm_syntax.specs.declared.tree.Cmp.TheVariants as cmp
 use Rattle.sm_syntax.specs.claim.Syntax as syntax
-use Rattle.sm_syntax.specs.claim.Syntax.{Expression, Condition, Code}
 use Rattle.sm_syntax.specs.declared.tree.Cmp.{Cmp}
-use Rattle.sm_syntax.specs.claim.ConflictFree.{Copy}
-use Rattle.sm_term.specs.Terms.{Tree, Lit, Start, Havoc, Slot, Cell, Read, Write, Neg, Add, Sub, Mul, Fun, Arguments, Over, Given}
-use Rattle.sm_term.specs.Assertions.{Assertion, Yes, No, Eq, Ne, Le, Lt, And, Or, negate, conj}
-use Rattle.sm_term.specs.Heads.{arguments_of}
-use Rattle.sm_term.specs.Symbolic.{SymbolicStore, term_of, comparison_form, form_of}
-use Rattle.sm_term.specs.Slots.{fill_term, fill_arguments, at_stores, all_at_stores}
-use Rattle.sm_write.specs.Nameable.{EachOf, EachSide, AllSides}
-use Rattle.sm_write.specs.Seen.{IsBuilt, IsAtom}
+use Rattle.sm_term.specs.Terms.{Lit, Over}
+use Rattle.sm_term.specs.Assertions.{Yes, No, Eq, Ne, Le, Lt, And, Or}
 
 abbrev mutual
   -- a term has no slot

@@ -1,12 +1,9 @@
 -- The bytes of words and numbers are those of lines.
-use Rattle.std.proofs.Common.{◌≡◌, ℕ, ℤ, List, [], ◌∷◌, ◌++◌, map, refl, ap, sym, ◌∙◌}
+use Rattle.sm_write.proofs.Imports.{◌≡◌, ℕ, ℤ, List, [], ◌∷◌, ◌++◌, map, refl, ap, sym, ◌∙◌, decimal, signed_decimal, version_word, ProofLine, Header, line_words, numbers_text, one_word, two_words, line_text}
 use Rattle.std.proofs.lemmas.List.{append_assoc, append-nil}
-use Rattle.std.specs.Fmt.{decimal, signed_decimal}
-use Rattle.sm_proof.specs.HeadWords.{version_word}
-use Rattle.sm_proof.specs.Lines.{ProofLine, Term, Header}
+use Rattle.sm_proof.specs.Lines.{Term}
 use Rattle.sm_proof.specs.declared.line.TermLine.TheVariants.{Lit}
-use Rattle.sm_proof.specs.Spelling.{spaced, spelled, line_words}
-use Rattle.sm_write.specs.Bytes.{numbers_text, one_word, two_words, line_text}
+use Rattle.sm_proof.specs.Spelling.{spaced, spelled}
 
 -- words that are parted by spaces
 spaced_numbers : (word : List ℕ) (ns : List ℕ) → spaced (word ∷ map decimal ns) ≡ word ++ numbers_text ns

@@ -1,28 +1,10 @@
 -- Where a proof comes by a line of a certificate, and what of a certificate is left behind the line.
-use Rattle.std.proofs.Common.{◌≡◌, ℕ, suc, ◌+◌, ◌≤◌, Bool, true, false, nat_lt, if◌then◌else◌, Option, Some, None, Ok, List, [], ◌∷◌, ◌++◌, length, refl, ap, ◌∙◌, arith}
-use Rattle.std.proofs.lemmas.Bool.Decides.{nat_tests}
-use Rattle.sm_syntax.specs.claim.ConflictFree.{Copy}
-use Rattle.sm_syntax.specs.text.Sorts.{Sorts}
-use Rattle.sm_term.specs.Symbolic.{SymbolicStore}
-use Rattle.sm_term.specs.Terms.{Tree}
-use Rattle.sm_theory.specs.Equality.{or_other}
-use Rattle.sm_theory.specs.Facts.{BranchFact}
-use Rattle.sm_theory.specs.Lines.{CertificateLine}
-use Rattle.sm_theory.specs.Views.{line_in}
-use Rattle.sm_theory.specs.declared.line.CertLine.{CertLine}
-use Rattle.sm_theory.specs.Ways.{adds, ways}
-use Rattle.sm_theory.specs.Named.{is_split}
-use Rattle.sm_cert.specs.Certificates.{Certificate, Next, Closed, Split, lines_in, splits_above, first_bad, bad_line, TooManySplits, Closes}
-use Rattle.sm_plan.specs.Limits.{is_shallow}
-use Rattle.sm_proof.specs.Lines.{Cert}
-use Rattle.sm_proof.specs.Passing.{Pending, Branch, Progress, taken}
-use Rattle.sm_write.specs.Stepped.{IsGood}
-use Rattle.sm_write.specs.Written.{Names, AreNames, written, IsLineNamed}
+use Rattle.sm_write.proofs.Imports.{◌≡◌, ℕ, suc, ◌+◌, ◌≤◌, Bool, true, false, nat_lt, if◌then◌else◌, Option, Some, None, Ok, List, [], ◌∷◌, ◌++◌, length, refl, ap, ◌∙◌, arith, nat_tests, Copy, Sorts, SymbolicStore, Tree, or_other, BranchFact, CertificateLine, line_in, CertLine, adds, ways, is_split, Certificate, Next, Closed, Split, splits_above, first_bad, bad_line, TooManySplits, Closes, is_shallow, Cert, Pending, Branch, Progress, taken, IsGood, Names, AreNames, written, IsLineNamed, is_few}
+use Rattle.sm_cert.specs.Certificates.{lines_in}
 use Rattle.sm_write.proofs.FactsThere.{facts_there, one_no_split, none_no_split}
 use Rattle.sm_write.proofs.StepLemmas.{cert_step, after_ways}
 use Rattle.sm_write.proofs.WrittenLines.{written_names, written_splits}
 use Rattle.sm_cert.proofs.CertificateMoves.{parts_none}
-use Rattle.sm_plan.proofs.NodeListsExact.{is_few}
 use Rattle.sm_cert.proofs.WaysTaken.{two_ways, one_way, no_way}
 
 -- a certificate that closes a branch is good there, and not too deep

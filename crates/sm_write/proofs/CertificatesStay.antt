@@ -1,17 +1,8 @@
 -- What certificates stand for stays while a table widens.
-use Rattle.std.proofs.Common.{◌≡◌, ◌<◌, ℕ, List, [], ◌∷◌, ◌++◌, length, refl, ap, sym, subst, ◌∙◌, arith}
-use Rattle.sm_term.specs.TableLaws.{ExtendsTable}
-use Rattle.sm_term.specs.Tables.{TableValue, trees_in, tree_at}
-use Rattle.sm_theory.specs.Views.{line_in, IsLineWithin, numbered_line}
-use Rattle.sm_theory.specs.declared.line.CertLine.{CertLine}
-use Rattle.sm_theory.proofs.LinesOver.{with_same, each_more}
+use Rattle.sm_write.proofs.Imports.{◌≡◌, ◌<◌, ℕ, List, [], ◌∷◌, ◌++◌, length, refl, ap, sym, subst, ◌∙◌, arith, ExtendsTable, TableValue, trees_in, tree_at, line_in, IsLineWithin, CertLine, with_same, each_more, Certificate, Next, Closed, Split, lines_before, tree_layer, end_layer, certificate_in, end_lines, tree_lines, lines_of, AreLinesWithin, CertTree, CertTree-F, roll-CertTree, map-CertTree, fold-roll-CertTree, ind-CertTree, end_in, lines_of_end, within_parts, longer, tree_stays}
+use Rattle.sm_theory.specs.Views.{numbered_line}
 use Rattle.sm_cert.specs.declared.tree.CertEnd.TheOpen as layer
-use Rattle.sm_cert.specs.Certificates.{Certificate, Next, Closed, Split}
-use Rattle.sm_cert.specs.Views.{lines_before, tree_layer, end_layer, certificate_in, end_lines, tree_lines, lines_of, AreLinesWithin}
-use Rattle.sm_cert.specs.declared.tree.CertTree.{CertTree, CertTree-F, roll-CertTree, map-CertTree, fold-roll-CertTree, ind-CertTree}
 use Rattle.sm_cert.specs.declared.tree.CertEnd.{CertEnd, CertEnd-F, roll-CertEnd, map-CertEnd, fold-roll-CertEnd}
-use Rattle.sm_cert.proofs.CheckLemmas.{end_in, lines_of_end, within_parts}
-use Rattle.sm_plan.proofs.TablesWiden.{longer, tree_stays}
 
 module _ (v w : TableValue) (wider : ExtendsTable v w) where
   -- a line

@@ -1,9 +1,6 @@
 -- The plan of programs that do nothing can be written.
-use Rattle.std.proofs.Common.{ℕ, ◌<◌, refl, arith}
+use Rattle.sm_write.proofs.Imports.{ℕ, ◌<◌, refl, arith, Both, Close, IsShortLine, ExampleIsWritable}
 use Rattle.sm_plan.specs.Limits.{is_shallow}
-use Rattle.sm_theory.specs.Lines.{Both, Close}
-use Rattle.sm_write.specs.Writable.{IsShortLine}
-use Rattle.sm_write.specs.Example.{ExampleIsWritable}
 
 -- one small number
 one_short : (n : ℕ) → n < 100 → IsShortLine (Both n)

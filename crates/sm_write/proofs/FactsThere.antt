@@ -1,28 +1,12 @@
 -- A line that may stand on a branch names facts that are there, and splits it in two where it splits by its kind.
-use Rattle.std.proofs.Common.{◌≡◌, ◌⊎◌, inl, inr, ℕ, ◌<◌, ◌^◌, nat_lt, nat_le, Bool, true, false, ◌&&◌, if◌then◌else◌, slice_get, length, Option, Some, None, List, [], ◌∷◌, refl, ap, ◌∙◌, arith, lt-ltb}
-use Rattle.std.proofs.lemmas.Bool.{leb-true}
-use Rattle.sm_syntax.specs.text.Sorts.{Sorts}
-use Rattle.sm_syntax.specs.declared.tree.Sort.TheVariants.{Num}
+use Rattle.sm_write.proofs.Imports.{◌≡◌, ◌⊎◌, inl, inr, ℕ, ◌<◌, ◌^◌, nat_lt, nat_le, Bool, true, false, ◌&&◌, if◌then◌else◌, slice_get, length, Option, Some, None, List, [], ◌∷◌, refl, ap, ◌∙◌, arith, lt-ltb, leb-true, Sorts, Num, Assertion, arguments_of, same_head, same_sort, Tree, or_other, formula_if, says_equal, say_equal, is_inhabited_list, turned_equation, turned_contrary, chained, substituted, BranchFact, CertificateLine, Both, Either, Cases, Order, Refl, Sym, Trans, Subst, Cong, Same, Apart, Hit, Miss, Lin, Elim, Tight, Exact, Close, Clash, followed, formula_in, form_in, formula_at, form_at, Sides, equal_sides, unequal_sides, equation_at, contrary_at, facts_named, is_split, Ways, adding, splitting, closing_if, both_parts, either_part, ordered, adds, ways, are_there, both_pass, below_if_got}
 use Rattle.sm_num.specs.Forms.{Linear}
 use Rattle.sm_term.specs.Assertions as form
-use Rattle.sm_term.specs.Assertions.{Assertion}
-use Rattle.sm_term.specs.Heads.{arguments_of, same_head}
-use Rattle.sm_term.specs.SameTerms.{same_sort}
-use Rattle.sm_term.specs.Terms.{Tree}
 use Rattle.sm_theory.specs.Arithmetic.{is_numeric, form_of_comparison, cancelled}
 use Rattle.sm_theory.specs.Elements.{Written, written_in, read_in}
-use Rattle.sm_theory.specs.Equality.{or_other, formula_if, says_equal, say_equal, is_inhabited_list, turned_equation, turned_contrary, chained, substituted}
 use Rattle.sm_theory.specs.ExactLine.{forms_of_branch, exact_adds}
-use Rattle.sm_theory.specs.Facts.{BranchFact}
-use Rattle.sm_theory.specs.Lines.{CertificateLine, Both, Either, Cases, Order, Refl, Sym, Trans, Subst, Cong, Same, Apart, Hit, Miss, Lin, Elim, Tight, Exact, Close, Clash, followed, formula_in, form_in, formula_at, form_at, Sides}
-use Rattle.sm_theory.specs.Lines.{equal_sides, unequal_sides, equation_at, contrary_at}
-use Rattle.sm_theory.specs.Named.{facts_named, is_split}
-use Rattle.sm_theory.specs.Ways.{Ways, adding, splitting, closing_if, both_parts, either_part, ordered, adds, ways}
-use Rattle.sm_proof.specs.Named.{are_there}
 use Rattle.sm_theory.proofs.FactsLemmas.{followed_from}
 use Rattle.sm_theory.proofs.EqualityLemmas.{or_else_from}
-use Rattle.sm_lemmas.proofs.Tests.{both_pass}
-use Rattle.sm_lemmas.proofs.Lists.{below_if_got}
 
 formula_from : (test : Bool) (f : Assertion) (k : BranchFact) → formula_if test f ≡ Some k → test ≡ true
 formula_from true f k e = refl

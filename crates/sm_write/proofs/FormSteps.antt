@@ -1,35 +1,12 @@
 -- The line of a formula makes it, by the numbers of its terms and of its parts.
-use Rattle.std.proofs.Common.{◌≡◌, ℕ, ◌<◌, ◌^◌, Bool, true, ◌&&◌, Option, Some, slice_get, Result, Ok, Err, List, [], ◌∷◌, ◌++◌, refl, ap, sym, subst, ◌∙◌}
-use Rattle.sm_syntax.specs.text.Sorts.{Sorts}
-use Rattle.sm_syntax.specs.declared.tree.Sort.{Sort}
-use Rattle.sm_syntax.specs.declared.tree.Sort.TheVariants.{Num}
+use Rattle.sm_write.proofs.Imports.{◌≡◌, ℕ, ◌<◌, ◌^◌, Bool, true, ◌&&◌, Option, Some, slice_get, Result, Ok, Err, List, [], ◌∷◌, ◌++◌, refl, ap, sym, subst, ◌∙◌, Sorts, Sort, Num, Assertion, same_sort, NumberedFormula, tree_sort, IsFormSorted, TableValue, trees_in, sorts_in, tree_at, TermId, Tree, FormLine, IsFormLineWithin, found_or, tested_or, BadNumber, First, Pending, Progress, form_made, form_about, form_from, have_one_sort, are_numbers, Subject, OnOk, State, form_over, NamesPair, WritesForm, EachSide, IsBuilt, Seen, Extends, IsSet, WriterValue, Stands, sort_itself, get_last, get_in_first}
 use Rattle.sm_term.specs.Assertions as plain
-use Rattle.sm_term.specs.Assertions.{Assertion}
-use Rattle.sm_term.specs.SameTerms.{same_sort}
-use Rattle.sm_term.specs.Formulas.{NumberedFormula, Yes, No, Eq, Ne, Le, Lt, And, Or}
-use Rattle.sm_term.specs.Sorted.{tree_sort, IsFormSorted}
-use Rattle.sm_term.specs.Tables.{TableValue, trees_in, sorts_in, tree_at}
-use Rattle.sm_term.specs.declared.term.TermId.{TermId}
-use Rattle.sm_term.specs.Terms.{Tree}
-use Rattle.sm_proof.specs.declared.line.FormLine.{FormLine}
+use Rattle.sm_term.specs.Formulas.{Yes, No, Eq, Ne, Le, Lt, And, Or}
 use Rattle.sm_proof.specs.declared.line.FormLine.TheVariants as line
 use Rattle.sm_proof.specs.declared.word.Head.TheVariants as head
-use Rattle.sm_proof.specs.FieldRanges.{IsFormLineWithin}
-use Rattle.sm_proof.specs.Named.{found_or, tested_or}
-use Rattle.sm_proof.specs.declared.word.Word.TheVariants.{BadNumber, First}
-use Rattle.sm_proof.specs.Passing.{Pending, Progress, form_made, form_about, form_from, have_one_sort, are_numbers}
-use Rattle.sm_proof.specs.Verdicts.{Subject}
-use Rattle.std.specs.Prelude.{OnOk, IfOk}
-use Rattle.sm_plan.specs.States.{State}
-use Rattle.sm_write.specs.FormsWritten.{form_over, NamesPair, WritesForm}
-use Rattle.sm_write.specs.Nameable.{EachSide}
-use Rattle.sm_write.specs.Seen.{IsBuilt, Seen}
-use Rattle.sm_write.specs.Walked.{Extends, IsSet}
-use Rattle.sm_write.specs.Writers.{WriterValue, Stands}
+use Rattle.std.specs.Prelude.{IfOk}
 use Rattle.sm_write.proofs.WalkedLemmas.{kept_twice, extends_none, set_later}
 use Rattle.sm_write.proofs.WriterSteps.{adds_none, adds_twice}
-use Rattle.sm_term.proofs.SameTermsLemmas.{sort_itself}
-use Rattle.sm_lemmas.proofs.Lists.{get_last, get_in_first}
 
 -- a formula about two terms that are there
 pub about_made : (terms : List Tree) (m n : ℕ) (t u : Tree) (test : Tree → Tree → Bool) (makes : Tree → Tree → Assertion) →

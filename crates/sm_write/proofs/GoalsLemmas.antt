@@ -1,16 +1,6 @@
 -- A goal's certificate closes the branch that is due for it.
-use Rattle.std.proofs.Common.{◌≡◌, ℕ, ◌+◌, ◌<◌, List, [], ◌∷◌, ◌++◌, drop, get_or, map, subst, arith}
-use Rattle.std.proofs.lemmas.List.{drop_more}
-use Rattle.sm_term.specs.Assertions.{Assertion, No}
-use Rattle.sm_term.specs.Tables.{TableValue, trees_in}
-use Rattle.sm_cert.specs.Certificates.{Certificate}
-use Rattle.sm_proof.specs.Passing.{goal_branch}
-use Rattle.sm_write.specs.GoalsWritten.{LeavesGoals}
-use Rattle.sm_write.specs.Ready.{AreClosed}
-use Rattle.sm_write.specs.Seen.{Seen}
-use Rattle.sm_write.specs.Stepped.{Stepped, Opens, ClosesBranch}
-use Rattle.sm_write.specs.Writable.{denied}
-use Rattle.sm_write.specs.Writers.{WriterValue}
+use Rattle.sm_write.proofs.Imports.{◌≡◌, ℕ, ◌+◌, ◌<◌, List, [], ◌∷◌, ◌++◌, drop, get_or, map, subst, arith, drop_more, Assertion, TableValue, trees_in, Certificate, goal_branch, LeavesGoals, AreClosed, Seen, Stepped, Opens, ClosesBranch, denied, WriterValue}
+use Rattle.sm_term.specs.Assertions.{No}
 use Rattle.sm_write.proofs.CertSteps.{closes_good}
 use Rattle.sm_write.proofs.SteppedLemmas.{stepped_twice}
 use Rattle.sm_write.proofs.WalkedLemmas.{seen_kept}

@@ -1,17 +1,5 @@
 -- A task like the one that was worked by hand, whatever the text of its name is.
-use Rattle.std.proofs.Common.{◌≡◌, ℕ, None, List, [], ◌∷◌, ◌++◌, map, sym, ap, ◌∙◌, subst}
-use Rattle.std.proofs.Math.Path.{fun_ext}
-use Rattle.sm_syntax.specs.claim.ConflictFree.{Copy}
-use Rattle.sm_syntax.specs.claim.Syntax.{End}
-use Rattle.sm_syntax.specs.declared.tree.Sort.TheVariants.{Num}
-use Rattle.sm_syntax.specs.text.Parts.{Parts}
-use Rattle.sm_term.specs.Terms.{Tree}
-use Rattle.sm_theory.specs.Lines.{Both, Close}
-use Rattle.sm_cert.specs.Certificates.{Next, Closed}
-use Rattle.sm_cert.specs.Views.{certificate_in}
-use Rattle.sm_cert.specs.declared.tree.CertTree.{CertTree}
-use Rattle.sm_write.specs.Example.{idle_plan, idle_certificates}
-use Rattle.sm_write.specs.Writable.{IsWritable}
+use Rattle.sm_write.proofs.Imports.{◌≡◌, ℕ, None, List, [], ◌∷◌, ◌++◌, map, sym, ap, ◌∙◌, subst, fun_ext, Copy, End, Num, Parts, Tree, Both, Close, Next, Closed, certificate_in, CertTree, idle_plan, idle_certificates, IsWritable}
 use Rattle.sm_write.proofs.ExampleLemmas.{example_is_writable}
 
 -- one number, which is the output, and four programs that do nothing

@@ -1,34 +1,10 @@
 -- The new values and summaries of a state get numbers, one name after the other.
-use Rattle.std.proofs.Common.{◌≡◌, ℕ, ◌+◌, ◌<◌, ◌≤◌, ◌^◌, Bool, true, false, nat_eq, nat_lt, Option, Some, None, is_some, Ok, List, [], ◌∷◌, ◌++◌, length, slice_get, refl, ap, sym, subst, ◌∙◌, arith, ⊎_elim}
-use Rattle.std.proofs.lemmas.Bool.{cases_Bool}
-use Rattle.std.proofs.lemmas.Bool.Decides.{nat_tests}
-use Rattle.std.proofs.lemmas.Option.{slice_get_past}
-use Rattle.std.specs.Map.{update}
-use Rattle.sm_syntax.specs.claim.ConflictFree.{Copy, copy_of}
-use Rattle.sm_syntax.specs.text.Sorts.{Sorts}
-use Rattle.sm_syntax.specs.declared.tree.Sort.{Sort}
-use Rattle.sm_syntax.specs.trees.Copies.{number_of}
-use Rattle.sm_term.specs.Sorted.{IsStoreSorted}
-use Rattle.sm_term.specs.Symbolic.{SymbolicStore}
-use Rattle.sm_term.specs.SymStores.{tree_or_start}
-use Rattle.sm_term.specs.Tables.{TableValue, trees_in, sorts_in, tree_at}
-use Rattle.sm_term.specs.declared.term.TermId.{TermId}
-use Rattle.sm_term.specs.Terms.{Tree, Lit, Start, Havoc, Slot, Cell, Read, Write, Neg, Add, Sub, Mul, Fun}
+use Rattle.sm_write.proofs.Imports.{◌≡◌, ℕ, ◌+◌, ◌<◌, ◌≤◌, ◌^◌, Bool, true, false, nat_eq, nat_lt, Option, Some, None, is_some, Ok, List, [], ◌∷◌, ◌++◌, length, slice_get, refl, ap, sym, subst, ◌∙◌, arith, ⊎_elim, cases_Bool, nat_tests, slice_get_past, update, Copy, copy_of, Sorts, Sort, number_of, IsStoreSorted, SymbolicStore, tree_or_start, TableValue, trees_in, sorts_in, tree_at, TermId, Tree, Start, Havoc, Slot, Cell, Read, Write, Neg, Add, Sub, Mul, Fun, tested_or, BadNumber, Progress, present_term, of_name, term_made, Subject, is_atom, IsTreeNamed, Shows, terms_store, NamesOne, HeldNamed, NamesHeld, NamesStore, IsAtom, KeepsNames, Extends, WriterValue, Names, lt_from_test, copy_back}
+use Rattle.sm_term.specs.Terms.{Lit}
 use Rattle.sm_plan.proofs.RenewedStores.{number_below}
 use Rattle.sm_proof.specs.declared.line.TermLine.TheVariants.{Cur}
-use Rattle.sm_proof.specs.Named.{tested_or}
-use Rattle.sm_proof.specs.declared.word.Word.TheVariants.{BadNumber}
-use Rattle.sm_proof.specs.Passing.{Progress, present_term, of_name, term_made}
-use Rattle.sm_proof.specs.Verdicts.{Subject}
-use Rattle.sm_write.specs.Held.{is_atom, IsTreeNamed, Shows, terms_store, NamesOne, HeldNamed, NamesHeld, NamesStore}
-use Rattle.sm_write.specs.Seen.{IsAtom}
-use Rattle.sm_write.specs.Walked.{KeepsNames, Extends}
-use Rattle.sm_write.specs.Writers.{WriterValue}
-use Rattle.sm_write.specs.Written.{Names}
 use Rattle.sm_write.proofs.WriterSteps.{adds_none}
 use Rattle.sm_write.proofs.WalkedLemmas.{AddsTerm, kept_gains, extends_none, extends_twice, set_later, gained}
-use Rattle.sm_lemmas.proofs.Tests.{lt_from_test}
-use Rattle.sm_plan.proofs.TargetsMade.{copy_back}
 
 pub tested_atom : (t : Tree) → is_atom t ≡ true → IsAtom t
 tested_atom (Lit z) e = absurd cc

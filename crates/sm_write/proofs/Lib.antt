@@ -1,3 +1,4 @@
+mod Imports
 pub mod ExampleLemmas
 pub mod SpellingLemmas
 pub mod TextLemmas

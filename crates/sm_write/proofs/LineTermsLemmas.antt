@@ -1,15 +1,7 @@
 -- The terms of a line, one by one.
-use Rattle.std.proofs.Common.{◌≡◌, ℕ, Option, Some, None, List, IfSome}
-use Rattle.sm_term.specs.Tables.{tree_at}
-use Rattle.sm_term.specs.declared.term.TermId.{TermId}
-use Rattle.sm_term.specs.Terms.{Tree}
+use Rattle.sm_write.proofs.Imports.{◌≡◌, ℕ, Option, Some, None, List, IfSome, tree_at, TermId, Tree, EachNamed, line_in, CertLine, each_back, first_term, second_term, Names, IsNamed, IsLineNamed}
 use Rattle.sm_theory.specs.declared.line.CertLine.TheVariants as cert
-use Rattle.sm_theory.specs.Named.{EachNamed}
-use Rattle.sm_theory.specs.Views.{line_in, numbered_line}
-use Rattle.sm_theory.specs.declared.line.CertLine.{CertLine}
-use Rattle.sm_theory.proofs.LinesOver.{each_back}
-use Rattle.sm_write.specs.LineTerms.{first_term, second_term}
-use Rattle.sm_write.specs.Written.{Names, IsNamed, IsLineNamed}
+use Rattle.sm_theory.specs.Views.{numbered_line}
 
 -- what is so of each number that a line names
 pub first_named : (P : ℕ → Type 0) (l : CertLine) → EachNamed P (numbered_line l) → IfSome (first_term l) (λ (t : TermId). P t.0)

@@ -1,11 +1,7 @@
 -- A line is that with the numbers of the terms that it names.
-use Rattle.std.proofs.Common.{◌≡◌, ℕ, refl}
-use Rattle.sm_theory.specs.declared.line.CertLine.{CertLine}
+use Rattle.sm_write.proofs.Imports.{◌≡◌, ℕ, refl, CertLine, line_head, first_term, second_term, Names, number_in, number_or, line_with, written}
 use Rattle.sm_theory.specs.declared.line.CertLine.TheVariants as cert
 use Rattle.sm_proof.specs.Lines.{numbered_line}
-use Rattle.sm_proof.specs.Named.{line_head}
-use Rattle.sm_write.specs.LineTerms.{first_term, second_term}
-use Rattle.sm_write.specs.Written.{Names, number_in, number_or, line_with, written}
 
 pub written_with : (names : Names) (l : CertLine) → line_with l (number_in names (first_term l)) (number_in names (second_term l)) ≡ written names l
 written_with names (cert.Both n) = refl

@@ -1,22 +1,6 @@
 -- What can be named after states is built of what was seen in them.
-use Rattle.std.proofs.Common.{◌≡◌, ◌⊎◌, inl, inr, ℕ, ℤ, Bool, true, false, ◌==◌, ◌&&◌, ◌||◌, if◌then◌else◌, IsTrue, is_some, Option, Some, None, List, [], ◌∷◌, refl, sym, subst}
-use Rattle.std.specs.List.{list_any}
-use Rattle.std.proofs.lemmas.Bool.Decides.{Decides-eqb}
-use Rattle.sm_syntax.specs.claim.ConflictFree.{Copy, O, A, B, M}
-use Rattle.sm_syntax.specs.text.Parts.{sort_of}
-use Rattle.sm_syntax.specs.text.Sorts.{Sorts}
-use Rattle.sm_syntax.specs.declared.tree.Sort.{Sort}
-use Rattle.sm_syntax.specs.declared.tree.Sort.TheVariants.{Num, Arr}
-use Rattle.sm_term.specs.Terms.{Tree, Lit, Start, Havoc, Slot, Cell, Read, Write, Neg, Add, Sub, Mul, Fun}
-use Rattle.sm_term.specs.Heads.{arguments_of}
-use Rattle.sm_term.specs.SameTerms.{same_tree}
-use Rattle.sm_term.specs.Sorted.{IsDeclaredIn, tree_sort}
-use Rattle.sm_term.proofs.SameTermsLemmas.{same_tree_is}
-use Rattle.sm_plan.specs.Copies.{copies}
-use Rattle.sm_plan.specs.SortedStates.{IsStateSorted}
-use Rattle.sm_plan.specs.States.{State}
-use Rattle.sm_write.specs.Nameable.{EachInStates, PassesTest, Nameable}
-use Rattle.sm_write.specs.Seen.{IsBuilt, IsAtom, IsHeld, Seen}
+use Rattle.sm_write.proofs.Imports.{◌≡◌, ◌⊎◌, inl, inr, ℕ, ℤ, Bool, true, false, ◌==◌, ◌&&◌, ◌||◌, if◌then◌else◌, IsTrue, is_some, Option, Some, None, List, [], ◌∷◌, refl, sym, subst, list_any, Decides-eqb, Copy, O, A, B, M, sort_of, Sorts, Sort, Num, Arr, Tree, Start, Havoc, Slot, Cell, Read, Write, Neg, Add, Sub, Mul, Fun, arguments_of, same_tree, IsDeclaredIn, tree_sort, same_tree_is, copies, IsStateSorted, State, EachInStates, PassesTest, Nameable, IsBuilt, IsAtom, IsHeld, Seen}
+use Rattle.sm_term.specs.Terms.{Lit}
 use Rattle.sm_write.proofs.BuiltTerms.{each_more, sides_more, built_parts}
 use Rattle.sm_write.proofs.BuiltStates.{IsWell}
 use Rattle.sm_write.proofs.SeenLemmas.{EachState, AreFine}

@@ -1,24 +1,11 @@
 -- The line of a term makes it, and a part without a number stands before it.
-use Rattle.std.proofs.Common.{◌≡◌, ◌⊎◌, inl, inr, ℕ, ◌<◌, ◌^◌, Bool, true, ◌&&◌, if◌then◌else◌, is_some, Option, Some, None, slice_get, length, Result, Ok, Err, List, ap, sym, subst, ◌∙◌, arith}
+use Rattle.sm_write.proofs.Imports.{◌≡◌, ◌⊎◌, inl, inr, ℕ, ◌<◌, ◌^◌, Bool, true, ◌&&◌, if◌then◌else◌, is_some, Option, Some, None, slice_get, length, Result, Ok, Err, List, ap, sym, subst, ◌∙◌, arith, Num, Arr, TableValue, trees_in, sorts_in, codes_in, tree_at, tree_in, IsTermWithin, TermId, Tree, Start, Read, Write, Neg, Add, State, found_or, tested_or, Word, BadNumber, First, with_tree, IsLineOf, IsOpenPart, IsBuilt, Seen, Names, AreNames, below_if_got}
 use Rattle.sm_syntax.specs.declared.tree.Name.{Name}
-use Rattle.sm_syntax.specs.declared.tree.Sort.TheVariants.{Num, Arr}
 use Rattle.sm_term.specs.declared.term.Term.TheVariants as row
 use Rattle.sm_term.specs.Fitting.{term_fits, has_sort}
-use Rattle.sm_term.specs.Tables.{TableValue, trees_in, sorts_in, codes_in, tree_at, tree_in, IsTermWithin}
-use Rattle.sm_term.specs.declared.term.TermId.{TermId}
 use Rattle.sm_term.specs.declared.term.Term.{Term}
-use Rattle.sm_term.specs.Terms.{Tree, Start, Read, Write, Neg, Add}
-use Rattle.sm_plan.specs.States.{State}
 use Rattle.sm_proof.specs.declared.line.TermLine.TheVariants as line
 use Rattle.sm_proof.specs.declared.word.Head.TheVariants as head
-use Rattle.sm_proof.specs.Named.{found_or, tested_or}
-use Rattle.sm_proof.specs.declared.word.Word.{Word}
-use Rattle.sm_proof.specs.declared.word.Word.TheVariants.{BadNumber, First}
-use Rattle.sm_proof.specs.Passing.{with_tree}
-use Rattle.sm_write.specs.Naming.{IsLineOf, IsOpenPart}
-use Rattle.sm_write.specs.Seen.{IsBuilt, Seen}
-use Rattle.sm_write.specs.Written.{Names, AreNames}
-use Rattle.sm_lemmas.proofs.Lists.{below_if_got}
 
 -- term n of a table is this row
 pub record IsRow (v : TableValue) (n : ℕ) (u : Term) : Type 0 where

@@ -1,19 +1,9 @@
 -- Where a writer stands after a node's line.
-use Rattle.std.proofs.Common.{◌≡◌, ℕ, suc, Some, true, List, ◌∷◌, ◌++◌, refl}
-use Rattle.sm_term.specs.Terms.{Tree}
-use Rattle.sm_plan.specs.Limits.{is_shallow}
-use Rattle.sm_plan.specs.NodeLists.{above_opened}
+use Rattle.sm_write.proofs.Imports.{◌≡◌, ℕ, suc, Some, true, List, ◌∷◌, ◌++◌, refl, Tree, is_shallow, above_opened, opened_by, State, IsNodeLineWithin, NodeLine, named_node, Pending, Progress, Subject, line_text, WriterValue, Stands}
 use Rattle.sm_plan.specs.Nodes as plan
-use Rattle.sm_plan.specs.Nodes.{Opened, opened_by}
-use Rattle.sm_plan.specs.States.{State}
-use Rattle.sm_proof.specs.FieldRanges.{IsNodeLineWithin}
+use Rattle.sm_plan.specs.Nodes.{Opened}
 use Rattle.sm_proof.specs.Lines.{Node}
-use Rattle.sm_proof.specs.declared.line.NodeLine.{NodeLine}
-use Rattle.sm_proof.specs.Named.{named_node}
-use Rattle.sm_proof.specs.Passing.{Pending, Due, Progress}
-use Rattle.sm_proof.specs.Verdicts.{Subject}
-use Rattle.sm_write.specs.Bytes.{line_text}
-use Rattle.sm_write.specs.Writers.{WriterValue, Stands}
+use Rattle.sm_proof.specs.Passing.{Due}
 use Rattle.sm_write.proofs.SpellingLemmas.{node_readable}
 use Rattle.sm_write.proofs.StepLemmas.{node_step, after_opening}
 use Rattle.sm_write.proofs.WriterSteps.{stands_line}

@@ -1,42 +1,12 @@
 -- A node is written behind the names of its state's terms and its kept formula.
-use Rattle.std.proofs.Common.{◌≡◌, ℕ, suc, Bool, true, false, nat_le, if◌then◌else◌, Option, Some, List, [], ◌∷◌, ◌++◌, slice_get, refl, ap, sym, subst, ◌∙◌}
-use Rattle.sm_syntax.specs.claim.ConflictFree.{Copy}
-use Rattle.sm_syntax.specs.text.Parts.{by_copy}
-use Rattle.sm_syntax.specs.text.Sorts.{Sorts}
-use Rattle.sm_syntax.specs.trees.Copies.{copy_named}
-use Rattle.sm_syntax.specs.declared.copies.PerCopy.{PerCopy}
-use Rattle.sm_term.specs.declared.symbolic.SymStore.{SymStore}
-use Rattle.sm_term.specs.Assertions.{Assertion}
-use Rattle.sm_term.specs.Formulas.{NumberedFormula, numbered, assertion_in}
-use Rattle.sm_term.specs.Sorted.{IsFormSorted}
-use Rattle.sm_term.specs.Tables.{TableValue, trees_in, sorts_in}
-use Rattle.sm_term.specs.Terms.{Tree}
-use Rattle.sm_theory.specs.Lines.{followed}
+use Rattle.sm_write.proofs.Imports.{◌≡◌, ℕ, suc, Bool, true, false, nat_le, if◌then◌else◌, Option, Some, List, [], ◌∷◌, ◌++◌, slice_get, refl, ap, sym, subst, ◌∙◌, Copy, by_copy, Sorts, copy_named, PerCopy, SymStore, Assertion, NumberedFormula, numbered, assertion_in, IsFormSorted, TableValue, trees_in, sorts_in, Tree, followed, is_shallow, set_of, above_opened, opened_by, State, node_in, NodeRow, NodeLine, IsNodeLineWithin, named_node, Pending, Progress, Subject, form_over, WritesForm, NamesState, EachSide, IsKeptAt, EachRow, WritesKeep, WritesNode, IsBuilt, Seen, EachKept, WriterValue, Stands, AreSeenNamed, Names, copy_back}
 use Rattle.sm_plan.specs.declared.node.NodeRow.TheVariants as row
-use Rattle.sm_plan.specs.Limits.{is_shallow}
-use Rattle.sm_plan.specs.Masks.{set_of}
-use Rattle.sm_plan.specs.NodeLists.{above_opened}
 use Rattle.sm_plan.specs.Nodes as plan
-use Rattle.sm_plan.specs.Nodes.{Opened, opened_by}
-use Rattle.sm_plan.specs.States.{State}
-use Rattle.sm_plan.specs.Views.{node_in}
-use Rattle.sm_plan.specs.declared.node.NodeRow.{NodeRow}
-use Rattle.sm_proof.specs.declared.line.NodeLine.{NodeLine}
-use Rattle.sm_proof.specs.FieldRanges.{IsNodeLineWithin}
-use Rattle.sm_proof.specs.Named.{named_node}
-use Rattle.sm_proof.specs.Passing.{Pending, Due, Progress}
-use Rattle.sm_proof.specs.Verdicts.{Subject}
-use Rattle.sm_write.specs.FormsWritten.{form_over, WritesForm}
-use Rattle.sm_write.specs.Held.{NamesState}
-use Rattle.sm_write.specs.Nameable.{EachSide}
-use Rattle.sm_write.specs.NodesWritten.{line_of, IsKeptAt, EachRow, WritesKeep, WritesNode}
-use Rattle.sm_write.specs.Seen.{IsBuilt, Seen}
-use Rattle.sm_write.specs.Writable.{EachKept}
-use Rattle.sm_write.specs.Writers.{WriterValue, Stands, AreSeenNamed}
-use Rattle.sm_write.specs.Written.{Names}
+use Rattle.sm_plan.specs.Nodes.{Opened}
+use Rattle.sm_proof.specs.Passing.{Due}
+use Rattle.sm_write.specs.NodesWritten.{line_of}
 use Rattle.sm_write.proofs.StepLemmas.{after_opening}
 use Rattle.sm_write.proofs.WalkedLemmas.{seen_kept}
-use Rattle.sm_plan.proofs.TargetsMade.{copy_back}
 
 -- a node's line names it
 pub line_names : (sorts : Sorts) (trees : List Tree) (forms : List Assertion) (r : NodeRow) (n : ℕ) → IsKeptAt sorts trees forms r n →

@@ -1,18 +1,9 @@
 -- States that follow a node wait with the plans below it.
-use Rattle.std.proofs.Common.{◌≡◌, ℕ, suc, ◌+◌, ◌<◌, List, [], ◌∷◌, ◌++◌, length, map, reverse, sym, ap, ◌∙◌, subst, arith, append_assoc}
-use Rattle.std.proofs.lemmas.List.{length-append, reverse-append}
-use Rattle.sm_term.specs.Assertions.{Assertion}
-use Rattle.sm_term.specs.Tables.{TableValue, trees_in, sorts_in}
-use Rattle.sm_plan.specs.ReadyStates.{AreSuccessorsReady}
+use Rattle.sm_write.proofs.Imports.{◌≡◌, ℕ, suc, ◌+◌, ◌<◌, List, [], ◌∷◌, ◌++◌, length, map, reverse, sym, ap, ◌∙◌, subst, arith, reverse-append, Assertion, TableValue, trees_in, sorts_in, AreSuccessorsReady, forms_in, successor_in, NumberedPlan, NumberedPlans, plan_over, plans_over, below, list_of, IsPlanReady, ArePlansReady, numbered_at, Cursor, AllStandFor, ArePlacedReady, weight, placed_with, PlacedState, Waits, each_waits}
+use Rattle.std.proofs.Common.{append_assoc}
+use Rattle.std.proofs.lemmas.List.{length-append}
 use Rattle.sm_plan.specs.declared.opening.Successor.{Successor}
-use Rattle.sm_plan.specs.Views.{forms_in, successor_in}
-use Rattle.sm_expand.specs.NumberedPlans.{NumberedPlan, At, NumberedPlans, Over, More, plan_over, plans_over, below, list_of, IsPlanReady, ArePlansReady}
-use Rattle.sm_expand.specs.Cursors.{numbered_at}
-use Rattle.sm_expand.specs.declared.cursor.Cursor.{Cursor}
-use Rattle.sm_write.specs.Underway.{AllStandFor}
-use Rattle.sm_expand.specs.PlacedStates.{ArePlacedReady, weight, placed_with}
-use Rattle.sm_expand.specs.declared.placed.PlacedState.{PlacedState}
-use Rattle.sm_write.specs.Waiting.{Waits, each_waits}
+use Rattle.sm_expand.specs.NumberedPlans.{At, Over, More}
 
 module _ (v : TableValue) where
   -- each stands for its own, before others

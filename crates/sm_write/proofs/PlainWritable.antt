@@ -1,17 +1,7 @@
 -- Plans that keep no formula can be written, where their certificates name no term.
-use Rattle.std.proofs.Common.{ℕ, suc, List, [], ◌∷◌, map}
-use Rattle.sm_syntax.specs.text.Parts.{sort_of, task_of}
-use Rattle.sm_syntax.specs.text.Sorts.{Sorts}
-use Rattle.sm_term.specs.Terms.{Tree}
-use Rattle.sm_theory.specs.Facts.{BranchFact}
-use Rattle.sm_cert.specs.Certificates.{Certificate}
+use Rattle.sm_write.proofs.Imports.{ℕ, suc, List, [], ◌∷◌, map, sort_of, task_of, Sorts, Tree, BranchFact, Certificate, nodes_of, State, start_state, Nameable, NoTerm, AreKeptPlain, ArePlainLines, branches_of, CloseEach, PlainPlansAreWritable, plan_states, Goal, denied, all_goals, states_until, AreShown, AreKeptNameable}
 use Rattle.sm_plan.specs.Nodes.{Node}
-use Rattle.sm_plan.specs.Plans.{nodes_of, Due}
-use Rattle.sm_plan.specs.States.{State, start_state}
-use Rattle.sm_write.specs.Nameable.{Nameable}
-use Rattle.sm_write.specs.PlainPlans.{NoTerm, AreKeptPlain, ArePlainLines, branches_of, CloseEach, PlainPlansAreWritable}
-use Rattle.sm_write.specs.PlanStates.{plan_states}
-use Rattle.sm_write.specs.Writable.{Goal, denied, all_goals, states_until, AreShown, AreKeptNameable}
+use Rattle.sm_plan.specs.Plans.{Due}
 use Rattle.sm_write.proofs.ReadyPlans.{term_more, kept_more}
 
 -- what nodes keep can be named after whatever states

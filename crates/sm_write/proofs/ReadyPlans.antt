@@ -1,35 +1,16 @@
 -- A plan that is writable as a whole is so node by node.
-use Rattle.std.proofs.Common.{◌≡◌, ℕ, zero, suc, ◌+◌, ◌==◌, ◌≤◌, if◌then◌else◌, Ok, Err, List, [], ◌∷◌, ◌++◌, map, length, refl, ap, sym, ◌∙◌, subst, arith}
-use Rattle.std.proofs.lemmas.Bool.Decides.{nat_tests}
+use Rattle.sm_write.proofs.Imports.{◌≡◌, ℕ, zero, suc, ◌+◌, ◌==◌, ◌≤◌, if◌then◌else◌, Ok, Err, List, [], ◌∷◌, ◌++◌, map, length, refl, ap, sym, ◌∙◌, subst, arith, nat_tests, Parts, sort_of, task_of, Sorts, Sort, Assertion, Tree, BranchFact, each_more, Certificate, Next, Closed, Split, is_shallow, above_opened, Unfit, opened_by, rule_of, is_branching, Plan, Plans, size, sizes, count, nodes_of, all_nodes, branches, most_branches, Fault, Wrong, due, joined, expand, expand_all, IsStateSorted, AreStatesSorted, IsNodeSorted, State, start_state, Nameable, states_opened, plan_states, plans_states, AreClosed, IsReady, AreReady, IsBuilt, IsAtom, Seen, Goal, denied, goals_of, all_goals, states_until, AreShown, EachKept, AreKeptNameable, AreShort, IsWritable, is_few, few_is, counts_above, first_few, second_few, test_passed}
 use Rattle.std.proofs.lemmas.List.{append_assoc, append-nil, length-append}
-use Rattle.sm_syntax.specs.text.Parts.{Parts, sort_of, task_of}
-use Rattle.sm_syntax.specs.text.Sorts.{Sorts}
-use Rattle.sm_syntax.specs.declared.tree.Sort.{Sort}
-use Rattle.sm_term.specs.Assertions.{Assertion}
-use Rattle.sm_term.specs.Terms.{Tree}
-use Rattle.sm_theory.specs.Facts.{BranchFact}
 use Rattle.sm_theory.specs.Lines as cert
-use Rattle.sm_theory.proofs.LinesOver.{each_more}
-use Rattle.sm_cert.specs.Certificates.{Certificate, Next, Closed, Split}
 use Rattle.sm_cert.specs.NamedTerms.{EachTerm}
-use Rattle.sm_plan.specs.Limits.{is_shallow}
-use Rattle.sm_plan.specs.NodeLists.{above_opened}
-use Rattle.sm_plan.specs.Nodes.{Node, Step, Abs, Fork, Loop, Block, Dead, Ends, Unfit, Opened, opened_by, rule_of, is_branching}
-use Rattle.sm_plan.specs.Plans.{Plan, At, Plans, Over, More, size, sizes, count, nodes_of, all_nodes, branches, most_branches, Due, Fault, Wrong, due, joined, expand, expand_all}
-use Rattle.sm_plan.specs.SortedStates.{IsStateSorted, AreStatesSorted, IsNodeSorted}
-use Rattle.sm_plan.specs.States.{State, start_state}
+use Rattle.sm_plan.specs.Nodes.{Node, Step, Abs, Fork, Loop, Block, Dead, Ends, Opened}
+use Rattle.sm_plan.specs.Plans.{At, Over, More, Due}
 use Rattle.sm_plan.specs.Laws.{SortsAreKept}
 use Rattle.sm_plan.proofs.PlanSound.{opened_is, passed, joined_is, shallow}
-use Rattle.sm_write.specs.Nameable.{Nameable}
-use Rattle.sm_write.specs.PlanStates.{states_opened, plan_states, plans_states}
-use Rattle.sm_write.specs.Ready.{AreClosed, IsReady, AreReady}
-use Rattle.sm_write.specs.Seen.{IsBuilt, IsAtom, Seen}
-use Rattle.sm_write.specs.Writable.{Goal, denied, goals_of, all_goals, states_until, AreShown, EachKept, AreKeptNameable, AreShort, IsWritable}
 use Rattle.sm_write.proofs.BuiltTerms.{side_more}
 use Rattle.sm_write.proofs.BuiltStates.{IsWell, With, AreWellWith, node_well, start_well, Nothing, well_more}
 use Rattle.sm_write.proofs.SeenLemmas.{AreFine, none_fine, fine_more, well_here, waiting_more}
 use Rattle.sm_write.proofs.NameableBuilt.{nameable_built}
-use Rattle.sm_plan.proofs.NodeListsExact.{is_few, few_is, counts_above, first_few, second_few, test_passed}
 
 -- each node's kept formula is sorted
 abbrev pub AreNodesSorted : Sorts → List Node → Type 0

@@ -1,16 +1,9 @@
 -- A text of lines is read back, line by line, and lines are written one after another.
-use Rattle.std.proofs.Common.{◌≡◌, ℕ, suc, ◌==◌, Bool, true, false, if◌then◌else◌, Option, Some, None, Result, Ok, option_map, List, [], ◌∷◌, ◌++◌, length, map, take, drop, ◌-◌, arith, refl, ap, sym, subst, ◌∙◌, append_assoc, append-nil}
-use Rattle.std.proofs.lemmas.Option.{same_Some}
-use Rattle.std.proofs.lemmas.List.{map-append, take_all, length-drop}
-use Rattle.sm_proof.specs.declared.word.Word.{Word}
-use Rattle.sm_proof.specs.Lines.{ProofLine, line_of}
-use Rattle.sm_proof.specs.declared.line.Line.{Line}
+use Rattle.sm_write.proofs.Imports.{◌≡◌, ℕ, suc, ◌==◌, Bool, true, false, if◌then◌else◌, Option, Some, None, Result, Ok, option_map, List, [], ◌∷◌, ◌++◌, length, map, take, drop, ◌-◌, arith, refl, ap, sym, subst, ◌∙◌, same_Some, map-append, take_all, length-drop, Word, ProofLine, Line, spelled, spelled_back, bytes_of, IsReadable, AreReadable, line_text}
+use Rattle.std.proofs.Common.{append_assoc, append-nil}
+use Rattle.sm_proof.specs.Lines.{line_of}
 use Rattle.sm_proof.specs.Reading.{first_line, read}
-use Rattle.sm_proof.specs.Spelling.{spelled}
 use Rattle.sm_proof.proofs.ProgressLemmas.{same_end}
-use Rattle.sm_proof.proofs.SpellingReadsBack.{spelled_back}
-use Rattle.sm_prune.specs.Texts.{bytes_of, IsReadable, AreReadable}
-use Rattle.sm_write.specs.Bytes.{line_text}
 use Rattle.sm_write.proofs.SpellingLemmas.{has_feed, is_one_line}
 
 -- what stands before the first line feed

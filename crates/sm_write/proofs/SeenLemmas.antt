@@ -1,12 +1,5 @@
 -- States that were seen, one after the other, and what is known of them.
-use Rattle.std.proofs.Common.{◌⊎◌, inl, inr, List, [], ◌∷◌, ◌++◌, sym, subst}
-use Rattle.sm_syntax.specs.text.Sorts.{Sorts}
-use Rattle.sm_term.specs.Terms.{Tree}
-use Rattle.sm_term.specs.Heads.{arguments_of}
-use Rattle.sm_plan.specs.SortedStates.{IsStateSorted}
-use Rattle.sm_plan.specs.States.{State}
-use Rattle.sm_write.specs.Nameable.{EachOf}
-use Rattle.sm_write.specs.Seen.{IsBuilt, IsAtom, Seen}
+use Rattle.sm_write.proofs.Imports.{◌⊎◌, inl, inr, List, [], ◌∷◌, ◌++◌, sym, subst, Sorts, Tree, arguments_of, IsStateSorted, State, EachOf, IsBuilt, IsAtom, Seen}
 use Rattle.sm_write.proofs.BuiltTerms.{IsPlain, built_more, each_more}
 use Rattle.sm_write.proofs.BuiltStates.{IsWell, IsSolid, With, AreWellWith, well_more}
 

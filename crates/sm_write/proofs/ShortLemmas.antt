@@ -1,7 +1,5 @@
 -- Numbers that are short, one after the other.
-use Rattle.std.proofs.Common.{ℕ, zero, suc, ◌+◌, ◌<◌, ◌^◌, List, [], ◌∷◌, ◌++◌, length, take, get_or, sym, subst, arith}
-use Rattle.std.proofs.lemmas.List.{take_more}
-use Rattle.sm_write.specs.Writable.{AreShortNumbers}
+use Rattle.sm_write.proofs.Imports.{ℕ, zero, suc, ◌+◌, ◌<◌, ◌^◌, List, [], ◌∷◌, ◌++◌, length, take, get_or, sym, subst, arith, take_more, AreShortNumbers}
 
 numbers_more : (ns : List ℕ) (n : ℕ) → AreShortNumbers ns → n < 2 ^ 63 → AreShortNumbers (ns ++ n ∷ [])
 numbers_more [] n all low = (low, tt)

@@ -1,18 +1,8 @@
 -- Terms with no new value and no summary can be named after whatever states, and so can they at the stores of one of these.
-use Rattle.std.proofs.Common.{◌≡◌, ℕ, Bool, Some, List, [], ◌∷◌, slice_get, ◌∙◌}
-use Rattle.sm_syntax.specs.claim.ConflictFree.{Copy}
-use Rattle.sm_syntax.specs.text.Sorts.{Sorts}
-use Rattle.sm_term.specs.Terms.{Tree, Lit, Start, Havoc, Slot, Cell, Read, Write, Neg, Add, Sub, Mul, Fun}
-use Rattle.sm_term.specs.Assertions.{Assertion, Yes, No, Eq, Ne, Le, Lt, And, Or}
-use Rattle.sm_term.specs.Slots.{fill_term, at_stores, all_at_stores}
-use Rattle.sm_term.specs.Sorted.{IsDeclaredIn, IsSorted, IsFormSorted, AreFormsSorted, IsStoreSorted}
-use Rattle.sm_term.specs.Symbolic.{SymbolicStore}
-use Rattle.sm_plan.specs.SortedStates.{IsStateSorted}
-use Rattle.sm_plan.specs.States.{State}
+use Rattle.sm_write.proofs.Imports.{◌≡◌, ℕ, Bool, Some, List, [], ◌∷◌, slice_get, ◌∙◌, Copy, Sorts, Tree, Start, Havoc, Slot, Cell, Read, Write, Neg, Add, Sub, Mul, Fun, Assertion, fill_term, at_stores, all_at_stores, IsDeclaredIn, IsSorted, IsFormSorted, AreFormsSorted, IsStoreSorted, SymbolicStore, IsStateSorted, State, EachSide, AllSides, PassesTest, IsClosed, Nameable, NoTerm, IsBuilt}
+use Rattle.sm_term.specs.Terms.{Lit}
+use Rattle.sm_term.specs.Assertions.{Yes, No, Eq, Ne, Le, Lt, And, Or}
 use Rattle.sm_plan.proofs.SortedTerms.{filled_sorted}
-use Rattle.sm_write.specs.Nameable.{EachSide, AllSides, PassesTest, IsClosed, Nameable}
-use Rattle.sm_write.specs.PlainPlans.{NoTerm}
-use Rattle.sm_write.specs.Seen.{IsBuilt}
 use Rattle.sm_write.proofs.BranchNameable.{in_state}
 
 module _ (sorts : Sorts) (states : List State) where

@@ -1,12 +1,9 @@
 -- The text of a line has no line feed, and is no longer than a line may be.
-use Rattle.std.proofs.Common.{◌≡◌, ℕ, ℤ, pos, negsuc, suc, ◌+◌, ◌*◌, ◌^◌, ◌<◌, ◌≤◌, ◌==◌, Bool, true, false, if◌then◌else◌, List, [], ◌∷◌, ◌++◌, map, length, refl, ap, ◌∙◌, arith, length-append}
-use Rattle.std.specs.Fmt.{decimal, signed_decimal}
+use Rattle.sm_write.proofs.Imports.{◌≡◌, ℕ, ℤ, pos, negsuc, suc, ◌+◌, ◌*◌, ◌^◌, ◌<◌, ◌≤◌, ◌==◌, Bool, true, false, if◌then◌else◌, List, [], ◌∷◌, ◌++◌, map, length, refl, ap, ◌∙◌, arith, decimal, signed_decimal, ne_eqb, Decides-ltb, facts_named, IsWithinFields, AreNumbers, numbers_of, version_word, head_word, term_word, form_word, ProofLine, NumberedLine, Header, Form, Cert, TermLine, NodeLine, FormLine, line_head, Head, line_words, HasKnownVersion, IsReadable, version_where, AreShortNumbers}
+use Rattle.std.proofs.Common.{length-append}
 use Rattle.std.specs.Str.Parse.{AllDigits}
-use Rattle.std.proofs.lemmas.Bool.{ne_eqb}
-use Rattle.std.proofs.lemmas.Bool.Decides.{Decides-ltb}
 use Rattle.std.proofs.lemmas.Fmt.{decimal_is_IsNumeral_wide, length-decimal-le, length-decimal-le_wide}
 use Rattle.std.proofs.lemmas.Str.Parse.{digit_from_value}
-use Rattle.sm_theory.specs.Named.{facts_named}
 use Rattle.sm_num.specs.Range.{fits}
 use Rattle.sm_proof.specs.declared.kind.FormKind.TheVariants as kind
 use Rattle.sm_proof.specs.declared.kind.TermKind.TheVariants as kinds
@@ -14,21 +11,11 @@ use Rattle.sm_proof.specs.declared.line.FormLine.TheVariants as form
 use Rattle.sm_proof.specs.declared.line.NodeLine.TheVariants as node
 use Rattle.sm_proof.specs.declared.line.TermLine.TheVariants as term
 use Rattle.sm_proof.specs.declared.word.Head.TheVariants as head
-use Rattle.sm_proof.specs.FieldRanges.{IsWithinFields, AreNumbers, numbers_of}
 use Rattle.sm_proof.specs.Fields.{copy, side, set}
-use Rattle.sm_proof.specs.HeadWords.{version_word, head_word, term_word, form_word}
-use Rattle.sm_proof.specs.Lines.{ProofLine, NumberedLine, Header, Term, Form, Node, Cert}
-use Rattle.sm_proof.specs.declared.line.TermLine.{TermLine}
-use Rattle.sm_proof.specs.declared.line.NodeLine.{NodeLine}
-use Rattle.sm_proof.specs.declared.line.FormLine.{FormLine}
+use Rattle.sm_proof.specs.Lines.{Term, Node}
 use Rattle.sm_proof.specs.Lines as line
-use Rattle.sm_proof.specs.Named.{line_head}
-use Rattle.sm_proof.specs.declared.word.Head.{Head}
-use Rattle.sm_proof.specs.Spelling.{spaced, spelled, line_words, HasKnownVersion}
+use Rattle.sm_proof.specs.Spelling.{spaced, spelled}
 use Rattle.sm_proof.proofs.NumberLemmas.{literal_fits}
-use Rattle.sm_prune.specs.Texts.{IsReadable}
-use Rattle.sm_write.specs.Versions.{version_where}
-use Rattle.sm_write.specs.Writable.{AreShortNumbers}
 use Rattle.sm_proof.proofs.ClearLemmas.{small_copy, small_side, small_set}
 
 -- whether bytes have a line feed

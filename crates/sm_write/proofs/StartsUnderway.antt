@@ -1,38 +1,10 @@
 -- A plan that is writable is underway where its task's start waits, and nothing is written.
-use Rattle.std.proofs.Common.{◌≡◌, ℕ, ◌<◌, ◌^◌, nat_le, Bool, true, false, if◌then◌else◌, Some, None, List, [], ◌∷◌, ◌++◌, length, map, refl, sym, ap, ◌∙◌, subst, arith}
-use Rattle.sm_syntax.specs.claim.ConflictFree.{Copy, copy_of}
-use Rattle.sm_syntax.specs.text.Parts.{Parts, sort_of, task_of}
-use Rattle.sm_syntax.specs.text.Sorts.{Sorts}
-use Rattle.sm_term.specs.Assertions.{Assertion}
-use Rattle.sm_term.specs.Formulas.{assertion_in}
-use Rattle.sm_term.specs.Tables.{TableValue, trees_in, sorts_in}
-use Rattle.sm_term.specs.declared.term.TermId.{TermId}
-use Rattle.sm_term.specs.TableLaws.{ExtendsTable}
-use Rattle.sm_term.specs.Terms.{Tree}
-use Rattle.sm_cert.specs.Certificates.{Certificate}
-use Rattle.sm_cert.specs.Views.{certificate_in}
-use Rattle.sm_cert.specs.declared.tree.CertTree.{CertTree}
-use Rattle.sm_plan.specs.Masks.{set_of}
+use Rattle.sm_write.proofs.Imports.{◌≡◌, ℕ, ◌<◌, ◌^◌, nat_le, Bool, true, false, if◌then◌else◌, Some, None, List, [], ◌∷◌, ◌++◌, length, map, refl, sym, ap, ◌∙◌, subst, arith, Copy, copy_of, Parts, sort_of, task_of, Sorts, Assertion, assertion_in, TableValue, trees_in, sorts_in, TermId, ExtendsTable, Tree, Certificate, certificate_in, CertTree, set_of, nodes_of, all_nodes, IsTaskSorted, IsNodeSorted, start_state, state_in, start_progress, Subject, subject_of, NumberedNode, NumberedPlan, NumberedPlans, of_copy_or, node_over, plan_over, plans_over, IsKeepReady, IsPlanReady, ArePlansReady, numbered_at, plan_stays, PlacedState, AreTreesWithin, IsUnderway, IsFresh, AreWaiting, IsWritable, WriterValue, Stands, AreSeenNamed, Names, AreNames}
 use Rattle.sm_plan.specs.Nodes as plain
 use Rattle.sm_plan.specs.Nodes.{Node}
-use Rattle.sm_plan.specs.Plans.{nodes_of, all_nodes}
-use Rattle.sm_plan.specs.SortedStates.{IsTaskSorted, IsNodeSorted}
-use Rattle.sm_plan.specs.States.{start_state}
-use Rattle.sm_plan.specs.Views.{state_in}
 use Rattle.sm_plan.proofs.NodeSorted.{node_sorted}
 use Rattle.sm_plan.proofs.SortedStates.{start_sorted}
-use Rattle.sm_proof.specs.Passing.{start_progress}
-use Rattle.sm_proof.specs.Verdicts.{Subject, subject_of}
-use Rattle.sm_expand.specs.NumberedPlans.{NumberedNode, Step, Abs, Fork, Loop, Block, Dead, Ends, NumberedPlan, At, NumberedPlans, Over, More, of_copy_or, node_over, plan_over, plans_over, IsKeepReady, IsPlanReady, ArePlansReady}
-use Rattle.sm_expand.specs.Cursors.{numbered_at}
-use Rattle.sm_expand.proofs.PlansWiden.{plan_stays}
-use Rattle.sm_expand.specs.declared.placed.PlacedState.{PlacedState}
-use Rattle.sm_write.specs.TreesWithin.{AreTreesWithin}
-use Rattle.sm_write.specs.Underway.{IsUnderway, IsFresh}
-use Rattle.sm_write.specs.Waiting.{AreWaiting}
-use Rattle.sm_write.specs.Writable.{IsWritable}
-use Rattle.sm_write.specs.Writers.{WriterValue, Stands, AreSeenNamed}
-use Rattle.sm_write.specs.Written.{Names, AreNames}
+use Rattle.sm_expand.specs.NumberedPlans.{Step, Abs, Fork, Loop, Block, Dead, Ends, At, Over, More}
 use Rattle.sm_write.proofs.ReadyPlans.{AreNodesSorted, writable_ready}
 use Rattle.sm_write.proofs.TreesStay.{trees_stay}
 

@@ -1,21 +1,6 @@
 -- A state that was named was seen, and names stay while a table widens.
-use Rattle.std.proofs.Common.{◌≡◌, inl, inr, ℕ, List, [], ◌∷◌, ◌++◌, ap, sym, subst, ◌∙◌}
-use Rattle.sm_syntax.specs.claim.ConflictFree.{Copy, O, A, B, M}
-use Rattle.sm_syntax.specs.declared.copies.PerCopy.{PerCopy}
-use Rattle.sm_term.specs.Symbolic.{SymbolicStore}
-use Rattle.sm_term.specs.SymStores.{store_in}
-use Rattle.sm_term.specs.declared.symbolic.SymStore.{SymStore}
-use Rattle.sm_term.specs.Tables.{TableValue, trees_in}
-use Rattle.sm_term.specs.Terms.{Tree}
-use Rattle.sm_plan.specs.States.{State}
-use Rattle.sm_plan.specs.Views.{stores_in}
-use Rattle.sm_proof.specs.Passing.{Pending, Due, Progress}
-use Rattle.sm_proof.specs.Verdicts.{Subject}
-use Rattle.sm_write.specs.Held.{IsTreeNamed, Shows, NamesStore, NamesState}
-use Rattle.sm_write.specs.Seen.{IsAtom, Seen}
-use Rattle.sm_write.specs.Walked.{Extends}
-use Rattle.sm_write.specs.Writers.{WriterValue, AreSeenNamed}
-use Rattle.sm_write.specs.Written.{Names}
+use Rattle.sm_write.proofs.Imports.{◌≡◌, inl, inr, ℕ, List, [], ◌∷◌, ◌++◌, ap, sym, subst, ◌∙◌, Copy, O, A, B, M, PerCopy, SymbolicStore, store_in, SymStore, TableValue, trees_in, Tree, State, stores_in, Pending, Progress, Subject, IsTreeNamed, Shows, NamesStore, NamesState, IsAtom, Seen, Extends, WriterValue, AreSeenNamed, Names}
+use Rattle.sm_proof.specs.Passing.{Due}
 use Rattle.sm_write.proofs.BuiltStates.{With}
 use Rattle.sm_write.proofs.HeldLemmas.{tree_kept}
 use Rattle.sm_write.proofs.SeenLemmas.{seen_back}

@@ -1,27 +1,9 @@
 -- Where a proof comes by one line.
-use Rattle.std.proofs.Common.{◌≡◌, ℕ, suc, Bool, true, if◌then◌else◌, Option, Some, Result, Ok, List, [], ◌∷◌, ◌++◌, length, ap, ◌∙◌}
-use Rattle.sm_syntax.specs.claim.ConflictFree.{Copy}
-use Rattle.sm_syntax.specs.text.Sorts.{Sorts}
-use Rattle.sm_term.specs.Assertions.{Assertion}
-use Rattle.sm_term.specs.Symbolic.{SymbolicStore}
-use Rattle.sm_term.specs.Terms.{Tree}
-use Rattle.sm_theory.specs.Facts.{BranchFact}
-use Rattle.sm_theory.specs.Lines.{CertificateLine}
-use Rattle.sm_theory.specs.Ways.{ways}
-use Rattle.sm_theory.specs.Named.{is_split}
-use Rattle.sm_plan.specs.Limits.{is_shallow}
-use Rattle.sm_plan.specs.NodeLists.{above_opened}
+use Rattle.sm_write.proofs.Imports.{◌≡◌, ℕ, suc, Bool, true, if◌then◌else◌, Option, Some, Result, Ok, List, [], ◌∷◌, ◌++◌, length, ap, ◌∙◌, Copy, Sorts, Assertion, SymbolicStore, Tree, BranchFact, CertificateLine, ways, is_split, is_shallow, above_opened, opened_by, State, NumberedLine, Form, Cert, TermLine, NodeLine, FormLine, found_or, tested_or, and_then, named_line, named_node, node_head, line_head, Word, BadNumber, Deep, First, Pending, Branch, Progress, opened_before, branches_before, term_made, form_made, taken_at, after_node, after_line, taken}
 use Rattle.sm_plan.specs.Nodes as plan
-use Rattle.sm_plan.specs.Nodes.{Opened, opened_by}
-use Rattle.sm_plan.specs.States.{State}
-use Rattle.sm_proof.specs.Lines.{NumberedLine, Term, Form, Node, Cert}
-use Rattle.sm_proof.specs.declared.line.TermLine.{TermLine}
-use Rattle.sm_proof.specs.declared.line.NodeLine.{NodeLine}
-use Rattle.sm_proof.specs.declared.line.FormLine.{FormLine}
-use Rattle.sm_proof.specs.Named.{found_or, tested_or, and_then, named_line, named_node, node_head, line_head}
-use Rattle.sm_proof.specs.declared.word.Word.{Word}
-use Rattle.sm_proof.specs.declared.word.Word.TheVariants.{BadNumber, Deep, First}
-use Rattle.sm_proof.specs.Passing.{Pending, Due, Branch, Progress, opened_before, branches_before, term_made, form_made, taken_at, after_node, after_line, taken}
+use Rattle.sm_plan.specs.Nodes.{Opened}
+use Rattle.sm_proof.specs.Lines.{Term, Node}
+use Rattle.sm_proof.specs.Passing.{Due}
 
 -- a line that makes a term
 pub term_step : (sorts : Sorts) (p : Progress) (due : Pending) (rest : List Pending) (line : TermLine) (t : Tree) → p.pending ≡ due ∷ rest →

@@ -1,28 +1,5 @@
 -- Where a writer stands after a line of a certificate.
-use Rattle.std.proofs.Common.{◌≡◌, ℕ, suc, ◌+◌, ◌≤◌, max, drop, Some, Ok, Err, Result, List, [], ◌∷◌, ◌++◌, length, refl, sym, subst, ◌∙◌, arith}
-use Rattle.std.proofs.lemmas.List.{drop_all}
-use Rattle.std.specs.Prelude.{OnOk}
-use Rattle.sm_syntax.specs.claim.ConflictFree.{Copy}
-use Rattle.sm_term.specs.Symbolic.{SymbolicStore}
-use Rattle.sm_term.specs.Tables.{TableValue, trees_in}
-use Rattle.sm_term.specs.Terms.{Tree}
-use Rattle.sm_theory.specs.Facts.{BranchFact}
-use Rattle.sm_theory.specs.Views.{line_in}
-use Rattle.sm_theory.specs.declared.line.CertLine.{CertLine}
-use Rattle.sm_theory.specs.Ways.{ways}
-use Rattle.sm_plan.specs.States.{State}
-use Rattle.sm_proof.specs.Lines.{Cert}
-use Rattle.sm_proof.specs.Passing.{Pending, Branch, Progress, taken}
-use Rattle.sm_proof.specs.Verdicts.{Subject}
-use Rattle.sm_theory.specs.Named.{EachNamed}
-use Rattle.sm_cert.specs.Certificates.{Certificate, Next, Closed, Split, splits_above}
-use Rattle.sm_cert.specs.Views.{lines_before}
-use Rattle.sm_write.specs.Seen.{IsBuilt, Seen}
-use Rattle.sm_write.specs.Stepped.{Wrote, Stepped, Opens, Leaves, LinesLeft, ClosesBranch}
-use Rattle.sm_write.specs.Walked.{KeepsNames, IsSet}
-use Rattle.sm_write.specs.Writable.{IsShortLine}
-use Rattle.sm_write.specs.Writers.{WriterValue, Stands}
-use Rattle.sm_write.specs.Written.{Names, written}
+use Rattle.sm_write.proofs.Imports.{◌≡◌, ℕ, suc, ◌+◌, ◌≤◌, max, drop, Some, Ok, Err, Result, List, [], ◌∷◌, ◌++◌, length, refl, sym, subst, ◌∙◌, arith, drop_all, OnOk, Copy, SymbolicStore, TableValue, trees_in, Tree, BranchFact, line_in, CertLine, ways, State, Cert, Pending, Branch, Progress, taken, Subject, EachNamed, Certificate, Next, Closed, Split, splits_above, lines_before, IsBuilt, Seen, Wrote, Stepped, Opens, Leaves, LinesLeft, ClosesBranch, KeepsNames, IsSet, IsShortLine, WriterValue, Stands, Names, written}
 use Rattle.sm_write.proofs.CertSteps.{next_good, closed_good, split_good, next_taken, closed_taken, split_taken}
 use Rattle.sm_write.proofs.WalkedLemmas.{kept_none, kept_twice, seen_kept}
 use Rattle.sm_write.proofs.WriterSteps.{stands_line}

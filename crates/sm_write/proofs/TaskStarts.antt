@@ -1,20 +1,11 @@
 -- The state that a writer begins with is the start of its task.
-use Rattle.std.proofs.Common.{◌≡◌, Bor, Option, option_map, ap, ◌∙◌}
-use Rattle.std.proofs.Math.Path.{fun_ext}
+use Rattle.sm_write.proofs.Imports.{◌≡◌, Bor, Option, option_map, ap, ◌∙◌, fun_ext, Copy, Condition, sorted_outputs, task_of, of_copy, PerCopy, State, start_of, start_state, parts_of, assumed_same}
 use Rattle.std.specs.Option.{option_copied}
-use Rattle.sm_syntax.specs.claim.ConflictFree.{Copy}
-use Rattle.sm_syntax.specs.claim.Syntax.{Condition}
-use Rattle.sm_syntax.specs.text.Parts.{sorted_outputs, task_of}
-use Rattle.sm_syntax.specs.trees.Copies.{of_copy}
-use Rattle.sm_syntax.specs.declared.copies.PerCopy.{PerCopy}
 use Rattle.sm_syntax.specs.trees.Views.{condition_of, code_of}
 use Rattle.sm_syntax.specs.declared.tree.Block.{Block}
 use Rattle.sm_syntax.specs.declared.tree.Cond.{Cond}
-use Rattle.sm_plan.specs.States.{State, start_of, start_state}
 use Rattle.sm_task.specs.Filling.{AreFilled}
-use Rattle.sm_text.specs.Tasks.{parts_of}
 use Rattle.sm_text.specs.declared.task.Task.{Task}
-use Rattle.sm_syntax.proofs.Assumed.{assumed_same}
 
 -- the start that was made is that of the task
 pub start_is : (task : Task) (programs : PerCopy Block) (o : Option (Bor Cond)) (st : State) → AreFilled (parts_of task) programs →

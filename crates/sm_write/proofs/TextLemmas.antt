@@ -1,22 +1,9 @@
 -- A text of lines that are read back passes behind the line of its version, where they lead to the end of the proof.
-use Rattle.std.proofs.Common.{◌≡◌, ℕ, suc, ◌==◌, Bool, true, false, not, ◌&&◌, ◌||◌, if◌then◌else◌, Result, Ok, Err, List, [], ◌∷◌, ◌++◌, map, refl, ap, sym, subst, ◌∙◌}
-use Rattle.std.specs.List.{list_any}
+use Rattle.sm_write.proofs.Imports.{◌≡◌, ℕ, suc, ◌==◌, Bool, true, false, not, ◌&&◌, ◌||◌, if◌then◌else◌, Result, Ok, Err, List, [], ◌∷◌, ◌++◌, map, refl, ap, sym, subst, ◌∙◌, list_any, Sorts, Parts, ProofLine, Header, and_then, tested_or, Word, Truncated, BadLine, Pending, Progress, start_progress, taken, spelled, Subject, subject_of, passes_version, Standing, Underway, opens_if, Reached, Before, reached_after, FileLines, in_first_line, Pass, Rejected, none_waits, verdict, verdict_at_end, Passes, has_exact, is_exact, may_stand, begins_exact, line_text, bytes_of, IsReadable, AreReadable, advanced, Leads, has_exact_line, version_where, HasVersion}
 use Rattle.std.proofs.lemmas.List.{append_assoc}
-use Rattle.sm_syntax.specs.text.Sorts.{Sorts}
-use Rattle.sm_syntax.specs.text.Parts.{Parts}
-use Rattle.sm_proof.specs.Lines.{ProofLine, Header}
-use Rattle.sm_proof.specs.Named.{and_then, tested_or}
-use Rattle.sm_proof.specs.declared.word.Word.{Word}
-use Rattle.sm_proof.specs.declared.word.Word.TheVariants.{Truncated, BadLine}
-use Rattle.sm_proof.specs.Passing.{Pending, Progress, start_progress, taken}
-use Rattle.sm_proof.specs.Spelling.{spelled}
 use Rattle.sm_proof.specs.SpellingLaws.{SpelledReadsBack, ExactBegins}
-use Rattle.sm_proof.specs.Verdicts.{Subject, subject_of, passes_version, Standing, Underway, opens_if, Reached, Before, reached_after, FileLines, in_first_line, lines_in, Pass, Rejected, none_waits, verdict, verdict_at_end, Passes}
-use Rattle.sm_proof.specs.Versions.{has_exact, is_exact, may_stand, begins_exact}
+use Rattle.sm_proof.specs.Verdicts.{lines_in}
 use Rattle.sm_proof.specs.Cases.{reached_on, verdict_on, AreRead, FilesAreLines}
-use Rattle.sm_write.specs.Bytes.{line_text}
-use Rattle.sm_prune.specs.Texts.{bytes_of, IsReadable, AreReadable, advanced, Leads}
-use Rattle.sm_write.specs.Versions.{has_exact_line, version_where, HasVersion}
 use Rattle.sm_write.proofs.SpellingLemmas.{has_feed, is_one_line, header_readable}
 
 -- the lines of bytes behind a line without a line feed

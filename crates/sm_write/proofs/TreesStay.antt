@@ -1,10 +1,5 @@
 -- Certificates stay while a table widens.
-use Rattle.std.proofs.Common.{◌≡◌, List, [], ◌∷◌, length, map, refl}
-use Rattle.sm_term.specs.Tables.{TableValue, trees_in}
-use Rattle.sm_term.specs.TableLaws.{ExtendsTable}
-use Rattle.sm_cert.specs.Views.{certificate_in, lines_of}
-use Rattle.sm_cert.specs.declared.tree.CertTree.{CertTree}
-use Rattle.sm_write.specs.TreesWithin.{AreTreesWithin}
+use Rattle.sm_write.proofs.Imports.{◌≡◌, List, [], ◌∷◌, length, map, refl, TableValue, trees_in, ExtendsTable, certificate_in, lines_of, CertTree, AreTreesWithin}
 use Rattle.sm_write.proofs.CertificatesStay.{certificate_stays, lines_wider}
 
 module _ (v w : TableValue) (wider : ExtendsTable v w) where

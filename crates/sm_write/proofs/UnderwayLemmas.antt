@@ -1,47 +1,12 @@
 -- A plan is underway after a node, and done where nothing waits.
-use Rattle.std.proofs.Common.{◌≡◌, ℕ, true, Some, List, [], ◌∷◌, ◌++◌, drop, length, map, sym, ap, ◌∙◌, subst, arith}
-use Rattle.std.specs.Prelude.{Vec}
-use Rattle.std.specs.declared.alloc.Global.{Global}
-use Rattle.std.proofs.lemmas.List.{drop_all, map-append, length-map}
-use Rattle.std.proofs.lemmas.Option.{same_Some}
-use Rattle.sm_syntax.specs.claim.ConflictFree.{Copy}
-use Rattle.sm_term.specs.Assertions.{Assertion}
-use Rattle.sm_term.specs.Formulas.{numbered, assertion_in}
-use Rattle.sm_term.specs.declared.formula.Formula.{Formula}
-use Rattle.sm_term.specs.Tables.{TableValue, trees_in, sorts_in}
-use Rattle.sm_term.specs.TableLaws.{ExtendsTable}
-use Rattle.sm_cert.specs.Certificates.{Certificate}
-use Rattle.sm_cert.specs.Views.{certificate_in}
-use Rattle.sm_cert.specs.declared.tree.CertTree.{CertTree}
-use Rattle.sm_plan.specs.Limits.{is_shallow}
-use Rattle.sm_plan.specs.NodeLists.{above_opened}
+use Rattle.sm_write.proofs.Imports.{◌≡◌, ℕ, true, Some, List, [], ◌∷◌, ◌++◌, drop, length, map, sym, ap, ◌∙◌, subst, arith, Vec, Global, drop_all, map-append, length-map, same_Some, Copy, Assertion, numbered, assertion_in, Formula, TableValue, trees_in, sorts_in, ExtendsTable, Certificate, certificate_in, CertTree, is_shallow, above_opened, opened_by, State, stores_in, state_in, opened_in, successor_in, Pending, Progress, goal_branch, opened_before, Subject, node_over, plans_over, head, below, numbered_at, Cursor, plans_stay, IsAt, GoalsLeft, LeavesGoals, NodeWritten, AreClosed, IsBuilt, Seen, AreTreesWithin, AllStandFor, IsUnderway, OpeningWritten, IsWhole, ArePlacedReady, placed_with, PlacedState, IsSet, Waits, due_for, each_waits, AreWaiting, EachKept, denied, WriterValue, plans_of}
 use Rattle.sm_plan.specs.Nodes as plain
-use Rattle.sm_plan.specs.Nodes.{Node, opened_by}
+use Rattle.sm_plan.specs.Nodes.{Node}
 use Rattle.sm_plan.specs.Plans as tree
-use Rattle.sm_plan.specs.States.{State}
-use Rattle.sm_plan.specs.Views.{stores_in, state_in, opened_in, successor_in}
 use Rattle.sm_plan.specs.declared.opening.Opened.{Opened}
-use Rattle.sm_proof.specs.Passing.{Pending, Due, Progress, goal_branch, opened_before}
-use Rattle.sm_proof.specs.Verdicts.{Subject}
-use Rattle.sm_expand.specs.NumberedPlans.{node_over, plans_over, head, below}
-use Rattle.sm_expand.specs.Cursors.{numbered_at}
-use Rattle.sm_expand.specs.declared.cursor.Cursor.{Cursor}
+use Rattle.sm_proof.specs.Passing.{Due}
 use Rattle.sm_expand.proofs.PairsLemmas.{plan_is}
-use Rattle.sm_expand.proofs.PlansWiden.{plans_stay}
-use Rattle.sm_write.specs.GoalsWritten.{IsAt, GoalsLeft, LeavesGoals}
-use Rattle.sm_write.specs.NodesWritten.{NodeWritten}
-use Rattle.sm_write.specs.Ready.{AreClosed}
-use Rattle.sm_write.specs.Seen.{IsBuilt, Seen}
-use Rattle.sm_write.specs.TreesWithin.{AreTreesWithin}
-use Rattle.sm_write.specs.Underway.{AllStandFor, IsUnderway, OpeningWritten, IsWhole}
-use Rattle.sm_expand.specs.PlacedStates.{ArePlacedReady, placed_with}
-use Rattle.sm_expand.specs.declared.placed.PlacedState.{PlacedState}
-use Rattle.sm_write.specs.Walked.{IsSet}
-use Rattle.sm_write.specs.Waiting.{Waits, due_for, each_waits, AreWaiting}
-use Rattle.sm_write.specs.Writable.{EachKept, denied}
-use Rattle.sm_write.specs.Writers.{WriterValue}
 use Rattle.sm_write.proofs.OpenedWait.{opened_stand}
-use Rattle.sm_expand.proofs.PlacedLemmas.{plans_of}
 use Rattle.sm_write.proofs.TreesStay.{trees_stay}
 use Rattle.sm_write.proofs.WaitingLemmas.{NodeReady, first_waits}
 use Rattle.sm_write.proofs.WaitingStays.{at_stays, all_stay}

@@ -1,19 +1,9 @@
 -- After a node, what it opened waits before the others.
-use Rattle.std.proofs.Common.{◌≡◌, ℕ, suc, ◌+◌, true, Some, List, [], ◌∷◌, ◌++◌, map, refl, ap, sym, subst, ◌∙◌, arith}
+use Rattle.sm_write.proofs.Imports.{◌≡◌, ℕ, suc, ◌+◌, true, Some, List, [], ◌∷◌, ◌++◌, map, refl, ap, sym, subst, ◌∙◌, arith, Sorts, Certificate, is_shallow, above_opened, opened_by, Plans, size, sizes, State, Pending, states_opened, plan_states, plans_states, AreClosed, AreReady, IsBuilt, Seen, Waits, due_for, each_waits, AreWaiting, EachKept, denied}
 use Rattle.std.proofs.lemmas.List.{append_assoc, append-nil}
-use Rattle.sm_syntax.specs.text.Sorts.{Sorts}
-use Rattle.sm_cert.specs.Certificates.{Certificate}
-use Rattle.sm_plan.specs.Limits.{is_shallow}
-use Rattle.sm_plan.specs.NodeLists.{above_opened}
-use Rattle.sm_plan.specs.Nodes.{Node, Opened, opened_by}
-use Rattle.sm_plan.specs.Plans.{At, Plans, Over, More, size, sizes}
-use Rattle.sm_plan.specs.States.{State}
-use Rattle.sm_proof.specs.Passing.{Pending, Due}
-use Rattle.sm_write.specs.PlanStates.{states_opened, plan_states, plans_states}
-use Rattle.sm_write.specs.Ready.{AreClosed, AreReady}
-use Rattle.sm_write.specs.Seen.{IsBuilt, Seen}
-use Rattle.sm_write.specs.Waiting.{Waits, due_for, each_waits, AreWaiting}
-use Rattle.sm_write.specs.Writable.{EachKept, denied}
+use Rattle.sm_plan.specs.Nodes.{Node, Opened}
+use Rattle.sm_plan.specs.Plans.{At, Over, More}
+use Rattle.sm_proof.specs.Passing.{Due}
 
 -- plans that are ready wait before the others
 pub opened_wait : (sorts : Sorts) (above : ℕ) (states : List State) (ps : Plans) (seen : List State) (k : ℕ) (ws : List Waits)

@@ -1,22 +1,5 @@
 -- What was written and what waits stay while a table widens.
-use Rattle.std.proofs.Common.{◌≡◌, ℕ, ◌<◌, Some, List, [], ◌∷◌, length, slice_get, sym, ap, ◌∙◌, arith}
-use Rattle.sm_term.specs.Tables.{TableValue, trees_in, tree_at}
-use Rattle.sm_term.specs.declared.term.TermId.{TermId}
-use Rattle.sm_term.specs.TableLaws.{ExtendsTable}
-use Rattle.sm_term.specs.Terms.{Tree}
-use Rattle.sm_plan.specs.States.{State}
-use Rattle.sm_plan.proofs.TablesWiden.{longer, tree_stays, state_stays, state_ready}
-use Rattle.sm_proof.specs.Passing.{Progress}
-use Rattle.sm_proof.specs.Verdicts.{Subject}
-use Rattle.sm_expand.specs.Cursors.{numbered_at}
-use Rattle.sm_expand.proofs.PlansWiden.{plan_stays, plan_ready}
-use Rattle.sm_write.specs.GoalsWritten.{IsAt}
-use Rattle.sm_write.specs.Underway.{StandsFor, AllStandFor}
-use Rattle.sm_expand.specs.PlacedStates.{IsPlacedReady, ArePlacedReady}
-use Rattle.sm_expand.specs.declared.placed.PlacedState.{PlacedState}
-use Rattle.sm_write.specs.Waiting.{Waits}
-use Rattle.sm_write.specs.Writers.{WriterValue, AreSeenNamed}
-use Rattle.sm_write.specs.Written.{Names, AreNames}
+use Rattle.sm_write.proofs.Imports.{◌≡◌, ℕ, ◌<◌, Some, List, [], ◌∷◌, length, slice_get, sym, ap, ◌∙◌, arith, TableValue, trees_in, tree_at, TermId, ExtendsTable, Tree, State, longer, tree_stays, state_stays, state_ready, Progress, Subject, numbered_at, plan_stays, plan_ready, IsAt, StandsFor, AllStandFor, IsPlacedReady, ArePlacedReady, PlacedState, Waits, WriterValue, AreSeenNamed, Names, AreNames}
 
 module _ (v w : TableValue) (wider : ExtendsTable v w) where
   -- numbers of terms

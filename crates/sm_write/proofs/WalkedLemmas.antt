@@ -1,24 +1,6 @@
 -- A walk over the parts of a term goes down to a part without a number, or up with one number more.
-use Rattle.std.proofs.Common.{◌≡◌, ◌≢◌, ℕ, ◌<◌, true, false, nat_eq, Option, Some, None, Ok, List, [], ◌∷◌, ◌++◌, length, refl, ap, sym, subst, ◌∙◌, ⊎_elim}
-use Rattle.std.specs.Map.{update}
-use Rattle.std.proofs.lemmas.Map.{update_here, update_apart}
-use Rattle.std.proofs.lemmas.Bool.{cases_Bool}
-use Rattle.std.proofs.lemmas.Bool.Decides.{Decides-eqb}
-use Rattle.sm_syntax.specs.text.Sorts.{Sorts}
-use Rattle.sm_term.specs.TableLaws.{AreApart}
-use Rattle.sm_term.specs.Tables.{TableValue, trees_in, tree_at}
-use Rattle.sm_term.specs.declared.term.TermId.{TermId}
-use Rattle.sm_term.specs.Terms.{Tree, Lit, Start, Havoc, Slot, Cell, Read, Write, Neg, Add, Sub, Mul, Fun}
-use Rattle.sm_plan.specs.States.{State}
-use Rattle.sm_proof.specs.declared.line.TermLine.{TermLine}
-use Rattle.sm_proof.specs.FieldRanges.{IsTermLineWithin}
-use Rattle.sm_proof.specs.Passing.{Pending, Progress, term_made}
-use Rattle.sm_proof.specs.Verdicts.{Subject}
-use Rattle.sm_write.specs.Naming.{IsLineOf, IsOpenPart}
-use Rattle.sm_write.specs.Seen.{IsBuilt, IsAtom, Seen}
-use Rattle.sm_write.specs.Walked.{KeepsNames, Extends, IsSet, AreBuiltAt, Walks}
-use Rattle.sm_write.specs.Writers.{WriterValue, Stands, AreSeenNamed, Adds}
-use Rattle.sm_write.specs.Written.{Names, IsNamed}
+use Rattle.sm_write.proofs.Imports.{◌≡◌, ◌≢◌, ℕ, ◌<◌, true, false, nat_eq, Option, Some, None, Ok, List, [], ◌∷◌, ◌++◌, length, refl, ap, sym, subst, ◌∙◌, ⊎_elim, update, update_here, update_apart, cases_Bool, Decides-eqb, Sorts, AreApart, TableValue, trees_in, tree_at, TermId, Tree, Start, Havoc, Slot, Cell, Read, Write, Neg, Add, Sub, Mul, Fun, State, TermLine, IsTermLineWithin, Pending, Progress, term_made, Subject, IsLineOf, IsOpenPart, IsBuilt, IsAtom, Seen, KeepsNames, Extends, IsSet, AreBuiltAt, Walks, WriterValue, Stands, AreSeenNamed, Adds, Names, IsNamed}
+use Rattle.sm_term.specs.Terms.{Lit}
 use Rattle.sm_write.proofs.WriterSteps.{adds_none, adds_twice}
 
 -- an atom that is built is of the kind

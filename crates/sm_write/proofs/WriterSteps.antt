@@ -1,28 +1,10 @@
 -- Where a writer stands after one line more.
-use Rattle.std.proofs.Common.{◌≡◌, ◌≢◌, ℕ, suc, ◌<◌, ◌^◌, true, false, ◌||◌, nat_eq, Some, slice_get, Ok, List, [], ◌∷◌, ◌++◌, length, refl, ap, sym, subst, ◌∙◌, arith, length-append, ⊎_elim}
-use Rattle.std.specs.Map.{update}
-use Rattle.std.proofs.lemmas.Map.{update_here, update_apart}
-use Rattle.std.proofs.lemmas.Bool.{cases_Bool}
-use Rattle.std.proofs.lemmas.Bool.Decides.{Decides-eqb}
-use Rattle.sm_term.specs.Assertions.{Assertion}
-use Rattle.sm_term.specs.Tables.{tree_at}
-use Rattle.sm_term.specs.declared.term.TermId.{TermId}
-use Rattle.sm_term.specs.Terms.{Tree}
-use Rattle.sm_proof.specs.FieldRanges.{IsTermLineWithin, IsFormLineWithin}
-use Rattle.sm_proof.specs.Lines.{ProofLine, Term, Form}
-use Rattle.sm_proof.specs.declared.line.TermLine.{TermLine}
-use Rattle.sm_proof.specs.declared.line.FormLine.{FormLine}
-use Rattle.sm_proof.specs.Passing.{Pending, Progress, term_made, form_made, taken}
-use Rattle.sm_proof.specs.Verdicts.{Subject}
-use Rattle.sm_proof.specs.Versions.{is_exact}
-use Rattle.sm_write.specs.Bytes.{line_text}
-use Rattle.sm_prune.specs.Texts.{IsReadable}
-use Rattle.sm_write.specs.Writers.{WriterValue, Stands, Adds}
-use Rattle.sm_write.specs.Written.{Names, AreNames}
+use Rattle.sm_write.proofs.Imports.{◌≡◌, ◌≢◌, ℕ, suc, ◌<◌, ◌^◌, true, false, ◌||◌, nat_eq, Some, slice_get, Ok, List, [], ◌∷◌, ◌++◌, length, refl, ap, sym, subst, ◌∙◌, arith, ⊎_elim, update, update_here, update_apart, cases_Bool, Decides-eqb, Assertion, tree_at, TermId, Tree, IsTermLineWithin, IsFormLineWithin, ProofLine, Form, TermLine, FormLine, Pending, Progress, term_made, form_made, taken, Subject, is_exact, line_text, IsReadable, WriterValue, Stands, Adds, Names, AreNames, get_in_first, get_last}
+use Rattle.std.proofs.Common.{length-append}
+use Rattle.sm_proof.specs.Lines.{Term}
 use Rattle.sm_write.proofs.SpellingLemmas.{term_readable, form_readable}
 use Rattle.sm_write.proofs.StepLemmas.{term_step, form_step}
 use Rattle.sm_write.proofs.TextLemmas.{leads_on}
-use Rattle.sm_lemmas.proofs.Lists.{get_in_first, get_last}
 
 -- a list with one more is longer by one
 pub get_length : {T : Type 0} (xs : List T) (x : T) (ys : List T) → ys ≡ xs ++ x ∷ [] → length ys ≡ suc (length xs)

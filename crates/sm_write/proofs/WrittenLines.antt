@@ -1,25 +1,10 @@
 -- A line of a certificate as it is written stands for the line, and is read back.
-use Rattle.std.proofs.Common.{◌≡◌, ℕ, ◌<◌, ◌≤◌, ◌^◌, true, Option, Some, slice_get, List, [], ◌∷◌, length, sym, ap, subst, ◌∙◌, arith}
-use Rattle.std.proofs.lemmas.Option.{get_or_from_slice_get}
-use Rattle.sm_term.specs.Tables.{tree_at}
-use Rattle.sm_term.specs.declared.term.TermId.{TermId}
-use Rattle.sm_term.specs.Terms.{Tree}
+use Rattle.sm_write.proofs.Imports.{◌≡◌, ℕ, ◌<◌, ◌≤◌, ◌^◌, true, Option, Some, slice_get, List, [], ◌∷◌, length, sym, ap, subst, ◌∙◌, arith, get_or_from_slice_get, tree_at, TermId, Tree, CertificateLine, facts_named, reads_all, is_split, line_in, CertLine, facts_with, reads_with, splits_with, with_twice, with_same, each_with, each_more, AreNumbers, numbers_of, Cert, are_there, named_line, IsReadable, AreShortNumbers, IsShortLine, Names, AreNames, number_or, number_at, file_number, IsNumbered, IsNamed, written, IsLineNamed, below_if_got}
 use Rattle.sm_theory.specs.declared.line.CertLine.TheVariants as line
-use Rattle.sm_theory.specs.Lines.{CertificateLine}
-use Rattle.sm_theory.specs.Named.{facts_named, reads_all, is_split}
-use Rattle.sm_theory.specs.Views.{line_in}
-use Rattle.sm_theory.specs.declared.line.CertLine.{CertLine}
-use Rattle.sm_theory.proofs.LinesOver.{facts_with, reads_with, splits_with, with_twice, with_same, each_with, each_more}
-use Rattle.sm_proof.specs.FieldRanges.{AreNumbers, numbers_of}
-use Rattle.sm_proof.specs.Lines.{Cert, numbered_line}
-use Rattle.sm_proof.specs.Named.{are_there, named_line}
+use Rattle.sm_proof.specs.Lines.{numbered_line}
 use Rattle.sm_proof.proofs.NamedKept.{named_from}
-use Rattle.sm_prune.specs.Texts.{IsReadable}
-use Rattle.sm_write.specs.Writable.{AreShortNumbers, IsShortLine}
-use Rattle.sm_write.specs.Written.{Names, AreNames, number_or, number_at, file_number, IsNumbered, IsNamed, written, IsLineNamed}
 use Rattle.sm_write.proofs.FactsThere.{AreStepsShort}
 use Rattle.sm_write.proofs.SpellingLemmas.{short_cert, numbers_few}
-use Rattle.sm_lemmas.proofs.Lists.{below_if_got}
 
 -- the number of a term leads to it
 pub number_leads : (trees : List Tree) (names : Names) (terms : List Tree) → AreNames trees names terms → (t : TermId) → IsNamed names t →

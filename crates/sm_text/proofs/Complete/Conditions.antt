@@ -1,20 +1,11 @@
 -- Each condition that the grammar spells is read, or refused at the first symbol that nests too deep.
-use Rattle.std.proofs.Common.{◌≡◌, ℕ, suc, zero, ◌+◌, refl, sym, ap, ◌∙◌, subst, arith, Bool, false, Option, Some, None, Result, Ok, List, [], ◌∷◌, ◌++◌}
+use Rattle.sm_text.proofs.Imports.{◌≡◌, ℕ, suc, zero, ◌+◌, refl, sym, ap, ◌∙◌, subst, arith, Bool, false, Option, Some, None, Result, Ok, List, [], ◌∷◌, ◌++◌, Expression, Condition, Cmp, Eq, Ne, Lt, Le, Gt, Ge, Marked, word, opens, joins, Symbol, Mark, IsExpression, comparison, Rank, IsCondition, first, Parser, go_on, ◌>>=◌, pure, stands, chain_in, unmarked}
 use Rattle.sm_syntax.specs.declared.symbol.Mark.TheVariants as mark
 use Rattle.sm_syntax.specs.declared.symbol.Symbol.TheVariants as s
 use Rattle.sm_syntax.specs.claim.Syntax as plain_code
-use Rattle.sm_syntax.specs.claim.Syntax.{Expression, Condition}
-use Rattle.sm_syntax.specs.declared.tree.Cmp.{Cmp}
-use Rattle.sm_syntax.specs.declared.tree.Cmp.TheVariants.{Eq, Ne, Lt, Le, Gt, Ge}
 use Rattle.sm_syntax.specs.text.ExpressionGrammar as exp
 use Rattle.sm_syntax.specs.text.ConditionGrammar as cond
-use Rattle.sm_syntax.specs.text.MarkedSymbols.{Marked, word, opens, joins}
-use Rattle.sm_syntax.specs.declared.symbol.Symbol.{Symbol}
-use Rattle.sm_syntax.specs.declared.symbol.Mark.{Mark}
-use Rattle.sm_syntax.specs.text.ExpressionGrammar.{IsExpression}
-use Rattle.sm_syntax.specs.text.ConditionGrammar.{comparison, Rank, IsCondition}
-use Rattle.sm_text.specs.rules.Parsers.{first, Parser, go_on, ◌>>=◌, pure, stands, chain_in, Fault}
-use Rattle.sm_text.specs.parsing.Places.{unmarked}
+use Rattle.sm_text.specs.rules.Parsers.{Fault}
 use Rattle.sm_text.specs.rules.Reading as r
 use Rattle.sm_text.proofs.Sound.Chained.{chain-end}
 use Rattle.sm_text.proofs.Complete.Parsers.{reach, next, reads-then, go_on-pure, Opened, inside-then, room, chain-first, chain-more}

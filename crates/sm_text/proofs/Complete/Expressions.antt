@@ -1,19 +1,11 @@
 -- Each expression that the grammar spells is read, or refused at the first symbol that nests too deep.
-use Rattle.std.proofs.Common.{◌≡◌, ℕ, suc, zero, ◌+◌, ℤ, refl, sym, ap, ◌∙◌, arith, Bool, true, false, Option, Some, None, Ok, List, [], ◌∷◌, ◌++◌}
+use Rattle.sm_text.proofs.Imports.{◌≡◌, ℕ, suc, zero, ◌+◌, ℤ, refl, sym, ap, ◌∙◌, arith, Bool, true, false, Option, Some, None, Ok, List, [], ◌∷◌, ◌++◌, nat_tests, Expression, Marked, plain, word, opens, joins, Symbol, Mark, Level, IsExpression, first, pure, stands, chain_in, unmarked}
 use Rattle.std.specs.Prelude.{nat_le}
-use Rattle.std.proofs.lemmas.Bool.Decides.{nat_tests}
 use Rattle.sm_syntax.specs.declared.symbol.Mark.TheVariants as mark
 use Rattle.sm_syntax.specs.declared.symbol.Symbol.TheVariants as s
 use Rattle.sm_syntax.specs.declared.tree.Name.{Name}
 use Rattle.sm_syntax.specs.claim.Syntax as plain_code
-use Rattle.sm_syntax.specs.claim.Syntax.{Expression}
 use Rattle.sm_syntax.specs.text.ExpressionGrammar as exp
-use Rattle.sm_syntax.specs.text.MarkedSymbols.{Marked, plain, word, opens, joins}
-use Rattle.sm_syntax.specs.declared.symbol.Symbol.{Symbol}
-use Rattle.sm_syntax.specs.declared.symbol.Mark.{Mark}
-use Rattle.sm_syntax.specs.text.ExpressionGrammar.{Level, IsExpression}
-use Rattle.sm_text.specs.rules.Parsers.{first, pure, stands, chain_in}
-use Rattle.sm_text.specs.parsing.Places.{unmarked}
 use Rattle.sm_text.specs.rules.Reading as r
 use Rattle.sm_text.proofs.Sound.Chained.{chain-end}
 use Rattle.sm_text.proofs.Complete.Parsers.{reach, reads-then, go_on-pure, Opened, inside-then, room, chain-first, chain-more}

@@ -1,15 +1,10 @@
 -- A parser on symbols that the grammar spells: it reads them all, or refuses at the first that nests too deep.
-use Rattle.std.proofs.Common.{◌≡◌, ℕ, suc, ◌-◌, ◌<◌, refl, sym, ap, ◌∙◌, arith, Bool, true, false, Option, Some, None, Result, Ok, Err, List, [], ◌∷◌, ◌++◌, length, map}
+use Rattle.sm_text.proofs.Imports.{◌≡◌, ℕ, suc, ◌-◌, ◌<◌, refl, sym, ap, ◌∙◌, arith, Bool, true, false, Option, Some, None, Result, Ok, Err, List, [], ◌∷◌, ◌++◌, length, map, nat_tests, Marked, plain, word, opens, joins, Symbol, Mark, first, Parser, go_on, ◌>>◌, pure, inside_group, Operators, chain_in, gather, Nested, unmarked}
 use Rattle.std.specs.Prelude.{nat_le}
-use Rattle.std.proofs.lemmas.Bool.Decides.{nat_tests}
 use denote.Enum.Bare.{sameb, true_same}
 use Rattle.sm_syntax.specs.contracts.symbol.Mark.{the_type}
 use Rattle.sm_syntax.specs.declared.symbol.Symbol.TheVariants as s
-use Rattle.sm_syntax.specs.text.MarkedSymbols.{Marked, plain, word, opens, joins}
-use Rattle.sm_syntax.specs.declared.symbol.Symbol.{Symbol}
-use Rattle.sm_syntax.specs.declared.symbol.Mark.{Mark}
-use Rattle.sm_text.specs.rules.Parsers.{first, fault, Parser, go_on, ◌>>◌, pure, expect, inside_group, grouped, Operators, chain_in, chain_limit, chain, gather, Fault, Nested}
-use Rattle.sm_text.specs.parsing.Places.{unmarked}
+use Rattle.sm_text.specs.rules.Parsers.{fault, expect, grouped, chain_limit, chain, Fault}
 use Rattle.sm_text.proofs.Sound.Gathered.{gather-turn, gather-fault}
 
 -- a refusal at a symbol that nests too deep, or else what comes after it

@@ -1,22 +1,14 @@
 -- All statements and blocks that the grammar spells are read, or refused at the first symbol that nests too deep.
-use Rattle.std.proofs.Common.{◌≡◌, ℕ, suc, zero, ◌+◌, ◌≤◌, pos, refl, sym, ap, ◌∙◌, arith, true, false, ◌&&◌, Some, Result, Ok, List, [], ◌∷◌, ◌++◌}
+use Rattle.sm_text.proofs.Imports.{◌≡◌, ℕ, suc, zero, ◌+◌, ◌≤◌, pos, refl, sym, ap, ◌∙◌, arith, true, false, ◌&&◌, Some, Result, Ok, List, [], ◌∷◌, ◌++◌, nat_tests, Expression, Condition, Code, Marked, word, opens, Symbol, IsExpression, IsCondition, IsHoleNumber, AreStatements, IsBlock, first, Parser, go_on, ◌>>=◌, ◌>>◌, pure, unmarked}
 use Rattle.std.specs.Prelude.{nat_le}
-use Rattle.std.proofs.lemmas.Bool.Decides.{nat_tests}
 use Rattle.sm_syntax.specs.declared.symbol.Mark.TheVariants as mark
 use Rattle.sm_syntax.specs.declared.symbol.Symbol.TheVariants as s
 use Rattle.sm_syntax.specs.declared.tree.Name.{Name}
 use Rattle.sm_syntax.specs.claim.Syntax as plain_code
-use Rattle.sm_syntax.specs.claim.Syntax.{Expression, Condition, Code}
 use Rattle.sm_syntax.specs.text.ExpressionGrammar as exp
 use Rattle.sm_syntax.specs.text.ConditionGrammar as cond
 use Rattle.sm_syntax.specs.text.StatementGrammar as stmt
-use Rattle.sm_syntax.specs.text.MarkedSymbols.{Marked, word, opens}
-use Rattle.sm_syntax.specs.declared.symbol.Symbol.{Symbol}
-use Rattle.sm_syntax.specs.text.ExpressionGrammar.{IsExpression}
-use Rattle.sm_syntax.specs.text.ConditionGrammar.{IsCondition}
-use Rattle.sm_syntax.specs.text.StatementGrammar.{IsHoleNumber, AreStatements, IsBlock}
-use Rattle.sm_text.specs.rules.Parsers.{first, Parser, go_on, ◌>>=◌, ◌>>◌, pure, expect, Fault}
-use Rattle.sm_text.specs.parsing.Places.{unmarked}
+use Rattle.sm_text.specs.rules.Parsers.{expect, Fault}
 use Rattle.sm_text.specs.rules.Reading as r
 use Rattle.sm_text.proofs.Sound.Loops.{statement-shorter, more_statements-end}
 use Rattle.sm_text.proofs.Complete.Parsers.{reach, next, ended, go_on-go_on, go_on-pure, Opened, inside-then, grouped-then, gather-step}

@@ -1,30 +1,14 @@
 -- Each task that the grammar spells is read, or refused at the first symbol that nests too deep.
-use Rattle.std.proofs.Common.{◌≡◌, ℕ, pos, refl, sym, ap, ◌∙◌, subst, Bool, true, false, Option, Some, Result, Ok, Err, List, [], ◌∷◌, ◌++◌, map, append_assoc}
+use Rattle.sm_text.proofs.Imports.{◌≡◌, ℕ, pos, refl, sym, ap, ◌∙◌, subst, Bool, true, false, Option, Some, Result, Ok, Err, List, [], ◌∷◌, ◌++◌, map, append_assoc, fun_ext, Sort, Num, Arr, Condition, Code, Fillings, Copy, Marked, plain, word, Symbol, Mark, declares, with_sort, AreNames, AreDeclarations, AreOutputs, IsAssumption, IsShared, AreFillings, IsList, IsTask, Parts, by_copy, IsInGrammar, names_of, symbols_of, first, Parser, go_on, ◌>>=◌, ◌>>◌, pure, stands, unmarked, OneParse, HeadParts}
 use Rattle.std.proofs.lemmas.List.{append-nil}
-use Rattle.std.proofs.Math.Path.{fun_ext}
 use Rattle.sm_syntax.specs.declared.symbol.Mark.TheVariants as mark
 use Rattle.sm_syntax.specs.declared.symbol.Symbol.TheVariants as s
 use Rattle.sm_syntax.specs.declared.tree.Name.{Name}
-use Rattle.sm_syntax.specs.declared.tree.Sort.{Sort}
-use Rattle.sm_syntax.specs.declared.tree.Sort.TheVariants.{Num, Arr}
-use Rattle.sm_syntax.specs.claim.Syntax.{Condition, Code}
-use Rattle.sm_syntax.specs.claim.Fill.{Fillings}
 use Rattle.sm_syntax.specs.claim.ConflictFree as claim
-use Rattle.sm_syntax.specs.claim.ConflictFree.{Copy}
 use Rattle.sm_syntax.specs.text.StatementGrammar as stmt
 use Rattle.sm_syntax.specs.text.TaskGrammar as task
-use Rattle.sm_syntax.specs.text.MarkedSymbols.{Marked, plain, word}
-use Rattle.sm_syntax.specs.declared.symbol.Symbol.{Symbol}
-use Rattle.sm_syntax.specs.declared.symbol.Mark.{Mark}
-use Rattle.sm_syntax.specs.text.TaskGrammar.{declares, with_sort, AreNames, AreDeclarations, AreOutputs, IsAssumption, IsShared, AreFillings, IsList, IsTask}
-use Rattle.sm_syntax.specs.text.Parts.{Parts, by_copy}
-use Rattle.sm_syntax.specs.text.Spells.{IsInGrammar}
-use Rattle.sm_syntax.specs.text.Symbols.{names_of, symbols_of}
-use Rattle.sm_text.specs.rules.Parsers.{first, Parser, go_on, ◌>>=◌, ◌>>◌, pure, expect, stands, Fault}
-use Rattle.sm_text.specs.parsing.Places.{unmarked}
+use Rattle.sm_text.specs.rules.Parsers.{expect, Fault}
 use Rattle.sm_text.specs.rules.Reading as r
-use Rattle.sm_text.specs.Laws.{OneParse}
-use Rattle.sm_text.specs.Tasks.{HeadParts}
 use Rattle.sm_text.proofs.Sound.Loops.{next_name-shorter, more_names-end, declaration-shorter, more_declarations-end, filling-shorter, more_fillings-end}
 use Rattle.sm_text.proofs.Complete.Parsers.{reach, ended, bind-then, reads-then, go_on-go_on, go_on-pure, expect-then, gather-step, unmarked-plain, reach-plain}
 use Rattle.sm_text.proofs.Complete.Conditions.{condition_read}

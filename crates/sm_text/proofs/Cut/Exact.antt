@@ -1,16 +1,9 @@
 -- The tokens of a text are those into which it is cut.
-use Rattle.std.proofs.Common.{◌≡◌, ℕ, zero, suc, ◌+◌, ◌<◌, Bool, true, false, true≢false, not, ◌||◌, Option, Some, None, is_some, List, [], ◌∷◌, ◌++◌, length, length-append, nat_le, refl, sym, ap, subst, ◌∙◌, arith}
-use Rattle.std.specs.Char.{is_ascii_digit}
-use Rattle.std.specs.List.{list_all}
-use Rattle.sm_syntax.specs.text.Tokens.{Front, Gap, Piece, Fault, Lexed, front_of, sign_at, is_space, is_hash, is_in_line, is_word_start, is_word_byte, mark_of_sign, by_front, with_token, lexed_after, lexed_from, lexed}
-use Rattle.sm_syntax.specs.declared.token.TokenKind.{TokenKind}
-use Rattle.sm_syntax.specs.declared.token.TokenKind.TheVariants.{Word, Number, Sign}
+use Rattle.sm_text.proofs.Imports.{◌≡◌, ℕ, zero, suc, ◌+◌, ◌<◌, Bool, true, false, true≢false, not, ◌||◌, Option, Some, None, is_some, List, [], ◌∷◌, ◌++◌, length, refl, sym, ap, subst, ◌∙◌, arith, is_ascii_digit, list_all, Front, Lexed, is_space, is_hash, is_in_line, is_word_start, is_word_byte, mark_of_sign, by_front, with_token, lexed_after, TokenKind, Word, Number, Sign, LexFault, LexKind, BadByte, BadToken, WideNumber, begins, IsToken, Ends, IsStuck, is_half, HasNumber, IsFaultOf, IsCutInto, end, comment, token, TokensAreCut}
+use Rattle.std.proofs.Common.{length-append, nat_le}
+use Rattle.sm_syntax.specs.text.Tokens.{Gap, Piece, Fault, front_of, sign_at, lexed_from, lexed}
 use Rattle.sm_syntax.specs.declared.token.Token.{Token}
-use Rattle.sm_syntax.specs.declared.token.LexFault.{LexFault}
-use Rattle.sm_syntax.specs.declared.token.LexKind.{LexKind}
-use Rattle.sm_syntax.specs.declared.token.LexKind.TheVariants.{BadByte, BadToken, WideNumber}
-use Rattle.sm_text.specs.lexing.Cutting.{begins, IsToken, Ends, IsStuck, is_half, HasNumber, IsFaultOf, IsCutInto, end, space, comment, token, fault}
-use Rattle.sm_text.specs.Laws.{TokensAreCut}
+use Rattle.sm_text.specs.lexing.Cutting.{space, fault}
 use Rattle.sm_text.proofs.RoundTrip.PieceTokens.{lexed_from-cons, behind_first, lexed-token, front-space, front-word, front-number, front-two, and-false, run_of}
 use Rattle.sm_text.proofs.Cut.Standing.{Stands, a_space, a_comment, a_token, a_fault, stands, opens_sign, is_sign_text, sign_text, first_of_text, number_begins, digit_in_word, or-left}
 

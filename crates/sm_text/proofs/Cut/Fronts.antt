@@ -1,15 +1,8 @@
 -- Runs of bytes at the front of a text, and the numbers that digits write.
-use Rattle.std.proofs.Common.{◌≡◌, ℕ, ◌+◌, ◌*◌, ◌<◌, ◌≤◌, ◌^◌, ◌-◌, nat_lt, Bool, true, false, List, length, take, get_or, ap, ◌∙◌, get_or-take, length-take, arith}
-use Rattle.std.proofs.lemmas.Bool.Decides.{nat_tests}
-use Rattle.std.proofs.lemmas.List.Sums.{prefix_len_passes}
+use Rattle.sm_text.proofs.Imports.{◌≡◌, ℕ, ◌+◌, ◌*◌, ◌<◌, ◌≤◌, ◌^◌, ◌-◌, nat_lt, Bool, true, false, List, length, take, get_or, ap, ◌∙◌, get_or-take, length-take, arith, nat_tests, prefix_len_passes, is_ascii_digit, digit_value, prefix_len, AllPass, IsAscii, digits_value, is_word_byte}
 use Rattle.std.proofs.lemmas.Int.Digits.{digits_value_more}
 use Rattle.std.proofs.lemmas.Str.Parse.{digits_value-take-le}
 use Rattle.std.proofs.lemmas.Str.Ascii.{IsAscii-from_all}
-use Rattle.std.specs.Char.{is_ascii_digit, digit_value}
-use Rattle.std.specs.List.{prefix_len, AllPass}
-use Rattle.std.specs.Str.{IsAscii}
-use Rattle.std.specs.Str.Parse.{digits_value}
-use Rattle.sm_syntax.specs.text.Tokens.{is_word_byte}
 
 -- each byte of a run passes
 pub AllPass-run : (p : ℕ → Bool) (bytes : List ℕ) → AllPass p (take (prefix_len p bytes) bytes)

@@ -1,21 +1,10 @@
 -- How the tokens of a text go on after what stands at its front.
-use Rattle.std.proofs.Common.{◌≡◌, ℕ, zero, suc, ◌+◌, ◌-◌, ◌<◌, ◌≤◌, Bool, true, false, ◌^◌, ◌==◌, ◌&&◌, ◌||◌, List, [], ◌∷◌, ◌++◌, length, take, drop, get_or, Option, Some, None, is_some, if◌then◌else◌, refl, sym, ap, ap₂, subst, ◌∙◌}
-use Rattle.std.proofs.Common.{append_assoc, append-nil, true≢false, nat_le, nat_lt, codes, length-drop, drop-drop, arith}
-use Rattle.std.proofs.lemmas.Bool.Decides.{nat_tests}
-use Rattle.std.proofs.lemmas.List.Sums.{prefix_len-le-length}
-use Rattle.std.specs.Char.{is_ascii_digit}
-use Rattle.std.specs.List.{prefix_len, AllByRecursion}
-use Rattle.std.specs.Str.{bytes_eq}
-use Rattle.std.specs.Str.Parse.{digits_value}
-use Rattle.sm_text.specs.resolving.TokenTexts.{IsText, IsTokenOf}
+use Rattle.sm_text.proofs.Imports.{◌≡◌, ℕ, zero, suc, ◌+◌, ◌-◌, ◌<◌, ◌≤◌, Bool, true, false, ◌^◌, ◌==◌, ◌&&◌, ◌||◌, List, [], ◌∷◌, ◌++◌, length, take, drop, get_or, Option, Some, None, is_some, refl, sym, ap, ap₂, subst, ◌∙◌, append_assoc, true≢false, nat_lt, codes, drop-drop, arith, nat_tests, prefix_len-le-length, is_ascii_digit, prefix_len, AllByRecursion, bytes_eq, digits_value, IsText, IsTokenOf, Front, Lexed, is_space, is_hash, is_word_start, is_word_byte, is_in_line, mark_of_sign, by_front, with_token, lexed_after, TokenKind, Word, Number, Sign, LexFault, LexKind, BadByte, BadToken, WideNumber}
+use Rattle.std.proofs.Common.{if◌then◌else◌}
+use Rattle.std.proofs.Common.{append-nil, nat_le, length-drop}
 use Rattle.sm_text.proofs.Cut.Fronts.{AllPass-run, IsAscii-run}
-use Rattle.sm_syntax.specs.text.Tokens.{Front, Gap, Piece, Fault, Lexed, front_of, word_at, number_at, sign_at, is_space, is_hash, is_word_start, is_word_byte, is_in_line, mark_of_sign, by_front, with_token, lexed_after, lexed_from, lexed}
-use Rattle.sm_syntax.specs.declared.token.TokenKind.{TokenKind}
-use Rattle.sm_syntax.specs.declared.token.TokenKind.TheVariants.{Word, Number, Sign}
+use Rattle.sm_syntax.specs.text.Tokens.{Gap, Piece, Fault, front_of, word_at, number_at, sign_at, lexed_from, lexed}
 use Rattle.sm_syntax.specs.declared.token.Token.{Token}
-use Rattle.sm_syntax.specs.declared.token.LexFault.{LexFault}
-use Rattle.sm_syntax.specs.declared.token.LexKind.{LexKind}
-use Rattle.sm_syntax.specs.declared.token.LexKind.TheVariants.{BadByte, BadToken, WideNumber}
 
 -- a front has at least one byte and no more than there are, and a token's bytes are of its kind
 abbrev pub Suits : List ℕ → Front → Type 0

@@ -1,19 +1,9 @@
 -- What stands at the front of a text, by the second reading of tokens.
-use Rattle.std.proofs.Common.{◌≡◌, ℕ, ◌+◌, ◌^◌, ◌==◌, ◌<◌, ◌≤◌, Bool, true, false, true≢false, not, ◌&&◌, ◌||◌, if◌then◌else◌, Option, Some, is_some, option_map, List, [], ◌∷◌, ◌++◌, length, take, nat_le, nat_lt, codes, refl, sym, ap, ap₂}
-use Rattle.std.proofs.Common.{subst, ◌∙◌, arith, eq-eqb}
-use Rattle.std.proofs.lemmas.Bool.Decides.{nat_tests}
+use Rattle.sm_text.proofs.Imports.{◌≡◌, ℕ, ◌+◌, ◌^◌, ◌==◌, ◌<◌, ◌≤◌, Bool, true, false, true≢false, not, ◌&&◌, ◌||◌, Option, Some, is_some, List, [], ◌∷◌, ◌++◌, length, take, nat_lt, codes, refl, sym, ap, ap₂, subst, ◌∙◌, arith, eq-eqb, nat_tests, is_ascii_digit, list_all, prefix_len, bytes_eq, digits_value, Mark, Table, entry, Front, is_space, is_hash, is_in_line, is_word_start, is_word_byte, TokenKind, Word, Number, Sign, LexKind, BadByte, BadToken, WideNumber, begins, IsNumber, IsToken, Ends, IsStuck, is_half, HasNumber, IsFaultOf}
+use Rattle.std.proofs.Common.{if◌then◌else◌, option_map, nat_le}
 use Rattle.std.proofs.lemmas.Slice.Eq.{bytes_eq-Decides}
-use Rattle.std.specs.Char.{is_ascii_digit}
-use Rattle.std.specs.List.{find, list_all, prefix_len}
-use Rattle.std.specs.Str.{bytes_eq}
-use Rattle.std.specs.Str.Parse.{digits_value}
-use Rattle.sm_syntax.specs.declared.symbol.Mark.{Mark}
-use Rattle.sm_syntax.specs.text.Tokens.{Table, entry, signs, Front, Gap, Piece, Fault, front_of, word_at, number_at, sign_at, is_space, is_hash, is_in_line, is_word_start, is_word_byte, mark_of_sign}
-use Rattle.sm_syntax.specs.declared.token.TokenKind.{TokenKind}
-use Rattle.sm_syntax.specs.declared.token.TokenKind.TheVariants.{Word, Number, Sign}
-use Rattle.sm_syntax.specs.declared.token.LexKind.{LexKind}
-use Rattle.sm_syntax.specs.declared.token.LexKind.TheVariants.{BadByte, BadToken, WideNumber}
-use Rattle.sm_text.specs.lexing.Cutting.{begins, IsNumber, IsToken, Ends, IsStuck, is_half, HasNumber, IsFaultOf}
+use Rattle.std.specs.List.{find}
+use Rattle.sm_syntax.specs.text.Tokens.{signs, Gap, Piece, Fault, front_of, word_at, number_at, sign_at, mark_of_sign}
 use Rattle.sm_text.proofs.RoundTrip.PieceTokens.{both-left, both-right, run_of, digits_are_word, no_digit, take_front}
 
 -- a sign has one byte or two, and its first begins nothing else

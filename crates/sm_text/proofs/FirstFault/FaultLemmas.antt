@@ -1,10 +1,7 @@
 -- What a first fault has to be, and what no refusal can be.
-use Rattle.std.proofs.Common.{◌≡◌, ◌≤◌, refl, subst, arith, Option, Some, None, Result, Ok, Err, List, [], ◌∷◌, length}
-use Rattle.sm_syntax.specs.declared.symbol.Symbol.{Symbol}
-use Rattle.sm_syntax.specs.declared.token.LexFault.{LexFault}
+use Rattle.sm_text.proofs.Imports.{◌≡◌, ◌≤◌, refl, subst, arith, Option, Some, None, Result, Ok, Err, List, [], ◌∷◌, length, Symbol, LexFault, Grammar, Source, IsFirstFault, IsRefusal, TextError}
 use Rattle.sm_text.specs.declared.error.TextError.TheVariants as error
 use Rattle.sm_text.specs.declared.rules.reading.Fault as reading
-use Rattle.sm_text.specs.parsing.Places.{Grammar, Source, IsFirstFault, IsRefusal, TextError}
 
 pub no_fault : {f : LexFault} → (let o : Option LexFault = None in o) ≡ Some f → ⊥
 no_fault e = cc

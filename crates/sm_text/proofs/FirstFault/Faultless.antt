@@ -1,21 +1,15 @@
 -- A text in the grammar has no fault: its symbols can go on up to the end, are something whole, and nest nowhere too deep.
-use Rattle.std.proofs.Common.{◌≡◌, ℕ, refl, sym, ap, ◌∙◌, subst, Option, Some, None, Result, Ok, Err, List, [], ◌∷◌, ◌++◌, map, append_assoc}
-use Rattle.std.proofs.lemmas.List.{append-nil, map-append}
+use Rattle.sm_text.proofs.Imports.{◌≡◌, ℕ, refl, sym, ap, ◌∙◌, subst, Option, Some, None, Result, Ok, Err, List, [], ◌∷◌, ◌++◌, map, append_assoc, map-append, plain, Symbol, Parts, IsInGrammar, names_of, symbols_of, Source, AreTasks, IsViable, IsWhole, IsUnexpected, NestsTooDeep, Stands, IsFault, all_symbols, whole_text, TextError, NoFaultInGrammar}
+use Rattle.std.proofs.lemmas.List.{append-nil}
 use Rattle.sm_syntax.specs.declared.token.Token.{Token}
-use Rattle.sm_syntax.specs.text.MarkedSymbols.{plain}
-use Rattle.sm_syntax.specs.declared.symbol.Symbol.{Symbol}
-use Rattle.sm_syntax.specs.text.Parts.{Parts}
-use Rattle.sm_syntax.specs.text.Spells.{IsInGrammar}
-use Rattle.sm_syntax.specs.text.Symbols.{names_of, symbols_of}
 use Rattle.sm_text.specs.declared.error.TextError.TheVariants as error
-use Rattle.sm_text.specs.parsing.Places.{Source, AreTasks, IsViable, IsWhole, IsUnexpected, NestsTooDeep, Stands, at_token, at_end, IsFault, all_symbols, whole_text, TextError}
+use Rattle.sm_text.specs.parsing.Places.{at_token, at_end}
 use Rattle.sm_text.specs.rules.Reading as r
 use Rattle.sm_text.proofs.Complete.Parsers.{unmarked-plain}
 use Rattle.sm_text.proofs.Complete.Tasks.{spelled_read}
 use Rattle.sm_text.proofs.FirstFault.Ordered.{symbols-map}
 use Rattle.sm_text.proofs.FirstFault.Judged.{task_judges}
 use Rattle.sm_text.proofs.FirstFault.Refusals.{shorter-viable, nothing_nests}
-use Rattle.sm_text.specs.Laws.{NoFaultInGrammar}
 
 none_is_some : {T : Type 0} (x : T) → (let o : Option T = None in o) ≡ Some x → ⊥
 none_is_some x e = cc

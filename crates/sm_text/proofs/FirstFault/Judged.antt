@@ -1,15 +1,8 @@
 -- The readings of tasks and of programs judge by their grammars.
-use Rattle.std.proofs.Common.{ℕ, sym, ◌≡◌, subst, Ok, List, [], map}
+use Rattle.sm_text.proofs.Imports.{ℕ, sym, ◌≡◌, subst, Ok, List, [], map, Marked, plain, Symbol, IsTask, task, Parts, IsProgram, program, AreTasks, ArePrograms, IsViable, ProgramParts}
 use Rattle.std.proofs.lemmas.List.{append-nil}
-use Rattle.sm_syntax.specs.text.MarkedSymbols.{Marked, plain}
-use Rattle.sm_syntax.specs.declared.symbol.Symbol.{Symbol}
-use Rattle.sm_syntax.specs.text.TaskGrammar.{IsTask, task}
-use Rattle.sm_syntax.specs.text.Parts.{Parts}
-use Rattle.sm_text.specs.parsing.Fragments.{IsProgram, program}
-use Rattle.sm_text.specs.parsing.Places.{AreTasks, ArePrograms, IsViable}
 use Rattle.sm_text.specs.parsing.Program as p
 use Rattle.sm_text.specs.rules.Reading as r
-use Rattle.sm_text.specs.Tasks.{ProgramParts}
 use Rattle.sm_text.proofs.Sound.Parsers.{weaken}
 use Rattle.sm_text.proofs.Sound.Sections.{task_told, whole_told}
 use Rattle.sm_text.proofs.Complete.Tasks.{task_read}

@@ -1,15 +1,9 @@
 -- The tokens and the fault of a text stand in the order of their places, and what two splits of them have in common.
-use Rattle.std.proofs.Common.{◌≡◌, ◌⊎◌, inl, inr, ℕ, suc, zero, ◌+◌, ◌-◌, ◌<◌, ◌≤◌, refl, sym, ap, ◌∙◌, subst, arith, Option, Some, None, List, [], ◌∷◌, ◌++◌, length, map, take, drop, get_or}
+use Rattle.sm_text.proofs.Imports.{◌≡◌, ◌⊎◌, inl, inr, ℕ, suc, zero, ◌+◌, ◌-◌, ◌<◌, ◌≤◌, refl, sym, ap, ◌∙◌, subst, arith, Option, Some, None, List, [], ◌∷◌, ◌++◌, length, map, take, drop, get_or, drop-cons, Symbol, Front, Lexed, front_of, by_front, lexed_after, LexFault, first, rest, whole_text, all_symbols, IsPlaceWith}
 use Rattle.std.proofs.lemmas.List.{take-append-drop, length-drop}
-use Rattle.std.proofs.Math.Seq.{drop-cons}
-use Rattle.sm_syntax.specs.declared.symbol.Symbol.{Symbol}
 use Rattle.sm_syntax.specs.text.Symbols.{symbols_among, symbols_of, names_of}
-use Rattle.sm_syntax.specs.text.Tokens.{Front, Gap, Piece, Fault, Lexed, front_of, by_front, lexed_after, lexed_from, lexed}
+use Rattle.sm_syntax.specs.text.Tokens.{Gap, Piece, Fault, lexed_from, lexed}
 use Rattle.sm_syntax.specs.declared.token.Token.{Token}
-use Rattle.sm_syntax.specs.declared.token.LexFault.{LexFault}
-use Rattle.sm_text.specs.rules.Parsers.{first, rest}
-use Rattle.sm_text.specs.parsing.Places.{whole_text, all_symbols}
-use Rattle.sm_text.specs.parsing.ErrorPlaces.{IsPlaceWith}
 
 -- places ascend, and all stand before the end
 abbrev pub Ascends : ℕ → List Token → Option LexFault → ℕ → Type 0

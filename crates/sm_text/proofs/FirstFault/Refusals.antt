@@ -1,11 +1,9 @@
 -- Where a reading refuses symbols: the symbols before could have gone on, with what stands there they can't or it nests
 -- too deep, and nothing before it nests too deep.
-use Rattle.std.proofs.Common.{◌≡◌, ℕ, suc, ◌+◌, ◌<◌, ◌≤◌, refl, sym, ap, ◌∙◌, subst, arith, Bool, true, false, Option, Some, None, Result, Ok, Err, List, [], ◌∷◌, ◌++◌, length, map, append_assoc, length-append}
+use Rattle.sm_text.proofs.Imports.{◌≡◌, ℕ, suc, ◌+◌, ◌<◌, ◌≤◌, refl, sym, ap, ◌∙◌, subst, arith, Bool, true, false, Option, Some, None, Result, Ok, Err, List, [], ◌∷◌, ◌++◌, length, map, append_assoc, Marked, plain, Symbol, Parser, first, rest, Expected, Nested, Grammar, unmarked, IsViable, IsUnexpected, NestsTooDeep}
+use Rattle.std.proofs.Common.{length-append}
 use Rattle.std.proofs.lemmas.List.{append-nil}
-use Rattle.sm_syntax.specs.text.MarkedSymbols.{Marked, plain}
-use Rattle.sm_syntax.specs.declared.symbol.Symbol.{Symbol}
-use Rattle.sm_text.specs.rules.Parsers.{Parser, first, rest, fault, Fault, Expected, Nested}
-use Rattle.sm_text.specs.parsing.Places.{Grammar, unmarked, IsViable, IsUnexpected, NestsTooDeep}
+use Rattle.sm_text.specs.rules.Parsers.{fault, Fault}
 use Rattle.sm_text.specs.rules.Reading as r
 use Rattle.sm_text.proofs.Sound.Parsers.{Takes, Nests, Told, Describes}
 use Rattle.sm_text.proofs.Complete.Parsers.{past, reach, unmarked-plain}

@@ -1,15 +1,12 @@
 -- A refusal of the reading, and a lexical fault that nothing stands before, are the first fault of a text.
-use Rattle.std.proofs.Common.{◌≡◌, ◌⊎◌, inl, inr, ℕ, suc, ◌+◌, ◌<◌, ◌≤◌, refl, sym, ap, ◌∙◌, subst, arith, Option, Some, None, Result, Ok, Err, List, [], ◌∷◌, ◌++◌, length, map, append_assoc, length-append}
+use Rattle.sm_text.proofs.Imports.{◌≡◌, ◌⊎◌, inl, inr, ℕ, suc, ◌+◌, ◌<◌, ◌≤◌, refl, sym, ap, ◌∙◌, subst, arith, Option, Some, None, Result, Ok, Err, List, [], ◌∷◌, ◌++◌, length, map, append_assoc, Symbol, LexFault, first, FaultKind, Expected, Nested, Grammar, Source, all_symbols, IsViable, IsUnexpected, NestsTooDeep, Stands, IsFault, place_of, rank_of, IsFirstFault, IsRefusal, TextError, lexical_fault, rule_fault}
+use Rattle.std.proofs.Common.{length-append}
 use Rattle.std.proofs.lemmas.List.{append-nil}
-use Rattle.sm_syntax.specs.declared.symbol.Symbol.{Symbol}
-use Rattle.sm_syntax.specs.declared.token.LexFault.{LexFault}
 use Rattle.sm_syntax.specs.declared.token.LexKind.TheVariants as kind
 use Rattle.sm_syntax.specs.declared.token.Token.{Token}
 use Rattle.sm_text.specs.declared.error.TextError.TheVariants as error
 use Rattle.sm_text.specs.declared.rules.reading.Fault as reading
-use Rattle.sm_text.specs.rules.Parsers.{first, FaultKind, Expected, Nested}
-use Rattle.sm_text.specs.parsing.Places.{Grammar, Source, all_symbols, IsViable, IsUnexpected, NestsTooDeep, Stands, at_token, at_end, IsFault, place_of, rank_of, IsFirstFault, IsRefusal, TextError}
-use Rattle.sm_text.specs.parsing.Text.{lexical_fault, rule_fault}
+use Rattle.sm_text.specs.parsing.Places.{at_token, at_end}
 use Rattle.sm_text.proofs.FirstFault.Refusals.{Refuses, Judges, viable, shorter-viable, unexpected, too_deep, nested-viable, nothing_nests}
 use Rattle.sm_text.proofs.FirstFault.Ordered.{Ascends, behind-ascends, before_end, before_fault, Order, compare, map-append, length-map-of, some_one, goes_past, same_split}
 use Rattle.sm_text.proofs.FirstFault.FaultLemmas.{no_fault, none_some, same_fault, err_left, first_refusal, nothing_left, ok_err}

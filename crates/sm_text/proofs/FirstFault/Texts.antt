@@ -1,17 +1,11 @@
 -- Where a text is refused, by the answer of the reading of its symbols and by its tokens.
-use Rattle.std.proofs.Common.{◌≡◌, ℕ, ◌≤◌, refl, sym, ap, ◌∙◌, subst, arith, Some, None, Result, Ok, Err, List, [], length, drop}
+use Rattle.sm_text.proofs.Imports.{◌≡◌, ℕ, ◌≤◌, refl, sym, ap, ◌∙◌, subst, arith, Some, None, Result, Ok, Err, List, [], length, drop, Symbol, Lexed, lexed, LexFault, Grammar, Source, all_symbols, text_from, whole_text, IsViable, IsRefusal, TextError, IsErrorOf, IsPlaceWith, at_fault, AreTokensOf, lexical_fault, rule_fault}
 use Rattle.std.proofs.lemmas.List.{length-drop}
-use Rattle.sm_syntax.specs.declared.symbol.Symbol.{Symbol}
 use Rattle.sm_syntax.specs.text.Symbols.{names_among, names_of}
-use Rattle.sm_syntax.specs.text.Tokens.{Lexed, lexed}
 use Rattle.sm_syntax.specs.declared.token.Token.{Token}
-use Rattle.sm_syntax.specs.declared.token.LexFault.{LexFault}
 use Rattle.sm_text.specs.declared.rules.reading.Fault.{Fault}
 use Rattle.sm_text.specs.declared.lexing.token_list.Tokens.{Tokens}
-use Rattle.sm_text.specs.parsing.Places.{Grammar, Source, all_symbols, text_from, whole_text, IsViable, IsRefusal, TextError}
-use Rattle.sm_text.specs.parsing.ErrorPlaces.{IsErrorOf, IsPlaceWith, at_token, at_fault, at_end}
-use Rattle.sm_text.specs.parsing.Prefix.{AreTokensOf}
-use Rattle.sm_text.specs.parsing.Text.{lexical_fault, rule_fault}
+use Rattle.sm_text.specs.parsing.ErrorPlaces.{at_token, at_end}
 use Rattle.sm_text.proofs.FirstFault.Refusals.{Judges}
 use Rattle.sm_text.proofs.FirstFault.Ordered.{Ascends, from-ascends, place_from}
 use Rattle.sm_text.proofs.FirstFault.Sound.{refused_at_token, refused_at_fault, refused_at_end, read_to_fault, left_within}

@@ -1,11 +1,7 @@
 -- At most one fault is the first: its place is the least, its rank there the lowest, and a text has one lexical fault.
-use Rattle.std.proofs.Common.{◌≡◌, ℕ, sym, ap, ◌∙◌, arith, Some}
-use Rattle.sm_syntax.specs.declared.token.LexFault.{LexFault}
-use Rattle.sm_syntax.specs.declared.token.LexKind.{LexKind}
+use Rattle.sm_text.proofs.Imports.{◌≡◌, ℕ, sym, ap, ◌∙◌, arith, Some, LexFault, LexKind, Grammar, Source, IsFault, place_of, rank_of, TextError, OneFirstFault}
 use Rattle.sm_syntax.specs.declared.token.LexKind.TheVariants as kind
 use Rattle.sm_text.specs.declared.error.TextError.TheVariants as error
-use Rattle.sm_text.specs.parsing.Places.{Grammar, Source, IsFault, place_of, rank_of, TextError}
-use Rattle.sm_text.specs.Laws.{OneFirstFault}
 
 -- the error of a lexical fault
 lexical : LexKind → ℕ → TextError

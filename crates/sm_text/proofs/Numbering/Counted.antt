@@ -1,23 +1,10 @@
 -- The names of the first tokens of a list stand first among the names of all, and their symbols count them.
-use Rattle.std.proofs.Common.{◌≡◌, ℕ, ◌+◌, ◌-◌, ◌<◌, ◌==◌, Bool, true, false, cond, not, ◌||◌, Option, Some, None, is_some, List, [], ◌∷◌, ◌++◌, map, length, take, drop, refl, sym, ap, ap₂, ◌∙◌, true≢false, if◌then◌else◌, arith}
-use Rattle.std.proofs.Math.Seq.{take-append_seam}
-use Rattle.std.proofs.lemmas.Bool.Decides.{nat_tests}
-use Rattle.std.proofs.lemmas.List.{length_push, length-map, length-drop, map-append, take-append-drop, take-map}
-use Rattle.std.specs.List.{position_or_len, AllByRecursion}
-use Rattle.std.specs.Str.{bytes_eq}
-use Rattle.sm_syntax.specs.declared.symbol.Mark.{Mark}
-use Rattle.sm_syntax.specs.declared.symbol.Mark.TheVariants.{Semicolon}
-use Rattle.sm_syntax.specs.declared.symbol.Symbol.{Symbol}
+use Rattle.sm_text.proofs.Imports.{◌≡◌, ℕ, ◌+◌, ◌-◌, ◌<◌, ◌==◌, Bool, true, false, cond, not, ◌||◌, Option, Some, None, is_some, List, [], ◌∷◌, ◌++◌, map, length, take, drop, refl, sym, ap, ap₂, ◌∙◌, true≢false, arith, take-append_seam, nat_tests, length_push, length-map, map-append, take-map, position_or_len, AllByRecursion, bytes_eq, Mark, Semicolon, Symbol, text_of, is_among, with_text, names_after, mark_or, symbol_by, mark_of_word, mark_of_sign, TokenKind, Word, Number, Sign, with_text-among, with_text-new, number-last, token_symbols, IsKnown, names_counted}
+use Rattle.std.proofs.Common.{if◌then◌else◌}
+use Rattle.std.proofs.lemmas.List.{length-drop, take-append-drop}
 use Rattle.sm_syntax.specs.declared.symbol.Symbol.TheVariants as s
-use Rattle.sm_syntax.specs.text.Symbols.{text_of, is_among, with_text, names_after, mark_or, symbol_by, symbol_of}
-use Rattle.sm_syntax.specs.text.Tokens.{mark_of_word, mark_of_sign}
-use Rattle.sm_syntax.specs.declared.token.TokenKind.{TokenKind}
-use Rattle.sm_syntax.specs.declared.token.TokenKind.TheVariants.{Word, Number, Sign}
+use Rattle.sm_syntax.specs.text.Symbols.{symbol_of}
 use Rattle.sm_syntax.specs.declared.token.Token.{Token}
-use Rattle.sm_syntax.proofs.Numbering.{with_text-among, with_text-new, number-last}
-use Rattle.sm_text.specs.parsing.BlockTokens.{token_symbols}
-use Rattle.sm_text.specs.parsing.Fragments.{IsKnown}
-use Rattle.sm_text.specs.resolving.NameCounts.{names_counted}
 use Rattle.sm_text.proofs.Numbering.Symbols.{names_with, names_after-append, grown-names_after, known-names_with, symbol_by-append}
 use Rattle.sm_text.proofs.RoundTrip.Symbols.{known_behind}
 

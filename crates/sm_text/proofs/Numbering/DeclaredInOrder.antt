@@ -1,33 +1,14 @@
 -- The declared names of a task are numbered in order: each name that a text has is one from before, or has the next number.
-use Rattle.std.proofs.Common.{◌≡◌, ◌⊎◌, inl, inr, ℕ, suc, ◌+◌, ◌<◌, ◌==◌, Bool, true, false, ◌||◌, not, Option, Some, None, is_some, List, [], ◌∷◌, ◌++◌, map, length, refl, sym, ap, ap₂, ◌∙◌, subst, if◌then◌else◌, arith}
-use Rattle.std.proofs.lemmas.Bool.Decides.{nat_tests}
-use Rattle.std.proofs.lemmas.List.{length_push}
-use Rattle.std.specs.List.{range_with_len, position_or_len}
-use Rattle.std.specs.Option.{option_or}
-use Rattle.std.specs.Str.{bytes_eq}
+use Rattle.sm_text.proofs.Imports.{◌≡◌, ◌⊎◌, inl, inr, ℕ, suc, ◌+◌, ◌<◌, ◌==◌, Bool, true, false, ◌||◌, not, Option, Some, None, is_some, List, [], ◌∷◌, ◌++◌, map, length, refl, sym, ap, ap₂, ◌∙◌, subst, arith, nat_tests, length_push, range_with_len, position_or_len, option_or, bytes_eq, Sort, Refusal, DoubleName, is_in, first_repeated, double_name, first_of_all, double_hole, hole_in_filling, unknown_hole, missing_filling, ill_assumed, Copy, O, A, B, M, fill, Marked, plain, Symbol, Mark, Semicolon, AreNames, AreDeclarations, IsTask, with_sort, Parts, text_of, is_among, with_text, names_after, mark_or, symbol_by, mark_of_word, mark_of_sign, lexed, TokenKind, Word, Number, Sign, with_text-among, with_text-new, number-last, token_symbols, DeclaredInOrder}
+use Rattle.std.proofs.Common.{if◌then◌else◌}
 use Rattle.sm_syntax.specs.declared.symbol.Symbol.TheVariants as s
-use Rattle.sm_syntax.specs.declared.tree.Sort.{Sort}
-use Rattle.sm_syntax.specs.text.Conditions.{Refusal, DoubleName, is_in, first_repeated, first_refusal, ill_formed, program_fault, double_name, first_of_all, double_hole, hole_in_filling, unknown_hole, missing_filling, ill_assumed}
-use Rattle.sm_syntax.specs.claim.ConflictFree.{Copy, O, A, B, M}
-use Rattle.sm_syntax.specs.claim.Fill.{fill}
+use Rattle.sm_syntax.specs.text.Conditions.{first_refusal, ill_formed, program_fault}
 use Rattle.sm_syntax.specs.text.MarkedSymbols as g
 use Rattle.sm_syntax.specs.text.TaskGrammar as task
-use Rattle.sm_syntax.specs.text.MarkedSymbols.{Marked, plain}
-use Rattle.sm_syntax.specs.declared.symbol.Symbol.{Symbol}
-use Rattle.sm_syntax.specs.declared.symbol.Mark.{Mark}
-use Rattle.sm_syntax.specs.declared.symbol.Mark.TheVariants.{Semicolon}
-use Rattle.sm_syntax.specs.text.TaskGrammar.{AreNames, AreDeclarations, IsTask, with_sort}
-use Rattle.sm_syntax.specs.text.Parts.{Parts}
-use Rattle.sm_syntax.specs.text.Symbols.{text_of, is_among, with_text, names_after, mark_or, symbol_by, symbol_of, symbols_among, names_among, symbols_of}
-use Rattle.sm_syntax.specs.text.Tokens.{mark_of_word, mark_of_sign, lexed}
-use Rattle.sm_syntax.specs.declared.token.TokenKind.{TokenKind}
-use Rattle.sm_syntax.specs.declared.token.TokenKind.TheVariants.{Word, Number, Sign}
+use Rattle.sm_syntax.specs.text.Symbols.{symbol_of, symbols_among, names_among, symbols_of}
 use Rattle.sm_syntax.specs.declared.token.Token.{Token}
-use Rattle.sm_syntax.proofs.Numbering.{with_text-among, with_text-new, number-last}
-use Rattle.sm_text.specs.parsing.BlockTokens.{token_symbols}
 use Rattle.sm_text.proofs.Numbering.Counted.{among-below, fresh-last}
 use Rattle.sm_text.proofs.Numbering.Symbols.{names_with, grown-names_after, known-names_with, symbol_by-append}
-use Rattle.sm_text.specs.Laws.{DeclaredInOrder}
 
 -- the numbers of the names among symbols
 abbrev numbers : List Symbol → List ℕ

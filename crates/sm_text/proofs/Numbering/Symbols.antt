@@ -1,20 +1,10 @@
 -- The symbols of the tokens so far, where the names are numbered as in the whole text.
-use Rattle.std.proofs.Common.{◌≡◌, ℕ, ◌+◌, ◌<◌, ◌≤◌, Bool, true, false, not, List, [], ◌∷◌, ◌++◌, map, length, take, drop, get_or, Option, Some, None, is_some, Result, Ok, Err, if◌then◌else◌, refl, sym, ap, ◌∙◌, append_assoc, append-nil}
-use Rattle.std.proofs.Common.{take-append-drop, take_all}
-use Rattle.std.proofs.Math.Seq.{take-append_seam}
-use Rattle.std.proofs.lemmas.List.{take_more, map_more}
-use Rattle.std.specs.List.{position_or_len}
-use Rattle.std.specs.Result.{OnErr}
-use Rattle.std.specs.Str.{bytes_eq}
-use Rattle.sm_syntax.specs.declared.symbol.Mark.{Mark}
-use Rattle.sm_syntax.specs.declared.symbol.Symbol.{Symbol}
+use Rattle.sm_text.proofs.Imports.{◌≡◌, ℕ, ◌+◌, ◌<◌, ◌≤◌, Bool, true, false, not, List, [], ◌∷◌, ◌++◌, map, length, take, drop, get_or, Option, Some, None, is_some, Result, Ok, Err, refl, sym, ap, ◌∙◌, append_assoc, take_all, take-append_seam, take_more, map_more, position_or_len, OnErr, bytes_eq, Mark, Symbol, mark_of_word, lexed, TokenKind, Word, Number, Sign, text_of, is_among, with_text, is_name, names_after, mark_or, symbol_by, is_among-with_text, number-append, grown-with_text}
+use Rattle.std.proofs.Common.{if◌then◌else◌, append-nil}
+use Rattle.std.proofs.Common.{take-append-drop}
 use Rattle.sm_syntax.specs.declared.symbol.Symbol.TheVariants.{Name}
-use Rattle.sm_syntax.specs.text.Tokens.{mark_of_word, lexed}
-use Rattle.sm_syntax.specs.declared.token.TokenKind.{TokenKind}
-use Rattle.sm_syntax.specs.declared.token.TokenKind.TheVariants.{Word, Number, Sign}
 use Rattle.sm_syntax.specs.declared.token.Token.{Token}
-use Rattle.sm_syntax.specs.text.Symbols.{text_of, is_among, with_text, is_name, names_after, mark_or, symbol_by, symbol_of, names_among, symbols_among, names_of, symbols_of}
-use Rattle.sm_syntax.proofs.Numbering.{is_among-with_text, number-append, grown-with_text}
+use Rattle.sm_syntax.specs.text.Symbols.{symbol_of, names_among, symbols_among, names_of, symbols_of}
 
 -- the names after one more token
 abbrev pub names_with : List (List ℕ) → TokenKind → List ℕ → List (List ℕ)

@@ -1,11 +1,8 @@
 -- Where the curly braces of a block close: all that the grammar spells between them is balanced, so a block ends at the brace
 -- that closes its first, and no rule stops at the end of tokens that do so.
-use Rattle.std.proofs.Common.{◌≡◌, ℕ, ℤ, zero, suc, ◌+◌, ◌-◌, ◌<◌, ◌≤◌, Bool, true, false, refl, sym, ap, ◌∙◌, subst, arith, Option, Some, None, Result, Ok, Err, List, [], ◌∷◌, ◌++◌, map, length, take, append_assoc, cond, true≢false}
-use Rattle.std.proofs.lemmas.List.{append-nil, length-take-le, take-take}
-use Rattle.std.proofs.lemmas.List.Sums.{sum_by-cons}
-use Rattle.std.specs.List.{count_by, position_or_len}
+use Rattle.sm_text.proofs.Imports.{◌≡◌, ℕ, ℤ, zero, suc, ◌+◌, ◌-◌, ◌<◌, ◌≤◌, Bool, true, false, refl, sym, ap, ◌∙◌, subst, arith, Option, Some, None, Result, Ok, Err, List, [], ◌∷◌, ◌++◌, map, length, take, append_assoc, cond, true≢false, length-take-le, take-take, sum_by-cons, count_by, position_or_len, bytes_eq, Marked, plain, word, opens, Symbol, Mark, Level, IsExpression, Rank, IsCondition, AreStatements, IsBlock, text_of, mark_or, symbol_by, names_after, Expression, Condition, Code, Cmp, Table, entry, mark_of_sign, TokenKind, Word, Number, Sign, token_symbols, is_mark, is_sign, many, IsGroup, first, sign_by}
+use Rattle.std.proofs.lemmas.List.{append-nil}
 use Rattle.std.specs.Prelude.{find, option_map}
-use Rattle.std.specs.Str.{bytes_eq}
 use denote.Enum.Bare.{sameb, same_true}
 use Rattle.sm_syntax.specs.contracts.symbol.Mark.{the_type}
 use Rattle.sm_syntax.specs.declared.symbol.Mark.TheVariants as mark
@@ -14,23 +11,11 @@ use Rattle.sm_syntax.specs.declared.tree.Name.{Name}
 use Rattle.sm_syntax.specs.text.ExpressionGrammar as exp
 use Rattle.sm_syntax.specs.text.ConditionGrammar as cond
 use Rattle.sm_syntax.specs.text.StatementGrammar as stmt
-use Rattle.sm_syntax.specs.text.MarkedSymbols.{Marked, plain, word, opens}
-use Rattle.sm_syntax.specs.declared.symbol.Symbol.{Symbol}
-use Rattle.sm_syntax.specs.declared.symbol.Mark.{Mark}
-use Rattle.sm_syntax.specs.text.ExpressionGrammar.{Level, IsExpression}
-use Rattle.sm_syntax.specs.text.ConditionGrammar.{Rank, IsCondition}
-use Rattle.sm_syntax.specs.text.StatementGrammar.{AreStatements, IsBlock}
-use Rattle.sm_syntax.specs.text.Symbols.{text_of, mark_or, symbol_by, symbol_of, names_after}
-use Rattle.sm_syntax.specs.claim.Syntax.{Expression, Condition, Code}
-use Rattle.sm_syntax.specs.declared.tree.Cmp.{Cmp}
-use Rattle.sm_syntax.specs.text.Tokens.{Table, entry, mark_of_word, mark_of_sign, reserved_words}
-use Rattle.sm_syntax.specs.declared.token.TokenKind.{TokenKind}
-use Rattle.sm_syntax.specs.declared.token.TokenKind.TheVariants.{Word, Number, Sign}
+use Rattle.sm_syntax.specs.text.Symbols.{symbol_of}
+use Rattle.sm_syntax.specs.text.Tokens.{mark_of_word, reserved_words}
 use Rattle.sm_syntax.specs.declared.token.Token.{Token}
-use Rattle.sm_text.specs.parsing.BlockTokens.{token_symbols, is_mark, is_sign, many, IsGroup}
-use Rattle.sm_text.specs.rules.Parsers.{first, fault, Fault}
+use Rattle.sm_text.specs.rules.Parsers.{fault, Fault}
 use Rattle.sm_text.specs.rules.Reading as r
-use Rattle.sm_text.specs.resolving.TokenTexts.{sign_by}
 use Rattle.sm_text.proofs.Sound.Conditions.{each_comparison}
 use Rattle.sm_text.proofs.Prefix.FirstTokens.{none_left}
 use Rattle.sm_text.proofs.Prefix.Exact.{any_block_told, block_reads}

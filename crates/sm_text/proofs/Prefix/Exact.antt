@@ -1,23 +1,12 @@
 -- The parsers of heads and blocks read exactly what the grammar spells.
-use Rattle.std.proofs.Common.{◌≡◌, ℕ, suc, ◌-◌, refl, sym, ap, ◌∙◌, subst, arith, Bool, true, false, Ok, List, [], ◌∷◌, ◌++◌, map}
+use Rattle.sm_text.proofs.Imports.{◌≡◌, ℕ, suc, ◌-◌, refl, sym, ap, ◌∙◌, subst, arith, Bool, true, false, Ok, List, [], ◌∷◌, ◌++◌, map, nat_tests, Marked, plain, word, Symbol, IsBlock, names_after, Code, lexed, Parser, pure, unmarked, tokens_between, IsHead, head, SpellsHead, HeadParts}
 use Rattle.std.specs.Prelude.{nat_le}
-use Rattle.std.proofs.lemmas.Bool.Decides.{nat_tests}
 use Rattle.std.proofs.lemmas.List.{append-nil}
 use Rattle.sm_syntax.specs.declared.symbol.Mark.TheVariants as mark
 use Rattle.sm_syntax.specs.declared.symbol.Symbol.TheVariants as s
 use Rattle.sm_syntax.specs.text.StatementGrammar as stmt
-use Rattle.sm_syntax.specs.text.MarkedSymbols.{Marked, plain, word}
-use Rattle.sm_syntax.specs.declared.symbol.Symbol.{Symbol}
-use Rattle.sm_syntax.specs.text.StatementGrammar.{IsBlock}
-use Rattle.sm_syntax.specs.text.Symbols.{names_after}
 use Rattle.sm_syntax.specs.claim.Syntax as plain_code
-use Rattle.sm_syntax.specs.claim.Syntax.{Code}
-use Rattle.sm_syntax.specs.text.Tokens.{lexed}
-use Rattle.sm_text.specs.rules.Parsers.{Parser, pure}
-use Rattle.sm_text.specs.parsing.Places.{unmarked}
-use Rattle.sm_text.specs.parsing.Prefix.{tokens_between, IsHead, head, SpellsHead}
 use Rattle.sm_text.specs.rules.Reading as r
-use Rattle.sm_text.specs.Tasks.{HeadParts}
 use Rattle.sm_text.proofs.Complete.Parsers.{past, reach, grouped-inside, go_on-pure, unmarked-plain, reach-plain}
 use Rattle.sm_text.proofs.Complete.Statements.{block_read}
 use Rattle.sm_text.proofs.Complete.Tasks.{head-then}

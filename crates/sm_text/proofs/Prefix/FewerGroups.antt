@@ -1,17 +1,11 @@
 -- What the grammar spells where groups are open, and nothing nests too deep, it spells where fewer are open.
-use Rattle.std.proofs.Common.{◌≡◌, ℕ, suc, ◌≤◌, Bool, false, nat_le, sym, ap, ◌∙◌, subst, arith, List, [], ◌∷◌, ◌++◌}
-use Rattle.std.proofs.lemmas.Bool.Decides.{nat_tests}
+use Rattle.sm_text.proofs.Imports.{◌≡◌, ℕ, suc, ◌≤◌, Bool, false, sym, ap, ◌∙◌, subst, arith, List, [], ◌∷◌, ◌++◌, nat_tests, Expression, Read, Condition, Code, Write, If, While, Marked, plain, word, opens, joins, Mark, Level, IsExpression, Rank, IsCondition, AreStatements, IsBlock}
+use Rattle.std.proofs.Common.{nat_le}
 use Rattle.sm_syntax.specs.declared.symbol.Mark.TheVariants as mark
 use Rattle.sm_syntax.specs.declared.symbol.Symbol.TheVariants as s
-use Rattle.sm_syntax.specs.claim.Syntax.{Expression, Read, Condition, Code, Write, If, While}
 use Rattle.sm_syntax.specs.text.ExpressionGrammar as exp
 use Rattle.sm_syntax.specs.text.ConditionGrammar as cond
 use Rattle.sm_syntax.specs.text.StatementGrammar as stmt
-use Rattle.sm_syntax.specs.text.MarkedSymbols.{Marked, plain, word, opens, joins}
-use Rattle.sm_syntax.specs.declared.symbol.Mark.{Mark}
-use Rattle.sm_syntax.specs.text.ExpressionGrammar.{Level, IsExpression}
-use Rattle.sm_syntax.specs.text.ConditionGrammar.{Rank, IsCondition}
-use Rattle.sm_syntax.specs.text.StatementGrammar.{AreStatements, IsBlock}
 use Rattle.sm_text.proofs.RoundTrip.Fitting.{IsClean, clean_left, clean_right}
 
 -- a group that doesn't nest too deep doesn't where fewer are open

@@ -1,18 +1,9 @@
 -- What a parser reads of the first tokens it reads of them all. What it refuses before their end it refuses of them all.
-use Rattle.std.proofs.Common.{◌≡◌, ℕ, ◌+◌, ◌-◌, ◌≤◌, refl, sym, ap, ◌∙◌, subst, arith, Result, Ok, Err, List, [], ◌∷◌, ◌++◌, length, take, drop, append_assoc, length-append}
-use Rattle.std.proofs.lemmas.List.{length-map, length-drop, length-take-le, take-take}
-use Rattle.sm_syntax.specs.text.MarkedSymbols.{Marked}
-use Rattle.sm_syntax.specs.declared.symbol.Symbol.{Symbol}
-use Rattle.sm_syntax.specs.text.StatementGrammar.{IsBlock}
-use Rattle.sm_syntax.specs.text.Symbols.{symbol_of, names_after}
-use Rattle.sm_syntax.specs.claim.Syntax.{Code}
-use Rattle.sm_syntax.specs.text.Tokens.{lexed}
+use Rattle.sm_text.proofs.Imports.{◌≡◌, ℕ, ◌+◌, ◌-◌, ◌≤◌, refl, sym, ap, ◌∙◌, subst, arith, Result, Ok, Err, List, [], ◌∷◌, ◌++◌, length, take, drop, append_assoc, length-map, length-take-le, take-take, Marked, Symbol, IsBlock, symbol_of, names_after, Code, lexed, token_symbols, IsFirstBlock, names_counted, Parser, first, Grammar, SpellsBlockAt}
+use Rattle.std.proofs.Common.{length-append}
+use Rattle.std.proofs.lemmas.List.{length-drop}
 use Rattle.sm_syntax.specs.declared.token.Token.{Token}
-use Rattle.sm_text.specs.parsing.BlockTokens.{token_symbols, IsFirstBlock}
-use Rattle.sm_text.specs.resolving.NameCounts.{names_counted}
-use Rattle.sm_text.specs.rules.Parsers.{Parser, first, Fault}
-use Rattle.sm_text.specs.parsing.Places.{Grammar}
-use Rattle.sm_text.specs.parsing.Prefix.{SpellsBlockAt}
+use Rattle.sm_text.specs.rules.Parsers.{Fault}
 use Rattle.sm_text.specs.rules.Reading as r
 use Rattle.sm_text.proofs.Numbering.Counted.{signs-split, cut_names}
 use Rattle.sm_text.proofs.Prefix.Judged.{block_judges}

@@ -1,23 +1,7 @@
 -- Each name of a head has a text. Where all that it assumes is declared, a text without the assumption spells its program.
-use Rattle.std.proofs.Common.{◌≡◌, ℕ, ◌==◌, Bool, true, false, true≢false, if◌then◌else◌, Option, Some, None, is_some, List, [], ◌∷◌, ◌++◌, map, unwrap_or, refl, sym, ap, ◌∙◌, subst, arith}
-use Rattle.std.proofs.lemmas.Bool.Decides.{nat_tests}
-use Rattle.std.specs.List.{AllByRecursion}
-use Rattle.std.specs.Prelude.{slice_get}
+use Rattle.sm_text.proofs.Imports.{◌≡◌, ℕ, ◌==◌, Bool, true, false, true≢false, Option, Some, None, is_some, List, [], ◌∷◌, ◌++◌, map, refl, sym, ap, ◌∙◌, subst, arith, nat_tests, AllByRecursion, slice_get, Sort, names_in, names_tested, Marked, plain, Symbol, sort_of, is_among, with_text, symbol_of, Expression, Lit, Var, Read, Neg, Plus, Minus, Times, Condition, Yes, No, Compare, Not, And, Or, Lexed, lexed, with_text-among, is_among-with_text, grown-with_text, IsProgram, program, HasProgramText, pieces_text, unmarked, ProgramParts, HeadParts, tokens_between, IsHead, head, SpellsHead, AssumesDeclared, IsNamedHead}
+use Rattle.std.proofs.Common.{if◌then◌else◌, unwrap_or}
 use Rattle.sm_syntax.specs.declared.symbol.Symbol.TheVariants as s
-use Rattle.sm_syntax.specs.declared.tree.Sort.{Sort}
-use Rattle.sm_syntax.specs.text.Uses.{names_in, names_tested}
-use Rattle.sm_syntax.specs.text.MarkedSymbols.{Marked, plain}
-use Rattle.sm_syntax.specs.declared.symbol.Symbol.{Symbol}
-use Rattle.sm_syntax.specs.text.Parts.{sort_of}
-use Rattle.sm_syntax.specs.text.Symbols.{is_among, with_text, symbol_of}
-use Rattle.sm_syntax.specs.claim.Syntax.{Expression, Lit, Var, Read, Neg, Plus, Minus, Times, Condition, Yes, No, Compare, Not, And, Or}
-use Rattle.sm_syntax.specs.text.Tokens.{Lexed, lexed}
-use Rattle.sm_syntax.proofs.Numbering.{with_text-among, is_among-with_text, grown-with_text}
-use Rattle.sm_text.specs.parsing.Fragments.{IsProgram, program, HasProgramText}
-use Rattle.sm_text.specs.printing.Pieces.{pieces_text}
-use Rattle.sm_text.specs.parsing.Places.{unmarked}
-use Rattle.sm_text.specs.Tasks.{ProgramParts, HeadParts}
-use Rattle.sm_text.specs.parsing.Prefix.{tokens_between, IsHead, head, SpellsHead, AssumesDeclared, IsNamedHead}
 use Rattle.sm_text.proofs.RoundTrip.Content.{content, both, content_of, content_tested, content_used, content_listed, content_declared, content_assumed, declarations_content, outputs_content, assumption_content, shared_content}
 use Rattle.sm_text.proofs.RoundTrip.Fitting.{IsClean, clean_left, clean_right, clean_plain}
 use Rattle.sm_text.proofs.RoundTrip.Parts.{content_of_program, program_content}

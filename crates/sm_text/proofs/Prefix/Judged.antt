@@ -1,6 +1,5 @@
 -- The readings of heads and blocks judge by their grammars.
-use Rattle.std.proofs.Common.{ℕ, List, []}
-use Rattle.sm_text.specs.parsing.Prefix.{AreHeads, AreBlocks}
+use Rattle.sm_text.proofs.Imports.{ℕ, List, [], AreHeads, AreBlocks}
 use Rattle.sm_text.specs.rules.Reading as r
 use Rattle.sm_text.proofs.Sound.Sections.{head_told}
 use Rattle.sm_text.proofs.Prefix.Exact.{head_under, is_under, head_read, groups_left, any_block_told, any_block_read}

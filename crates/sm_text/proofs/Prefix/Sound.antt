@@ -1,16 +1,8 @@
 -- What a parser reads of the symbols from a token on is what the grammar spells by the first tokens there.
-use Rattle.std.proofs.Common.{◌≡◌, ℕ, ◌+◌, ◌-◌, ◌≤◌, Result, Ok, Err, List, ◌++◌, map, length, take, drop, take_all, sym, ap, ◌∙◌, subst, arith}
-use Rattle.std.proofs.Math.Seq.{take-append_seam}
-use Rattle.std.proofs.lemmas.List.{length-append, length-map, length-drop}
-use Rattle.sm_syntax.specs.text.MarkedSymbols.{Marked, plain}
-use Rattle.sm_syntax.specs.declared.symbol.Symbol.{Symbol}
-use Rattle.sm_syntax.specs.text.Symbols.{symbol_of, names_after}
-use Rattle.sm_syntax.specs.text.Tokens.{lexed}
+use Rattle.sm_text.proofs.Imports.{◌≡◌, ℕ, ◌+◌, ◌-◌, ◌≤◌, Result, Ok, Err, List, ◌++◌, map, length, take, drop, take_all, sym, ap, ◌∙◌, subst, arith, take-append_seam, length-map, Marked, plain, Symbol, symbol_of, names_after, lexed, token_symbols, Parser, tokens_between, SpellsFrom, names_counted}
+use Rattle.std.proofs.lemmas.List.{length-append, length-drop}
 use Rattle.sm_syntax.specs.declared.token.Token.{Token}
-use Rattle.sm_text.specs.parsing.BlockTokens.{token_symbols}
-use Rattle.sm_text.specs.rules.Parsers.{Parser, Fault}
-use Rattle.sm_text.specs.parsing.Prefix.{tokens_between, SpellsFrom}
-use Rattle.sm_text.specs.resolving.NameCounts.{names_counted}
+use Rattle.sm_text.specs.rules.Parsers.{Fault}
 use Rattle.sm_text.proofs.Numbering.Counted.{signs-take, signs-split, cut_names}
 use Rattle.sm_text.proofs.Sound.Parsers.{Takes, Told, Describes}
 

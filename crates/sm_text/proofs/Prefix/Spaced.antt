@@ -1,16 +1,8 @@
 -- What the tokens of a part of a text spell, a text of its own spells: their symbols, each before a space.
-use Rattle.std.proofs.Common.{◌≡◌, ℕ, zero, suc, ◌-◌, Bool, true, false, List, [], ◌∷◌, map, take, drop, refl, sym, ap, ◌∙◌, subst, arith, if◌then◌else◌, ◌==◌}
-use Rattle.std.specs.List.{AllByRecursion}
+use Rattle.sm_text.proofs.Imports.{◌≡◌, ℕ, zero, suc, ◌-◌, Bool, true, false, List, [], ◌∷◌, map, take, drop, refl, sym, ap, ◌∙◌, subst, arith, ◌==◌, AllByRecursion, plain, Symbol, IsBlock, symbol_of, names_after, Code, is_word_byte, lexed, HasBlockText, pieces_text, symbols_in, tokens_between, SpellsBlockAt}
+use Rattle.std.proofs.Common.{if◌then◌else◌}
 use Rattle.sm_syntax.specs.declared.symbol.Symbol.TheVariants as s
-use Rattle.sm_syntax.specs.text.MarkedSymbols.{plain}
-use Rattle.sm_syntax.specs.declared.symbol.Symbol.{Symbol}
-use Rattle.sm_syntax.specs.text.StatementGrammar.{IsBlock}
-use Rattle.sm_syntax.specs.text.Symbols.{symbol_of, names_after}
-use Rattle.sm_syntax.specs.claim.Syntax.{Code}
-use Rattle.sm_syntax.specs.text.Tokens.{is_word_byte, lexed}
-use Rattle.sm_text.specs.parsing.Fragments.{HasBlockText}
-use Rattle.sm_text.specs.printing.Pieces.{Piece, Token, space, pieces_text, symbols_in}
-use Rattle.sm_text.specs.parsing.Prefix.{tokens_between, SpellsBlockAt}
+use Rattle.sm_text.specs.printing.Pieces.{Piece, Token, space}
 use Rattle.sm_text.proofs.RoundTrip.Content.{content}
 use Rattle.sm_text.proofs.Prefix.FewerGroups.{block_fewer}
 use Rattle.sm_text.proofs.RoundTrip.Fitting.{clean_plain}

@@ -1,21 +1,9 @@
 -- In canonical pieces nothing after a token goes on with it.
-use Rattle.std.proofs.Common.{◌≡◌, ℕ, ℤ, pos, negsuc, ◌^◌, lit<, ◌<◌, Bool, true, false, ◌==◌, List, [], ◌∷◌, ◌++◌, length, unwrap_or, if◌then◌else◌, refl, sym, subst, append_assoc, arith}
-use Rattle.std.proofs.lemmas.Bool.Decides.{nat_tests}
-use Rattle.std.proofs.lemmas.Fmt.{decimal_is_IsNumeral_wide}
-use Rattle.std.specs.Char.{is_ascii_digit}
-use Rattle.std.specs.Fmt.{decimal}
-use Rattle.std.specs.List.{list_all}
-use Rattle.std.specs.Prelude.{slice_get}
-use Rattle.sm_syntax.specs.declared.symbol.Mark.{Mark}
+use Rattle.sm_text.proofs.Imports.{◌≡◌, ℕ, ℤ, pos, negsuc, ◌^◌, lit<, ◌<◌, Bool, true, false, ◌==◌, List, [], ◌∷◌, ◌++◌, length, refl, sym, subst, append_assoc, arith, nat_tests, decimal_is_IsNumeral_wide, is_ascii_digit, decimal, list_all, slice_get, Mark, Symbol, comparison, Expression, Lit, Var, Read, Neg, Plus, Minus, Times, Condition, Yes, No, Compare, Not, And, Or, Cmp, is_word_start, is_word_byte, pieces_text, mark_piece, number_piece, name_piece, between, is_atom, operand, expression_pieces, is_test, part, condition_pieces}
+use Rattle.std.proofs.Common.{unwrap_or, if◌then◌else◌}
 use Rattle.sm_syntax.specs.declared.symbol.Mark.TheVariants as mark
-use Rattle.sm_syntax.specs.declared.symbol.Symbol.{Symbol}
 use Rattle.sm_syntax.specs.declared.symbol.Symbol.TheVariants as s
-use Rattle.sm_syntax.specs.text.ConditionGrammar.{comparison}
-use Rattle.sm_syntax.specs.claim.Syntax.{Expression, Lit, Var, Read, Neg, Plus, Minus, Times, Condition, Yes, No, Compare, Not, And, Or}
-use Rattle.sm_syntax.specs.declared.tree.Cmp.{Cmp}
-use Rattle.sm_syntax.specs.text.Tokens.{is_word_start, is_word_byte}
-use Rattle.sm_text.specs.printing.Pieces.{Piece, pieces_text, mark_piece, number_piece, name_piece, space}
-use Rattle.sm_text.specs.printing.Canonical.{between, is_atom, operand, expression_pieces, is_test, part, condition_pieces}
+use Rattle.sm_text.specs.printing.Pieces.{Piece, space}
 use Rattle.sm_text.proofs.Sound.Conditions.{each_comparison}
 use Rattle.sm_text.proofs.RoundTrip.PieceTokens.{begins, is_reserved, goes_on_mark, both-left, digits_of_decimal}
 use Rattle.sm_text.proofs.RoundTrip.TextTokens.{goes_on, IsNameText, IsLiteral, AreApart}

@@ -1,15 +1,10 @@
 -- In canonical code nothing after a token goes on with it.
-use Rattle.std.proofs.Common.{◌≡◌, ℕ, lit<, ◌^◌, ◌<◌, true, false, ◌==◌, List, [], ◌∷◌, ◌++◌, unwrap_or, refl, sym, subst, append_assoc, arith}
-use Rattle.std.proofs.lemmas.Fmt.{decimal_is_IsNumeral_wide}
-use Rattle.std.specs.Fmt.{decimal}
-use Rattle.std.specs.List.{list_all}
-use Rattle.std.specs.Prelude.{slice_get}
+use Rattle.sm_text.proofs.Imports.{◌≡◌, ℕ, lit<, ◌^◌, ◌<◌, true, false, ◌==◌, List, [], ◌∷◌, ◌++◌, refl, sym, subst, append_assoc, arith, decimal_is_IsNumeral_wide, decimal, list_all, slice_get, Condition, Code, End, Skip, Assign, Write, If, While, Hole, is_space, pieces_text, mark_piece, name_piece, line_end, deeper, line, element_pieces, expression_pieces, condition_pieces, code_pieces}
+use Rattle.std.proofs.Common.{unwrap_or}
 use Rattle.sm_syntax.specs.declared.symbol.Mark.TheVariants as mark
 use Rattle.sm_syntax.specs.declared.symbol.Symbol.TheVariants as s
-use Rattle.sm_syntax.specs.claim.Syntax.{Condition, Code, End, Skip, Assign, Write, If, While, Hole}
-use Rattle.sm_syntax.specs.text.Tokens.{is_space}
-use Rattle.sm_text.specs.printing.Pieces.{Piece, Gap, pieces_text, mark_piece, name_piece, space, line_end, deeper, line}
-use Rattle.sm_text.specs.printing.Canonical.{element_pieces, expression_pieces, condition_pieces, braces, branches, guard_pieces, code_pieces}
+use Rattle.sm_text.specs.printing.Pieces.{Piece, Gap, space}
+use Rattle.sm_text.specs.printing.Canonical.{braces, branches, guard_pieces}
 use Rattle.sm_text.proofs.RoundTrip.PieceTokens.{begins, digits_of_decimal}
 use Rattle.sm_text.proofs.RoundTrip.TextTokens.{IsNameText, AreApart}
 use Rattle.sm_text.proofs.RoundTrip.Apart.{decimal_safe, IsClosed, Runs, RunsBefore, IsWritten, IsTested, closed_at, name_runs, square_runs, expression_runs, condition_runs, space_closed}

@@ -1,21 +1,16 @@
 -- The grammar spells code by its canonical symbols.
-use Rattle.std.proofs.Common.{◌≡◌, ℕ, suc, ◌+◌, ◌<◌, ◌≤◌, Bool, true, false, max, List, [], ◌∷◌, ◌++◌, map, nat_le, refl, sym, ap, subst, ◌∙◌, append_assoc, arith}
-use Rattle.std.proofs.lemmas.Bool.Decides.{nat_tests}
+use Rattle.sm_text.proofs.Imports.{◌≡◌, ℕ, suc, ◌+◌, ◌<◌, ◌≤◌, Bool, true, false, max, List, [], ◌∷◌, ◌++◌, map, refl, sym, ap, subst, ◌∙◌, append_assoc, arith, nat_tests, Expression, Lit, Var, Read, Neg, Plus, Minus, Times, Condition, Yes, No, Compare, Not, And, Or, Code, End, Skip, Assign, Write, If, While, Hole, expression_depth, condition_depth, Marked, plain, opens, joins, Mark, Atom, Unary, IsExpression, comparison, Test, Literal, IsCondition, IsHoleNumber, AreStatements, IsBlock, symbols_in, mark_piece, name_piece, line_end, deeper, line, between, is_atom, operand, element_pieces, expression_pieces, is_test, part, condition_pieces, code_pieces}
+use Rattle.std.proofs.Common.{nat_le}
 use Rattle.sm_syntax.specs.declared.symbol.Mark.TheVariants as mark
 use Rattle.sm_syntax.specs.declared.symbol.Symbol.TheVariants as s
-use Rattle.sm_syntax.specs.claim.Syntax.{Expression, Lit, Var, Read, Neg, Plus, Minus, Times, Condition, Yes, No, Compare, Not, And, Or, Code, End, Skip, Assign, Write, If, While, Hole}
-use Rattle.sm_syntax.specs.text.Conditions.{expression_depth, condition_depth}
 use Rattle.sm_syntax.specs.text.MarkedSymbols as g
 use Rattle.sm_syntax.specs.text.ExpressionGrammar as exp
 use Rattle.sm_syntax.specs.text.ConditionGrammar as cond
 use Rattle.sm_syntax.specs.text.StatementGrammar as stmt
-use Rattle.sm_syntax.specs.text.MarkedSymbols.{Marked, plain, opens, joins}
-use Rattle.sm_syntax.specs.declared.symbol.Mark.{Mark}
-use Rattle.sm_syntax.specs.text.ExpressionGrammar.{Atom, Unary, Product, Sum, IsExpression}
-use Rattle.sm_syntax.specs.text.ConditionGrammar.{comparison, Test, Literal, Conjunction, Disjunction, IsCondition}
-use Rattle.sm_syntax.specs.text.StatementGrammar.{IsHoleNumber, AreStatements, IsBlock}
-use Rattle.sm_text.specs.printing.Pieces.{Piece, Token, Gap, symbols_in, mark_piece, name_piece, space, line_end, deeper, line}
-use Rattle.sm_text.specs.printing.Canonical.{between, is_atom, operand, element_pieces, expression_pieces, is_test, part, condition_pieces, braces, branches, guard_pieces, code_pieces}
+use Rattle.sm_syntax.specs.text.ExpressionGrammar.{Product, Sum}
+use Rattle.sm_syntax.specs.text.ConditionGrammar.{Conjunction, Disjunction}
+use Rattle.sm_text.specs.printing.Pieces.{Piece, Token, Gap, space}
+use Rattle.sm_text.specs.printing.Canonical.{braces, branches, guard_pieces}
 
 -- the symbols of pieces, none of which nests too deep
 abbrev pub marked : List Piece → List Marked

@@ -1,24 +1,13 @@
 -- The names and numbers of a tree's text, in order: they are the same in each text that the grammar takes for the tree.
-use Rattle.std.proofs.Common.{◌≡◌, ℕ, pos, Option, Some, None, List, [], ◌∷◌, ◌++◌, refl, sym, ap, ap₂, ◌∙◌, append-nil}
+use Rattle.sm_text.proofs.Imports.{◌≡◌, ℕ, pos, Option, Some, None, List, [], ◌∷◌, ◌++◌, refl, sym, ap, ap₂, ◌∙◌, Sort, Expression, Lit, Var, Read, Neg, Plus, Minus, Times, Condition, Yes, No, Compare, Not, And, Or, Code, End, Skip, Assign, Write, If, While, Hole, Fillings, Copy, O, A, B, M, Parts, Marked, Symbol, Mark, Level, IsExpression, Rank, IsCondition, AreStatements, IsBlock, AreNames, with_sort, AreDeclarations, AreOutputs, IsAssumption, IsShared, AreFillings, IsList, IsTask}
+use Rattle.std.proofs.Common.{append-nil}
 use Rattle.sm_syntax.specs.declared.symbol.Mark.TheVariants as mark
 use Rattle.sm_syntax.specs.declared.symbol.Symbol.TheVariants as s
-use Rattle.sm_syntax.specs.declared.tree.Sort.{Sort}
-use Rattle.sm_syntax.specs.claim.Syntax.{Expression, Lit, Var, Read, Neg, Plus, Minus, Times, Condition, Yes, No, Compare, Not, And, Or, Code, End, Skip, Assign, Write, If, While, Hole}
-use Rattle.sm_syntax.specs.claim.Fill.{Fillings}
-use Rattle.sm_syntax.specs.claim.ConflictFree.{Copy, O, A, B, M}
-use Rattle.sm_syntax.specs.text.Parts.{Parts}
 use Rattle.sm_syntax.specs.text.MarkedSymbols as g
 use Rattle.sm_syntax.specs.text.ExpressionGrammar as exp
 use Rattle.sm_syntax.specs.text.ConditionGrammar as cond
 use Rattle.sm_syntax.specs.text.StatementGrammar as stmt
 use Rattle.sm_syntax.specs.text.TaskGrammar as task
-use Rattle.sm_syntax.specs.text.MarkedSymbols.{Marked}
-use Rattle.sm_syntax.specs.declared.symbol.Symbol.{Symbol}
-use Rattle.sm_syntax.specs.declared.symbol.Mark.{Mark}
-use Rattle.sm_syntax.specs.text.ExpressionGrammar.{Level, IsExpression}
-use Rattle.sm_syntax.specs.text.ConditionGrammar.{Rank, IsCondition}
-use Rattle.sm_syntax.specs.text.StatementGrammar.{AreStatements, IsBlock}
-use Rattle.sm_syntax.specs.text.TaskGrammar.{AreNames, with_sort, AreDeclarations, AreOutputs, IsAssumption, IsShared, AreFillings, IsList, IsTask}
 
 -- a name by its number
 abbrev pub named : ℕ → Symbol

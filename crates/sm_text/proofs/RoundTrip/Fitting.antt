@@ -1,19 +1,11 @@
 -- What the grammar takes where nothing nests too deep, and is no deeper than a task may be, nests nowhere too deep in its canonical text.
-use Rattle.std.proofs.Common.{◌≡◌, ℕ, suc, ◌+◌, ◌<◌, ◌≤◌, false, max, List, [], ◌∷◌, ◌++◌, map, nat_le, refl, arith}
-use Rattle.std.proofs.lemmas.Bool.Decides.{nat_tests}
+use Rattle.sm_text.proofs.Imports.{◌≡◌, ℕ, suc, ◌+◌, ◌<◌, ◌≤◌, false, max, List, [], ◌∷◌, ◌++◌, map, refl, arith, nat_tests, Expression, Condition, Code, End, Skip, Assign, Write, If, While, Hole, append, code_depth, Fillings, filling, fill, Marked, plain, Symbol, Level, IsExpression, Rank, IsCondition, IsHoleNumber, AreStatements, IsBlock}
+use Rattle.std.proofs.Common.{nat_le}
 use Rattle.sm_syntax.specs.declared.symbol.Mark.TheVariants as mark
-use Rattle.sm_syntax.specs.claim.Syntax.{Expression, Condition, Code, End, Skip, Assign, Write, If, While, Hole, append}
-use Rattle.sm_syntax.specs.text.Conditions.{code_depth}
-use Rattle.sm_syntax.specs.claim.Fill.{Fillings, filling, fill}
 use Rattle.sm_syntax.specs.text.MarkedSymbols as g
 use Rattle.sm_syntax.specs.text.ExpressionGrammar as exp
 use Rattle.sm_syntax.specs.text.ConditionGrammar as cond
 use Rattle.sm_syntax.specs.text.StatementGrammar as stmt
-use Rattle.sm_syntax.specs.text.MarkedSymbols.{Marked, plain}
-use Rattle.sm_syntax.specs.declared.symbol.Symbol.{Symbol}
-use Rattle.sm_syntax.specs.text.ExpressionGrammar.{Level, IsExpression}
-use Rattle.sm_syntax.specs.text.ConditionGrammar.{Rank, IsCondition}
-use Rattle.sm_syntax.specs.text.StatementGrammar.{IsHoleNumber, AreStatements, IsBlock}
 use Rattle.sm_text.proofs.RoundTrip.CodeSpelled.{reads, reads_tested, IsPrintable}
 
 -- nothing nests too deep

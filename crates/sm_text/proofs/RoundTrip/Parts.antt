@@ -1,19 +1,9 @@
 -- The canonical text of a program, a condition or a block that some text spells, spells it again.
-use Rattle.std.proofs.Common.{◌≡◌, ℕ, zero, suc, ◌≤◌, true, List, [], ◌++◌, length, map, refl, sym, ap, ◌∙◌, subst, append-nil, arith}
-use Rattle.std.specs.List.{AllByRecursion, list_all}
-use Rattle.sm_syntax.specs.text.Conditions.{condition_depth, code_depth}
-use Rattle.sm_syntax.specs.text.MarkedSymbols.{Marked, plain}
-use Rattle.sm_syntax.specs.declared.symbol.Symbol.{Symbol}
-use Rattle.sm_syntax.specs.text.ConditionGrammar.{Disjunction, IsCondition}
-use Rattle.sm_syntax.specs.text.StatementGrammar.{IsBlock}
-use Rattle.sm_syntax.specs.text.Symbols.{names_of, symbols_of}
-use Rattle.sm_syntax.specs.claim.Syntax.{Condition, Code}
-use Rattle.sm_syntax.specs.text.Tokens.{Lexed, is_space}
-use Rattle.sm_text.specs.printing.Canonical.{condition_pieces, block_pieces, declaration_pieces, output_pieces, shared_pieces, program_pieces}
-use Rattle.sm_text.specs.Tasks.{ProgramParts}
-use Rattle.sm_text.specs.parsing.Fragments.{IsProgram, program, SpellsProgram, HasProgramText, IsNamedProgram, IsKnown, symbols_under, IsCutUnder, SpellsCondition, HasConditionText, SpellsBlock, HasBlockText}
-use Rattle.sm_text.specs.printing.Named.{IsTestedIn, IsUsedIn}
-use Rattle.sm_text.specs.printing.Pieces.{Piece, pieces_text, symbols_in, margin_at}
+use Rattle.sm_text.proofs.Imports.{◌≡◌, ℕ, zero, suc, ◌≤◌, true, List, [], ◌++◌, length, map, refl, sym, ap, ◌∙◌, subst, arith, AllByRecursion, list_all, condition_depth, code_depth, Marked, plain, Symbol, IsCondition, IsBlock, names_of, symbols_of, Condition, Code, Lexed, is_space, condition_pieces, block_pieces, declaration_pieces, output_pieces, shared_pieces, ProgramParts, IsProgram, program, SpellsProgram, HasProgramText, IsNamedProgram, IsKnown, symbols_under, IsCutUnder, SpellsCondition, HasConditionText, SpellsBlock, HasBlockText, IsTestedIn, IsUsedIn, pieces_text, symbols_in, margin_at}
+use Rattle.std.proofs.Common.{append-nil}
+use Rattle.sm_syntax.specs.text.ConditionGrammar.{Disjunction}
+use Rattle.sm_text.specs.printing.Canonical.{program_pieces}
+use Rattle.sm_text.specs.printing.Pieces.{Piece}
 use Rattle.sm_text.proofs.RoundTrip.CodeSpelled.{marked, marked-append, told}
 use Rattle.sm_text.proofs.RoundTrip.TaskSpelled.{block_told, declarations_shown, some_outputs_shown, shared_shown}
 use Rattle.sm_text.proofs.RoundTrip.TextTokens.{AreApart, relexed}

@@ -1,19 +1,9 @@
 -- The tokens of a printed text: each piece is cut as it was put.
-use Rattle.std.proofs.Common.{◌≡◌, ℕ, ◌+◌, ◌-◌, ◌^◌, ◌==◌, ◌<◌, ◌≤◌, Bool, true, false, ◌&&◌, if◌then◌else◌, List, [], ◌∷◌, ◌++◌, length, take, nat_le, nat_lt, ◌%◌, refl, sym, ap, subst, ◌∙◌, is_some, eq-eqb, lit<, arith}
-use Rattle.std.proofs.lemmas.Bool.Decides.{nat_tests}
-use Rattle.std.proofs.lemmas.Fmt.{decimal_by_steps_wide, decimal_is_IsNumeral_wide}
-use Rattle.std.proofs.lemmas.List.Folds.{list_all-append}
-use Rattle.std.specs.Fmt.{decimal}
-use Rattle.std.specs.Char.{is_ascii_digit}
-use Rattle.std.specs.List.{prefix_len, list_all}
-use Rattle.std.specs.Str.Parse.{digits_value}
-use Rattle.sm_syntax.specs.declared.symbol.Mark.{Mark}
+use Rattle.sm_text.proofs.Imports.{◌≡◌, ℕ, ◌+◌, ◌-◌, ◌^◌, ◌==◌, ◌<◌, ◌≤◌, Bool, true, false, ◌&&◌, List, [], ◌∷◌, ◌++◌, length, take, nat_lt, ◌%◌, refl, sym, ap, subst, ◌∙◌, is_some, eq-eqb, lit<, arith, nat_tests, decimal_by_steps_wide, decimal_is_IsNumeral_wide, list_all-append, decimal, is_ascii_digit, prefix_len, list_all, digits_value, Mark, Front, is_space, is_hash, is_word_start, is_word_byte, by_front, with_token, lexed_after, TokenKind, BadToken, WideNumber, spelling}
+use Rattle.std.proofs.Common.{if◌then◌else◌, nat_le}
 use Rattle.sm_syntax.specs.declared.symbol.Mark.TheVariants as mark
 use Rattle.sm_syntax.specs.declared.token.TokenKind.TheVariants as kind
-use Rattle.sm_syntax.specs.text.Tokens.{Front, Gap, Piece, Fault, front_of, word_at, number_at, sign_at, is_space, is_hash, is_word_start, is_word_byte, mark_of_sign, signs, by_front, with_token, lexed_after, lexed_from}
-use Rattle.sm_syntax.specs.declared.token.TokenKind.{TokenKind}
-use Rattle.sm_syntax.specs.declared.token.LexKind.TheVariants.{BadToken, WideNumber}
-use Rattle.sm_text.specs.printing.Pieces.{spelling}
+use Rattle.sm_syntax.specs.text.Tokens.{Gap, Piece, Fault, front_of, word_at, number_at, sign_at, mark_of_sign, signs, lexed_from}
 
 pub both-left : (a b : Bool) → (a && b) ≡ true → a ≡ true
 both-left true b h = refl

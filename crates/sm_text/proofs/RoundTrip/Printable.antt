@@ -1,26 +1,12 @@
 -- A task that a text spells nests nowhere too deep in its canonical text.
-use Rattle.std.proofs.Common.{◌≡◌, ℕ, ◌≤◌, ◌==◌, Bool, true, false, not, ◌||◌, if◌then◌else◌, Option, Some, None, List, [], ◌∷◌, ◌++◌, length, map, nat_lt, refl, sym, ap, ◌∙◌, subst, arith, eq-eqb}
-use Rattle.std.proofs.lemmas.Bool.Decides.{nat_tests}
-use Rattle.std.proofs.lemmas.List.Folds.{list_any-append}
-use Rattle.std.specs.List.{AllByRecursion}
-use Rattle.std.specs.Option.{option_or}
+use Rattle.sm_text.proofs.Imports.{◌≡◌, ℕ, ◌≤◌, ◌==◌, Bool, true, false, not, ◌||◌, Option, Some, None, List, [], ◌∷◌, ◌++◌, length, map, nat_lt, refl, sym, ap, ◌∙◌, subst, arith, eq-eqb, nat_tests, list_any-append, AllByRecursion, option_or, Sort, Condition, Code, End, Skip, Assign, Write, If, While, Hole, Refusal, DoubleHole, UnknownHole, TooMany, TooDeep, is_in, first_repeated, first_outside, first_of_all, first_of_lists, Shared, ListOf, at_hole, holes_of, filled_holes, hole_in_filling, missing_filling, double_name, first_output_fault, first_sort_fault, over, condition_depth, code_depth, condition_nodes, code_nodes, names_tested, names_used, Fillings, filling, fill, Copy, O, A, B, M, Parts, sort_of, Marked, plain, Symbol, Mark, IsAssumption, IsShared, AreNames, AreOutputs, AreFillings, IsList, IsTask}
+use Rattle.std.proofs.Common.{if◌then◌else◌}
 use Rattle.std.specs.Prelude.{option_map}
 use Rattle.sm_syntax.specs.declared.symbol.Mark.TheVariants as mark
-use Rattle.sm_syntax.specs.declared.tree.Sort.{Sort}
-use Rattle.sm_syntax.specs.claim.Syntax.{Condition, Code, End, Skip, Assign, Write, If, While, Hole}
-use Rattle.sm_syntax.specs.text.Conditions.{Refusal, DoubleHole, UnknownHole, TooMany, TooDeep, is_in, first_repeated, first_outside, first_of_all, first_of_lists, Shared, ListOf, at_hole, holes_of, filled_holes, double_hole}
-use Rattle.sm_syntax.specs.text.Conditions.{hole_in_filling, unknown_hole, missing_filling, double_name, first_output_fault, first_sort_fault, over, size_fault, program_fault, ill_formed, ill_assumed, first_refusal, condition_depth}
-use Rattle.sm_syntax.specs.text.Conditions.{code_depth, condition_nodes, code_nodes}
-use Rattle.sm_syntax.specs.text.Uses.{names_tested, names_used}
-use Rattle.sm_syntax.specs.claim.Fill.{Fillings, filling, fill}
-use Rattle.sm_syntax.specs.claim.ConflictFree.{Copy, O, A, B, M}
-use Rattle.sm_syntax.specs.text.Parts.{Parts, sort_of}
+use Rattle.sm_syntax.specs.text.Conditions.{double_hole}
+use Rattle.sm_syntax.specs.text.Conditions.{unknown_hole, size_fault, program_fault, ill_formed, ill_assumed, first_refusal}
 use Rattle.sm_syntax.specs.text.MarkedSymbols as g
 use Rattle.sm_syntax.specs.text.TaskGrammar as task
-use Rattle.sm_syntax.specs.text.MarkedSymbols.{Marked, plain}
-use Rattle.sm_syntax.specs.declared.symbol.Symbol.{Symbol}
-use Rattle.sm_syntax.specs.declared.symbol.Mark.{Mark}
-use Rattle.sm_syntax.specs.text.TaskGrammar.{IsAssumption, IsShared, AreNames, AreOutputs, AreFillings, IsList, IsTask}
 use Rattle.sm_text.proofs.RoundTrip.CodeSpelled.{IsPrintable}
 use Rattle.sm_text.proofs.RoundTrip.TaskSpelled.{FitsAssumption, ArePrintable, HasOutput, IsPrintableTask}
 use Rattle.sm_text.proofs.RoundTrip.Fitting.{IsClean, clean_left, clean_right, clean_plain, condition_reads, block_fits, depth-append, depth-fill}

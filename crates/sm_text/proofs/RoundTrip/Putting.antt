@@ -1,7 +1,6 @@
 -- Pieces that are put one after the other.
-use Rattle.std.proofs.Common.{◌≡◌, ℕ, List, ◌++◌, ◌∙◌, sym, ap, append_assoc}
-use Rattle.std.proofs.lemmas.Grind.{flat_map-append}
-use Rattle.sm_text.specs.printing.Pieces.{Piece, pieces_text}
+use Rattle.sm_text.proofs.Imports.{◌≡◌, ℕ, List, ◌++◌, ◌∙◌, sym, ap, append_assoc, flat_map-append, pieces_text}
+use Rattle.sm_text.specs.printing.Pieces.{Piece}
 
 -- one list of pieces after another
 pub put_both : (names : List (List ℕ)) (ps qs : List Piece) (o n m : List ℕ) → n ≡ o ++ pieces_text names ps →

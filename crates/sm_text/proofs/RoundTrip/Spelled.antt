@@ -1,16 +1,7 @@
 -- Trees whose names and numbers a text may have.
-use Rattle.std.proofs.Common.{◌≡◌, ℕ, ◌<◌, ◌≤◌, Bool, true, false, nat_lt, Option, Some, None, List, [], ◌∷◌, ◌++◌, length, unwrap_or, refl, ap, subst, arith}
-use Rattle.std.proofs.lemmas.Bool.Decides.{nat_tests}
+use Rattle.sm_text.proofs.Imports.{◌≡◌, ℕ, ◌<◌, ◌≤◌, Bool, true, false, nat_lt, Option, Some, None, List, [], ◌∷◌, ◌++◌, length, refl, ap, subst, arith, nat_tests, AllByRecursion, slice_get, Symbol, Sort, Expression, Lit, Var, Read, Neg, Plus, Minus, Times, Condition, Yes, No, Compare, Not, And, Or, Code, End, Skip, Assign, Write, If, While, Hole, Fillings, Copy, O, A, B, M, Parts, IsNamedIn, IsTestedIn, IsUsedIn, AreDeclaredIn, AreOutputsIn, IsAssumedIn, AreFilledIn}
+use Rattle.std.proofs.Common.{unwrap_or}
 use Rattle.std.proofs.lemmas.Option.{slice_get_past}
-use Rattle.std.specs.List.{AllByRecursion}
-use Rattle.std.specs.Prelude.{slice_get}
-use Rattle.sm_syntax.specs.declared.symbol.Symbol.{Symbol}
-use Rattle.sm_syntax.specs.declared.tree.Sort.{Sort}
-use Rattle.sm_syntax.specs.claim.Syntax.{Expression, Lit, Var, Read, Neg, Plus, Minus, Times, Condition, Yes, No, Compare, Not, And, Or, Code, End, Skip, Assign, Write, If, While, Hole}
-use Rattle.sm_syntax.specs.claim.Fill.{Fillings}
-use Rattle.sm_syntax.specs.claim.ConflictFree.{Copy, O, A, B, M}
-use Rattle.sm_syntax.specs.text.Parts.{Parts}
-use Rattle.sm_text.specs.printing.Named.{IsNamedIn, IsTestedIn, IsUsedIn, AreDeclaredIn, AreOutputsIn, IsAssumedIn, AreFilledIn}
 use Rattle.sm_text.proofs.RoundTrip.TextTokens.{IsNameText, IsSpelled}
 use Rattle.sm_text.proofs.RoundTrip.Apart.{IsWritten, IsTested}
 use Rattle.sm_text.proofs.RoundTrip.CodeApart.{IsCode}

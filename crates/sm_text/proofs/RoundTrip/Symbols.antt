@@ -1,27 +1,16 @@
 -- The names and symbols of a printed text: they are those of its pieces, where the names are the ones of a text.
-use Rattle.std.proofs.Common.{◌≡◌, ℕ, ℤ, pos, negsuc, ◌+◌, ◌^◌, ◌<◌, Bool, true, false, not, ◌||◌, if◌then◌else◌, Option, Some, None, is_some, List, [], ◌∷◌, ◌++◌, map, length, take, drop, unwrap_or, refl, sym, ap, ap₂, ◌∙◌, subst}
-use Rattle.std.proofs.Common.{append_assoc, arith, lit<, true≢false}
-use Rattle.std.proofs.Math.Seq.{take-append_seam, drop-append_seam}
-use Rattle.std.proofs.lemmas.Fmt.{decimal_is_IsNumeral_wide}
+use Rattle.sm_text.proofs.Imports.{◌≡◌, ℕ, ℤ, pos, negsuc, ◌+◌, ◌^◌, ◌<◌, Bool, true, false, not, ◌||◌, Option, Some, None, is_some, List, [], ◌∷◌, ◌++◌, map, length, take, drop, refl, sym, ap, ap₂, ◌∙◌, subst, append_assoc, arith, lit<, true≢false, take-append_seam, drop-append_seam, decimal_is_IsNumeral_wide, list_any-append, position_or_len, AllByRecursion, slice_get, bytes_eq, Mark, Symbol, Lexed, lexed, TokenKind, is_among, with_text, is_name, names_after, mark_or, symbol_by, slice_get-number, IsKnown, spelling, bytes_of, symbols_in}
+use Rattle.std.proofs.Common.{if◌then◌else◌, unwrap_or}
 use Rattle.std.proofs.lemmas.List.{length-append}
-use Rattle.std.proofs.lemmas.List.Folds.{list_any-append}
-use Rattle.std.specs.List.{position_or_len, AllByRecursion}
-use Rattle.std.specs.Prelude.{slice_get}
-use Rattle.std.specs.Str.{bytes_eq}
-use Rattle.sm_syntax.specs.declared.symbol.Mark.{Mark}
 use Rattle.sm_syntax.specs.declared.symbol.Mark.TheVariants as mark
-use Rattle.sm_syntax.specs.declared.symbol.Symbol.{Symbol}
 use Rattle.sm_syntax.specs.declared.symbol.Symbol.TheVariants as s
 use Rattle.sm_syntax.specs.declared.token.Token as lexical
 use Rattle.sm_syntax.specs.declared.token.TokenKind.TheVariants as kind
-use Rattle.sm_syntax.specs.text.Tokens.{mark_of_word, reserved_words, mark_of_sign, signs, Lexed, lexed}
-use Rattle.sm_syntax.specs.declared.token.TokenKind.{TokenKind}
+use Rattle.sm_syntax.specs.text.Tokens.{mark_of_word, reserved_words, mark_of_sign, signs}
 use Rattle.sm_syntax.specs.text.Symbols as symbol
-use Rattle.sm_syntax.specs.text.Symbols.{is_among, with_text, is_name, names_after, mark_or, symbol_by, symbol_of, names_among, symbols_among, names_of, symbols_of}
-use Rattle.sm_syntax.proofs.Numbering.{slice_get-number}
-use Rattle.sm_text.specs.parsing.Fragments.{IsKnown, symbols_under}
+use Rattle.sm_syntax.specs.text.Symbols.{symbol_of, names_among, symbols_among, names_of, symbols_of}
+use Rattle.sm_text.specs.parsing.Fragments.{symbols_under}
 use Rattle.sm_text.specs.printing.Pieces as pieces
-use Rattle.sm_text.specs.printing.Pieces.{spelling, bytes_of, symbols_in}
 use Rattle.sm_text.proofs.RoundTrip.PieceTokens.{mark_kind}
 use Rattle.sm_text.proofs.RoundTrip.TextTokens.{kind_of, IsNameText, IsLiteral, IsSpelled, tokens_at}
 use Rattle.sm_text.proofs.Numbering.Symbols.{names_with, grown-names_after, known-names_with}

@@ -1,20 +1,10 @@
 -- In a canonical task nothing after a token goes on with it, so its tokens are cut as they were put.
-use Rattle.std.proofs.Common.{◌≡◌, ℕ, pos, ◌^◌, ◌<◌, true, false, Option, Some, None, List, [], ◌∷◌, ◌++◌, unwrap_or, refl, sym, subst, append_assoc, append-nil}
-use Rattle.std.specs.List.{list_all}
-use Rattle.std.specs.Prelude.{slice_get}
-use Rattle.sm_syntax.specs.declared.symbol.Mark.{Mark}
+use Rattle.sm_text.proofs.Imports.{◌≡◌, ℕ, pos, ◌^◌, ◌<◌, true, false, Option, Some, None, List, [], ◌∷◌, ◌++◌, refl, sym, subst, append_assoc, list_all, slice_get, Mark, Sort, Num, Arr, Condition, Code, Fillings, Copy, O, A, B, M, declares, Parts, is_space, lexed, pieces_text, mark_piece, number_piece, line_end, margin_at, deeper, line, condition_pieces, code_pieces, block_pieces, declaration_pieces, more_names_pieces, names_pieces, filling_pieces}
+use Rattle.std.proofs.Common.{unwrap_or, append-nil}
 use Rattle.sm_syntax.specs.declared.symbol.Mark.TheVariants as mark
 use Rattle.sm_syntax.specs.declared.symbol.Symbol.TheVariants as s
-use Rattle.sm_syntax.specs.declared.tree.Sort.{Sort}
-use Rattle.sm_syntax.specs.declared.tree.Sort.TheVariants.{Num, Arr}
-use Rattle.sm_syntax.specs.claim.Syntax.{Condition, Code}
-use Rattle.sm_syntax.specs.claim.Fill.{Fillings}
-use Rattle.sm_syntax.specs.claim.ConflictFree.{Copy, O, A, B, M}
-use Rattle.sm_syntax.specs.text.TaskGrammar.{declares}
-use Rattle.sm_syntax.specs.text.Parts.{Parts}
-use Rattle.sm_syntax.specs.text.Tokens.{is_space, lexed}
-use Rattle.sm_text.specs.printing.Pieces.{Piece, pieces_text, mark_piece, number_piece, space, line_end, margin_at, deeper, line}
-use Rattle.sm_text.specs.printing.Canonical.{condition_pieces, code_pieces, block_pieces, declaration_pieces, more_names_pieces, names_pieces, output_pieces, assumption_pieces, shared_pieces, filling_pieces, list_pieces, lists_pieces}
+use Rattle.sm_text.specs.printing.Pieces.{Piece, space}
+use Rattle.sm_text.specs.printing.Canonical.{output_pieces, assumption_pieces, shared_pieces, list_pieces, lists_pieces}
 use Rattle.sm_text.specs.printing.Canonical.{task_pieces}
 use Rattle.sm_text.proofs.RoundTrip.PieceTokens.{begins, goes_on_mark}
 use Rattle.sm_text.proofs.RoundTrip.TextTokens.{IsNameText, AreApart, tokens_at, relexed}

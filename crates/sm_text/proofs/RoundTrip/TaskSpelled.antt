@@ -1,20 +1,12 @@
 -- The grammar spells a task by its canonical symbols.
-use Rattle.std.proofs.Common.{◌≡◌, ℕ, pos, ◌+◌, ◌<◌, Option, Some, None, List, [], ◌∷◌, ◌++◌, sym, ap, subst, ◌∙◌, append-nil, arith, append_assoc, suc}
+use Rattle.sm_text.proofs.Imports.{◌≡◌, ℕ, pos, ◌+◌, ◌<◌, Option, Some, None, List, [], ◌∷◌, ◌++◌, sym, ap, subst, ◌∙◌, arith, append_assoc, suc, Sort, Condition, Code, Fillings, Copy, O, A, B, M, Parts, Marked, plain, Mark, IsHoleNumber, IsBlock, AreNames, AreDeclarations, AreOutputs, IsAssumption, IsShared, AreFillings, IsList, IsTask, mark_piece, number_piece, line_end, margin_at, deeper, condition_pieces, code_pieces, block_pieces, declaration_pieces, names_pieces, filling_pieces}
+use Rattle.std.proofs.Common.{append-nil}
 use Rattle.sm_syntax.specs.declared.symbol.Mark.TheVariants as mark
 use Rattle.sm_syntax.specs.declared.symbol.Symbol.TheVariants as s
-use Rattle.sm_syntax.specs.declared.tree.Sort.{Sort}
-use Rattle.sm_syntax.specs.claim.Syntax.{Condition, Code}
-use Rattle.sm_syntax.specs.claim.Fill.{Fillings}
-use Rattle.sm_syntax.specs.claim.ConflictFree.{Copy, O, A, B, M}
-use Rattle.sm_syntax.specs.text.Parts.{Parts}
 use Rattle.sm_syntax.specs.text.MarkedSymbols as g
 use Rattle.sm_syntax.specs.text.TaskGrammar as task
-use Rattle.sm_syntax.specs.text.MarkedSymbols.{Marked, plain}
-use Rattle.sm_syntax.specs.declared.symbol.Mark.{Mark}
-use Rattle.sm_syntax.specs.text.StatementGrammar.{IsHoleNumber, IsBlock}
-use Rattle.sm_syntax.specs.text.TaskGrammar.{AreNames, AreDeclarations, AreOutputs, IsAssumption, IsShared, AreFillings, IsList, IsTask}
-use Rattle.sm_text.specs.printing.Pieces.{Gap, mark_piece, number_piece, space, line_end, margin_at, deeper}
-use Rattle.sm_text.specs.printing.Canonical.{braces, condition_pieces, code_pieces, block_pieces, declaration_pieces, names_pieces, output_pieces, assumption_pieces, shared_pieces, filling_pieces, list_pieces, lists_pieces, task_pieces}
+use Rattle.sm_text.specs.printing.Pieces.{Gap, space}
+use Rattle.sm_text.specs.printing.Canonical.{braces, output_pieces, assumption_pieces, shared_pieces, list_pieces, lists_pieces, task_pieces}
 use Rattle.sm_text.proofs.RoundTrip.CodeSpelled.{marked, marked-append, marked-line, FitsTest, IsPrintable, told, block_shown, code_shown}
 
 -- a block

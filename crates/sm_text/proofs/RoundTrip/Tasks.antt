@@ -1,18 +1,8 @@
 -- The canonical text of a task that some text spells, spells it again.
-use Rattle.std.proofs.Common.{◌≡◌, ℕ, None, List, [], ◌∷◌, map, refl, sym, ap, ◌∙◌, subst}
-use Rattle.std.specs.List.{AllByRecursion}
-use Rattle.std.specs.Prelude.{slice_get, unwrap_or}
+use Rattle.sm_text.proofs.Imports.{◌≡◌, ℕ, None, List, [], ◌∷◌, map, refl, sym, ap, ◌∙◌, subst, AllByRecursion, slice_get, plain, Symbol, IsTask, Parts, Spells, with_text, names_of, symbols_of, Lexed, lexed, task_pieces, HasText, pieces_text, symbols_in}
+use Rattle.std.specs.Prelude.{unwrap_or}
 use Rattle.sm_syntax.specs.declared.symbol.Symbol.TheVariants as s
-use Rattle.sm_syntax.specs.text.MarkedSymbols.{plain}
-use Rattle.sm_syntax.specs.declared.symbol.Symbol.{Symbol}
-use Rattle.sm_syntax.specs.text.TaskGrammar.{IsTask}
-use Rattle.sm_syntax.specs.text.Parts.{Parts}
-use Rattle.sm_syntax.specs.text.Spells.{Spells}
-use Rattle.sm_syntax.specs.text.Symbols.{with_text, names_of, symbols_of}
-use Rattle.sm_syntax.specs.text.Tokens.{Lexed, lexed}
-use Rattle.sm_text.specs.printing.Canonical.{task_pieces}
-use Rattle.sm_text.specs.printing.Named.{HasText}
-use Rattle.sm_text.specs.printing.Pieces.{Piece, pieces_text, symbols_in}
+use Rattle.sm_text.specs.printing.Pieces.{Piece}
 use Rattle.sm_text.proofs.RoundTrip.CodeSpelled.{marked}
 use Rattle.sm_text.proofs.RoundTrip.TaskSpelled.{task_shown}
 use Rattle.sm_text.proofs.RoundTrip.TextTokens.{tokens_at}

@@ -1,14 +1,11 @@
 -- The tokens of pieces, each of which nothing after it goes on with, are their tokens.
-use Rattle.std.proofs.Common.{◌≡◌, ℕ, ℤ, pos, negsuc, ◌+◌, ◌^◌, ◌<◌, ◌≤◌, Bool, true, false, None, List, [], ◌∷◌, length, unwrap_or, refl, ap, ◌∙◌}
-use Rattle.std.specs.List.{list_all}
-use Rattle.std.specs.Prelude.{slice_get}
-use Rattle.sm_syntax.specs.declared.symbol.Symbol.{Symbol}
+use Rattle.sm_text.proofs.Imports.{◌≡◌, ℕ, ℤ, pos, negsuc, ◌+◌, ◌^◌, ◌<◌, ◌≤◌, Bool, true, false, None, List, [], ◌∷◌, length, refl, ap, ◌∙◌, list_all, slice_get, Symbol, Lexed, is_space, is_word_start, is_word_byte, mark_of_word, with_token, TokenKind, bytes_of, pieces_text}
+use Rattle.std.proofs.Common.{unwrap_or}
 use Rattle.sm_syntax.specs.declared.symbol.Symbol.TheVariants as s
 use Rattle.sm_syntax.specs.declared.token.TokenKind.TheVariants as kind
 use Rattle.sm_syntax.specs.declared.token.Token as lexical
-use Rattle.sm_syntax.specs.text.Tokens.{Lexed, is_space, is_word_start, is_word_byte, mark_of_word, with_token, lexed, lexed_from}
-use Rattle.sm_syntax.specs.declared.token.TokenKind.{TokenKind}
-use Rattle.sm_text.specs.printing.Pieces.{Piece, Token, Gap, bytes_of, pieces_text}
+use Rattle.sm_syntax.specs.text.Tokens.{lexed, lexed_from}
+use Rattle.sm_text.specs.printing.Pieces.{Piece, Token, Gap}
 use Rattle.sm_text.proofs.RoundTrip.PieceTokens.{begins, Cuts, mark_kind, goes_on_mark, mark_cut, number_cut, word_cut, lexed-gap}
 
 -- the kind of a symbol's token

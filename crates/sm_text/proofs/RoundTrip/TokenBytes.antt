@@ -1,17 +1,9 @@
 -- Each token of a text has the bytes of its kind.
-use Rattle.std.proofs.Common.{◌≡◌, ℕ, ◌+◌, ◌^◌, ◌<◌, ◌≤◌, Bool, true, false, ◌||◌, ◌&&◌, if◌then◌else◌, is_some, List, [], ◌∷◌, length, take, drop, drop-drop, zero, suc, ◌-◌, ◌==◌, codes, one-add, nat_le, nat_lt, refl, sym, ap, ◌∙◌, subst}
-use Rattle.std.proofs.Common.{arith}
-use Rattle.std.proofs.lemmas.Bool.Decides.{nat_tests}
-use Rattle.std.specs.Char.{is_ascii_digit}
-use Rattle.std.specs.List.{prefix_len, list_all, AllByRecursion}
-use Rattle.std.specs.Str.{bytes_eq}
-use Rattle.std.specs.Str.Parse.{digits_value}
+use Rattle.sm_text.proofs.Imports.{◌≡◌, ℕ, ◌+◌, ◌^◌, ◌<◌, ◌≤◌, Bool, true, false, ◌||◌, ◌&&◌, is_some, List, [], ◌∷◌, length, take, drop, drop-drop, zero, suc, ◌-◌, ◌==◌, codes, one-add, nat_lt, refl, sym, ap, ◌∙◌, subst, arith, nat_tests, is_ascii_digit, prefix_len, list_all, AllByRecursion, bytes_eq, digits_value, Front, is_space, is_hash, is_in_line, is_word_start, is_word_byte, mark_of_sign, by_front, lexed_after, TokenKind, LexKind, BadByte, BadToken, WideNumber}
+use Rattle.std.proofs.Common.{if◌then◌else◌, nat_le}
 use Rattle.sm_syntax.specs.declared.token.Token as lexical
 use Rattle.sm_syntax.specs.declared.token.TokenKind.TheVariants as kind
-use Rattle.sm_syntax.specs.text.Tokens.{Front, Gap, Piece, Fault, front_of, word_at, number_at, sign_at, is_space, is_hash, is_in_line, is_word_start, is_word_byte, mark_of_sign, by_front, lexed_after, lexed_from, lexed}
-use Rattle.sm_syntax.specs.declared.token.TokenKind.{TokenKind}
-use Rattle.sm_syntax.specs.declared.token.LexKind.{LexKind}
-use Rattle.sm_syntax.specs.declared.token.LexKind.TheVariants.{BadByte, BadToken, WideNumber}
+use Rattle.sm_syntax.specs.text.Tokens.{Gap, Piece, Fault, front_of, word_at, number_at, sign_at, lexed_from, lexed}
 use Rattle.sm_syntax.specs.text.Symbols as symbol
 use Rattle.sm_text.proofs.RoundTrip.PieceTokens.{begins}
 

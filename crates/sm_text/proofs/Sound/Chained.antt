@@ -1,13 +1,9 @@
 -- Chains of operators that group to the left.
-use Rattle.std.proofs.Common.{◌≡◌, ℕ, suc, zero, ◌+◌, ◌-◌, ◌≤◌, refl, sym, ap, ◌∙◌, subst, arith, Bool, true, false, Option, Some, None, Result, Ok, Err, List, [], ◌∷◌, ◌++◌, map, append_assoc}
+use Rattle.sm_text.proofs.Imports.{◌≡◌, ℕ, suc, zero, ◌+◌, ◌-◌, ◌≤◌, refl, sym, ap, ◌∙◌, subst, arith, Bool, true, false, Option, Some, None, Result, Ok, Err, List, [], ◌∷◌, ◌++◌, map, append_assoc, nat_tests, Marked, plain, joins, Symbol, Mark, first, rest, Parser, go_on, pure, stands, Operators, chain_by, chain_in, next_operand, Nested}
 use Rattle.std.specs.Prelude.{nat_le, if◌then◌else◌}
-use Rattle.std.proofs.lemmas.Bool.Decides.{nat_tests}
 use Rattle.std.proofs.lemmas.List.{append-nil}
 use Rattle.sm_syntax.specs.declared.symbol.Symbol.TheVariants as s
-use Rattle.sm_syntax.specs.text.MarkedSymbols.{Marked, plain, joins}
-use Rattle.sm_syntax.specs.declared.symbol.Symbol.{Symbol}
-use Rattle.sm_syntax.specs.declared.symbol.Mark.{Mark}
-use Rattle.sm_text.specs.rules.Parsers.{first, rest, Parser, fault, go_on, pure, stands, Operators, chain_by, chain_in, next_operand, chain_limit, chain, Fault, Nested}
+use Rattle.sm_text.specs.rules.Parsers.{fault, chain_limit, chain, Fault}
 use Rattle.sm_text.proofs.Sound.Parsers.{Takes, Stops, Told, Describes, Both, map-plain-append, begins-alike, bind, weaken}
 use Rattle.sm_text.proofs.Sound.Choices.{stands-is}
 

@@ -1,13 +1,10 @@
 -- What a choice by the first symbol reads is spelled by it, and what a group between two signs reads by the group.
-use Rattle.std.proofs.Common.{◌≡◌, ℕ, refl, sym, ap, ◌∙◌, subst, Bool, true, false, Option, Some, None, Result, Ok, Err, List, [], ◌∷◌, ◌++◌, map}
+use Rattle.sm_text.proofs.Imports.{◌≡◌, ℕ, refl, sym, ap, ◌∙◌, subst, Bool, true, false, Option, Some, None, Result, Ok, Err, List, [], ◌∷◌, ◌++◌, map, Marked, plain, word, opens, Symbol, Mark, first, Parser, ◌>>=◌, ◌>>◌, peek, skip, refuse, expect_by, stands, inside_group, grouped_by, Expected, Nested}
 use Rattle.std.specs.Prelude.{nat_le, if◌then◌else◌}
 use denote.Enum.Bare.{sameb, same_true}
 use Rattle.sm_syntax.specs.contracts.symbol.Mark.{the_type}
 use Rattle.sm_syntax.specs.declared.symbol.Symbol.TheVariants as s
-use Rattle.sm_syntax.specs.text.MarkedSymbols.{Marked, plain, word, opens}
-use Rattle.sm_syntax.specs.declared.symbol.Symbol.{Symbol}
-use Rattle.sm_syntax.specs.declared.symbol.Mark.{Mark}
-use Rattle.sm_text.specs.rules.Parsers.{first, Parser, fault, ◌>>=◌, ◌>>◌, peek, skip, refuse, expect_by, expect, stands, inside_group, grouped_by, grouped, Fault, Expected, Nested}
+use Rattle.sm_text.specs.rules.Parsers.{fault, expect, grouped, Fault}
 use Rattle.sm_text.proofs.Sound.Parsers.{Stops, Told, Possible, Describes, DescribesAt, Both, Is, IsMark, some_one, none_some, not_nested, like, bound, bind, both, weakened, give}
 
 stopped : {T : Type 0} (P : List Marked → T → Type 0) → Possible P → (ts : List Symbol) → Stops (refuse Expected) P ts (fault Expected ts)

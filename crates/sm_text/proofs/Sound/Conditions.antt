@@ -1,19 +1,11 @@
 -- What is read of a condition is what the grammar says.
-use Rattle.std.proofs.Common.{◌≡◌, ℕ, suc, zero, ◌+◌, refl, sym, ap, ◌∙◌, subst, arith, Bool, true, false, Option, Some, None, List, [], ◌∷◌, ◌++◌}
+use Rattle.sm_text.proofs.Imports.{◌≡◌, ℕ, suc, zero, ◌+◌, refl, sym, ap, ◌∙◌, subst, arith, Bool, true, false, Option, Some, None, List, [], ◌∷◌, ◌++◌, Expression, Condition, Cmp, Eq, Ne, Lt, Le, Gt, Ge, Marked, word, Symbol, Mark, comparison, IsCondition, Parser, ◌>>◌, pure, skip, stands}
 use Rattle.std.specs.Prelude.{if◌then◌else◌}
 use Rattle.std.proofs.lemmas.List.{append-nil}
 use Rattle.sm_syntax.specs.declared.symbol.Mark.TheVariants as mark
 use Rattle.sm_syntax.specs.declared.symbol.Symbol.TheVariants as s
 use Rattle.sm_syntax.specs.claim.Syntax as plain_code
-use Rattle.sm_syntax.specs.claim.Syntax.{Expression, Condition}
-use Rattle.sm_syntax.specs.declared.tree.Cmp.{Cmp}
-use Rattle.sm_syntax.specs.declared.tree.Cmp.TheVariants.{Eq, Ne, Lt, Le, Gt, Ge}
 use Rattle.sm_syntax.specs.text.ConditionGrammar as cond
-use Rattle.sm_syntax.specs.text.MarkedSymbols.{Marked, word}
-use Rattle.sm_syntax.specs.declared.symbol.Symbol.{Symbol}
-use Rattle.sm_syntax.specs.declared.symbol.Mark.{Mark}
-use Rattle.sm_syntax.specs.text.ConditionGrammar.{comparison, IsCondition}
-use Rattle.sm_text.specs.rules.Parsers.{Parser, ◌>>◌, pure, skip, stands}
 use Rattle.sm_text.specs.rules.Reading as r
 use Rattle.sm_text.proofs.Sound.Parsers.{made, Possible, Describes, DescribesAt, Both, Is, bind, weaken, possibly, give}
 use Rattle.sm_text.proofs.Sound.Choices.{refused_at, anywhere, choose_by, after, weaken_at, stands-is, standing, Inner, Enclosed, inside_told}

@@ -1,21 +1,14 @@
 -- What is read of an expression is what the grammar says.
-use Rattle.std.proofs.Common.{◌≡◌, ℕ, suc, zero, ◌+◌, ℤ, pos, refl, sym, ap, ◌∙◌, subst, arith, Bool, true, false, Option, Some, None, List, [], ◌∷◌, ◌++◌}
+use Rattle.sm_text.proofs.Imports.{◌≡◌, ℕ, suc, zero, ◌+◌, ℤ, pos, refl, sym, ap, ◌∙◌, subst, arith, Bool, true, false, Option, Some, None, List, [], ◌∷◌, ◌++◌, nat_tests, Expression, Marked, plain, word, opens, Symbol, Mark, IsExpression, Parser, refuse, stands, inside_group, Expected}
 use Rattle.std.specs.Prelude.{nat_le, if◌then◌else◌}
 use Rattle.std.proofs.lemmas.List.{append-nil}
-use Rattle.std.proofs.lemmas.Bool.Decides.{nat_tests}
 use denote.Enum.Bare.{sameb, same_true}
 use Rattle.sm_syntax.specs.contracts.symbol.Mark.{the_type}
 use Rattle.sm_syntax.specs.declared.symbol.Mark.TheVariants as mark
 use Rattle.sm_syntax.specs.declared.symbol.Symbol.TheVariants as s
 use Rattle.sm_syntax.specs.declared.tree.Name.{Name}
 use Rattle.sm_syntax.specs.claim.Syntax as plain_code
-use Rattle.sm_syntax.specs.claim.Syntax.{Expression}
 use Rattle.sm_syntax.specs.text.ExpressionGrammar as exp
-use Rattle.sm_syntax.specs.text.MarkedSymbols.{Marked, plain, word, opens}
-use Rattle.sm_syntax.specs.declared.symbol.Symbol.{Symbol}
-use Rattle.sm_syntax.specs.declared.symbol.Mark.{Mark}
-use Rattle.sm_syntax.specs.text.ExpressionGrammar.{IsExpression}
-use Rattle.sm_text.specs.rules.Parsers.{Parser, refuse, stands, inside_group, Expected}
 use Rattle.sm_text.specs.rules.Reading as r
 use Rattle.sm_text.proofs.Sound.Parsers.{made, Possible, Describes, DescribesAt, Both, Is, bind, weaken, possibly, give}
 use Rattle.sm_text.proofs.Sound.Choices.{refused_at, anywhere, choose, choose_by, after, bind_at, weaken_at, standing, Inner, Enclosed, inside_told}

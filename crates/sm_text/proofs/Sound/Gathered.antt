@@ -1,10 +1,8 @@
 -- Items that are read as long as one begins: what they stand for, and one turn of the loop that reads them.
-use Rattle.std.proofs.Common.{◌≡◌, ℕ, suc, zero, ◌<◌, refl, sym, ap, ◌∙◌, subst, arith, Bool, true, false, Option, Result, Ok, Err, List, [], ◌++◌, length, map, append_assoc}
+use Rattle.sm_text.proofs.Imports.{◌≡◌, ℕ, suc, zero, ◌<◌, refl, sym, ap, ◌∙◌, subst, arith, Bool, true, false, Option, Result, Ok, Err, List, [], ◌++◌, length, map, append_assoc, Marked, plain, Symbol, first, Parser, go_on, gather_in}
 use Rattle.std.specs.Prelude.{if◌then◌else◌}
 use Rattle.std.proofs.lemmas.List.{append-nil}
-use Rattle.sm_syntax.specs.text.MarkedSymbols.{Marked, plain}
-use Rattle.sm_syntax.specs.declared.symbol.Symbol.{Symbol}
-use Rattle.sm_text.specs.rules.Parsers.{first, Parser, fault, go_on, gather_in, gather, Fault}
+use Rattle.sm_text.specs.rules.Parsers.{fault, gather, Fault}
 use Rattle.sm_text.proofs.Sound.Parsers.{Takes, Stops, Told, Describes, map-plain-append, begins-alike, shorter}
 
 module _ {T U : Type 0} (begins : Option Symbol → Bool) (one : Parser T) (put : U → T → U)

@@ -1,28 +1,15 @@
 -- One turn, the end and a fault of each loop that reads a list.
-use Rattle.std.proofs.Common.{◌≡◌, ℕ, zero, suc, ◌+◌, ◌-◌, ◌<◌, ◌≤◌, refl, sym, ap, ◌∙◌, subst, arith, Bool, true, false, Option, Some, None, if◌then◌else◌, Result, Ok, Err, List, [], ◌∷◌, ◌++◌, length}
+use Rattle.sm_text.proofs.Imports.{◌≡◌, ℕ, zero, suc, ◌+◌, ◌-◌, ◌<◌, ◌≤◌, refl, sym, ap, ◌∙◌, subst, arith, Bool, true, false, Option, Some, None, Result, Ok, Err, List, [], ◌∷◌, ◌++◌, length, IfOk, IfErr, Symbol, Sort, Expression, Condition, Code, Mark, Fillings, CondChain, ExprChain, ReadError, Fails, Gives, Parses, first, rest, go_on, pure, expect, Parser, stands, chain, inside_group, Nested, statements_before, statement_of, Stmt, fun_ext}
+use Rattle.std.proofs.Common.{if◌then◌else◌}
 use Rattle.std.specs.Borrow.{Bor}
-use Rattle.std.specs.Result.{IfOk, IfErr}
 use Rattle.sm_syntax.specs.declared.symbol.Mark.TheVariants as mark
-use Rattle.sm_syntax.specs.declared.symbol.Symbol.{Symbol}
 use Rattle.sm_syntax.specs.declared.tree.Name.{Name}
-use Rattle.sm_syntax.specs.declared.tree.Sort.{Sort}
-use Rattle.sm_syntax.specs.claim.Syntax.{Expression, Condition, Code}
-use Rattle.sm_syntax.specs.declared.symbol.Mark.{Mark}
-use Rattle.sm_syntax.specs.claim.Fill.{Fillings}
-use Rattle.sm_text.specs.declared.rules.conditions.CondChain.{CondChain}
 use Rattle.sm_text.specs.declared.rules.conditions.CondChain.TheVariants.{Conjunction, Disjunction}
-use Rattle.sm_text.specs.declared.rules.expressions.ExprChain.{ExprChain}
 use Rattle.sm_text.specs.declared.rules.expressions.ExprChain.TheVariants.{Product, Sum}
-use Rattle.sm_text.specs.declared.rules.reading.ReadError.{ReadError}
 use Rattle.sm_text.specs.declared.rules.reading.ReadError.TheVariants as error
-use Rattle.sm_text.specs.rules.Answers.{Fails, Gives, Parses}
-use Rattle.sm_text.specs.rules.Parsers.{first, rest, fault, go_on, pure, expect, Parser, stands, chain_limit, chain, inside_group, Fault, Nested}
+use Rattle.sm_text.specs.rules.Parsers.{fault, chain_limit, Fault}
 use Rattle.sm_text.specs.rules.Reading as r
-use Rattle.sm_text.specs.rules.Written.{statements_before}
-use Rattle.sm_syntax.specs.trees.Views.{statement_of}
-use Rattle.sm_syntax.specs.declared.tree.Stmt.{Stmt}
 use Rattle.sm_syntax.proofs.Blocks.{sequence-push}
-use Rattle.std.proofs.Math.Path.{fun_ext}
 use Rattle.sm_text.proofs.Sound.Parsers.{shorter}
 use Rattle.sm_text.proofs.Sound.Gathered.{gather-end}
 use Rattle.sm_text.proofs.Sound.Names.{takes_next_name, next_name_told, declaration_told}

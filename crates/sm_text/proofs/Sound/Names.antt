@@ -1,22 +1,13 @@
 -- What is read of names, declarations, outputs and hole numbers is what the grammar says.
-use Rattle.std.proofs.Common.{◌≡◌, ℕ, ◌<◌, pos, negsuc, refl, sym, ap, ◌∙◌, subst, arith, Bool, true, false, ◌&&◌, Option, Some, None, List, [], ◌∷◌, ◌++◌, length, append_assoc}
+use Rattle.sm_text.proofs.Imports.{◌≡◌, ℕ, ◌<◌, pos, negsuc, refl, sym, ap, ◌∙◌, subst, arith, Bool, true, false, ◌&&◌, Option, Some, None, List, [], ◌∷◌, ◌++◌, length, append_assoc, nat_tests, Sort, Num, Arr, Marked, plain, word, Symbol, Mark, IsHoleNumber, declares, AreNames, AreDeclarations, AreOutputs, with_sort, rest, ◌>>◌, skip, refuse, stands, Expected}
 use Rattle.std.specs.Prelude.{nat_le, if◌then◌else◌}
 use Rattle.std.proofs.lemmas.List.{append-nil}
-use Rattle.std.proofs.lemmas.Bool.Decides.{nat_tests}
 use denote.Enum.Bare.{sameb}
 use Rattle.sm_syntax.specs.contracts.symbol.Mark.{the_type}
 use Rattle.sm_syntax.specs.declared.symbol.Mark.TheVariants as mark
 use Rattle.sm_syntax.specs.declared.symbol.Symbol.TheVariants as s
 use Rattle.sm_syntax.specs.declared.tree.Name.{Name}
-use Rattle.sm_syntax.specs.declared.tree.Sort.{Sort}
-use Rattle.sm_syntax.specs.declared.tree.Sort.TheVariants.{Num, Arr}
 use Rattle.sm_syntax.specs.text.TaskGrammar as task
-use Rattle.sm_syntax.specs.text.MarkedSymbols.{Marked, plain, word}
-use Rattle.sm_syntax.specs.declared.symbol.Symbol.{Symbol}
-use Rattle.sm_syntax.specs.declared.symbol.Mark.{Mark}
-use Rattle.sm_syntax.specs.text.StatementGrammar.{IsHoleNumber}
-use Rattle.sm_syntax.specs.text.TaskGrammar.{declares, AreNames, AreDeclarations, AreOutputs, with_sort}
-use Rattle.sm_text.specs.rules.Parsers.{rest, ◌>>◌, skip, refuse, stands, Expected}
 use Rattle.sm_text.specs.rules.Reading as r
 use Rattle.sm_text.proofs.Sound.Parsers.{Possible, Describes, DescribesAt, Both, Is, IsMark, bind, both, weaken, possibly-behind, give}
 use Rattle.sm_text.proofs.Sound.Choices.{at_mark, refused_at, choose, after, expect_told}

@@ -1,14 +1,10 @@
 -- What a parser takes is what a fact on marked symbols says, and what it refuses could have gone on up to there. A parser
 -- looks one symbol ahead. One lemma for each way to make a parser.
-use Rattle.std.proofs.Common.{◌≡◌, ◌<◌, refl, sym, ap, ◌∙◌, subst, arith, true, Option, Some, None, Result, Ok, Err, List, [], ◌∷◌, ◌++◌, length, map, append_assoc, length-append}
+use Rattle.sm_text.proofs.Imports.{◌≡◌, ◌<◌, refl, sym, ap, ◌∙◌, subst, arith, true, Option, Some, None, Result, Ok, Err, List, [], ◌∷◌, ◌++◌, length, map, append_assoc, Marked, plain, word, Symbol, Mark, ReadError, Fails, first, Parser, go_on, ◌>>=◌, ◌>>◌, pure, Expected, Nested}
+use Rattle.std.proofs.Common.{length-append}
 use Rattle.std.proofs.lemmas.List.{append-nil}
-use Rattle.sm_syntax.specs.text.MarkedSymbols.{Marked, plain, word}
-use Rattle.sm_syntax.specs.declared.symbol.Symbol.{Symbol}
-use Rattle.sm_syntax.specs.declared.symbol.Mark.{Mark}
-use Rattle.sm_text.specs.declared.rules.reading.ReadError.{ReadError}
 use Rattle.sm_text.specs.declared.rules.reading.ReadError.TheVariants as error
-use Rattle.sm_text.specs.rules.Answers.{Fails}
-use Rattle.sm_text.specs.rules.Parsers.{first, Parser, fault, go_on, ◌>>=◌, ◌>>◌, pure, Fault, Expected, Nested}
+use Rattle.sm_text.specs.rules.Parsers.{fault, Fault}
 use Rattle.sm_text.specs.rules.Reading.{by_rest, to_end}
 
 -- what was read stands for the symbols that were used, and is read before all that begins with the same symbol

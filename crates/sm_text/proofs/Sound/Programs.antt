@@ -1,18 +1,9 @@
 -- A program is read exactly where the grammar spells it.
-use Rattle.std.proofs.Common.{◌≡◌, ℕ, refl, sym, ap, ◌∙◌, subst, Result, Ok, Err, List, [], ◌++◌, map}
+use Rattle.sm_text.proofs.Imports.{◌≡◌, ℕ, refl, sym, ap, ◌∙◌, subst, Result, Ok, Err, List, [], ◌++◌, map, Sort, Code, Marked, plain, Symbol, AreDeclarations, AreOutputs, IsShared, names_of, symbols_of, IsProgram, program, SpellsProgram, Parser, ◌>>=◌, pure, unmarked, ProgramParts}
 use Rattle.std.proofs.lemmas.List.{append-nil}
-use Rattle.sm_syntax.specs.declared.tree.Sort.{Sort}
-use Rattle.sm_syntax.specs.claim.Syntax.{Code}
-use Rattle.sm_syntax.specs.text.MarkedSymbols.{Marked, plain}
-use Rattle.sm_syntax.specs.declared.symbol.Symbol.{Symbol}
-use Rattle.sm_syntax.specs.text.TaskGrammar.{AreDeclarations, AreOutputs, IsShared}
-use Rattle.sm_syntax.specs.text.Symbols.{names_of, symbols_of}
-use Rattle.sm_text.specs.parsing.Fragments.{IsProgram, program, SpellsProgram}
-use Rattle.sm_text.specs.rules.Parsers.{Parser, ◌>>=◌, pure, Fault}
-use Rattle.sm_text.specs.parsing.Places.{unmarked}
+use Rattle.sm_text.specs.rules.Parsers.{Fault}
 use Rattle.sm_text.specs.parsing.Program as p
 use Rattle.sm_text.specs.rules.Reading as r
-use Rattle.sm_text.specs.Tasks.{ProgramParts}
 use Rattle.sm_text.proofs.Complete.Parsers.{reach, next, reads-then, unmarked-plain, reach-plain}
 use Rattle.sm_text.proofs.Complete.Tasks.{declarations_read, outputs_read, outputs_begin, shared_read}
 use Rattle.sm_text.proofs.Sound.Names.{declarations_told, outputs_told}

@@ -1,23 +1,11 @@
 -- What is read of the sections of a task is what the grammar says.
-use Rattle.std.proofs.Common.{◌≡◌, ℕ, ◌<◌, pos, refl, sym, ap, ◌∙◌, subst, arith, Bool, true, false, Option, Some, None, Ok, List, [], ◌∷◌, ◌++◌, length, map, append_assoc}
+use Rattle.sm_text.proofs.Imports.{◌≡◌, ℕ, ◌<◌, pos, refl, sym, ap, ◌∙◌, subst, arith, Bool, true, false, Option, Some, None, Ok, List, [], ◌∷◌, ◌++◌, length, map, append_assoc, Condition, Code, Fillings, Copy, Marked, plain, word, Symbol, Mark, IsBlock, AreDeclarations, AreOutputs, IsAssumption, IsShared, AreFillings, IsList, IsTask, Parts, by_copy, rest, pure, stands, IsHead, head, HeadParts}
 use Rattle.std.proofs.lemmas.List.{append-nil}
 use Rattle.sm_syntax.specs.declared.symbol.Mark.TheVariants as mark
 use Rattle.sm_syntax.specs.declared.symbol.Symbol.TheVariants as s
-use Rattle.sm_syntax.specs.claim.Syntax.{Condition, Code}
-use Rattle.sm_syntax.specs.claim.Fill.{Fillings}
 use Rattle.sm_syntax.specs.claim.ConflictFree as claim
-use Rattle.sm_syntax.specs.claim.ConflictFree.{Copy}
 use Rattle.sm_syntax.specs.text.TaskGrammar as task
-use Rattle.sm_syntax.specs.text.MarkedSymbols.{Marked, plain, word}
-use Rattle.sm_syntax.specs.declared.symbol.Symbol.{Symbol}
-use Rattle.sm_syntax.specs.declared.symbol.Mark.{Mark}
-use Rattle.sm_syntax.specs.text.StatementGrammar.{IsBlock}
-use Rattle.sm_syntax.specs.text.TaskGrammar.{AreDeclarations, AreOutputs, IsAssumption, IsShared, AreFillings, IsList, IsTask}
-use Rattle.sm_syntax.specs.text.Parts.{Parts, by_copy}
-use Rattle.sm_text.specs.rules.Parsers.{rest, pure, stands}
-use Rattle.sm_text.specs.parsing.Prefix.{IsHead, head}
 use Rattle.sm_text.specs.rules.Reading as r
-use Rattle.sm_text.specs.Tasks.{HeadParts}
 use Rattle.sm_text.proofs.Sound.Parsers.{made, all_read, Describes, DescribesAt, Both, Is, IsMark, bind, both, weaken, give}
 use Rattle.sm_text.proofs.Sound.Choices.{anywhere, choose_by, after, expect_told, standing}
 use Rattle.sm_text.proofs.Sound.Gathered.{Gathers, none, more, gathered}

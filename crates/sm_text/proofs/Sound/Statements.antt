@@ -1,5 +1,5 @@
 -- What is read of statements and blocks is what the grammar says.
-use Rattle.std.proofs.Common.{◌≡◌, ℕ, suc, zero, ◌+◌, ◌<◌, pos, refl, sym, ap, ◌∙◌, subst, arith, Bool, true, false, Option, Some, None, List, [], ◌∷◌, ◌++◌, length, append_assoc}
+use Rattle.sm_text.proofs.Imports.{◌≡◌, ℕ, suc, zero, ◌+◌, ◌<◌, pos, refl, sym, ap, ◌∙◌, subst, arith, Bool, true, false, Option, Some, None, List, [], ◌∷◌, ◌++◌, length, append_assoc, Code, Marked, plain, word, opens, Symbol, Mark, AreStatements, IsBlock, rest, Parser, ◌>>◌, skip, refuse, stands, Expected}
 use Rattle.std.specs.Prelude.{if◌then◌else◌}
 use Rattle.std.proofs.lemmas.List.{append-nil}
 use denote.Enum.Bare.{sameb}
@@ -8,13 +8,7 @@ use Rattle.sm_syntax.specs.declared.symbol.Mark.TheVariants as mark
 use Rattle.sm_syntax.specs.declared.symbol.Symbol.TheVariants as s
 use Rattle.sm_syntax.specs.declared.tree.Name.{Name}
 use Rattle.sm_syntax.specs.claim.Syntax as plain_code
-use Rattle.sm_syntax.specs.claim.Syntax.{Code}
 use Rattle.sm_syntax.specs.text.StatementGrammar as stmt
-use Rattle.sm_syntax.specs.text.MarkedSymbols.{Marked, plain, word, opens}
-use Rattle.sm_syntax.specs.declared.symbol.Symbol.{Symbol}
-use Rattle.sm_syntax.specs.declared.symbol.Mark.{Mark}
-use Rattle.sm_syntax.specs.text.StatementGrammar.{AreStatements, IsBlock}
-use Rattle.sm_text.specs.rules.Parsers.{rest, Parser, ◌>>◌, skip, refuse, stands, Expected}
 use Rattle.sm_text.specs.rules.Reading as r
 use Rattle.sm_text.proofs.Sound.Parsers.{made, Possible, Describes, DescribesAt, Both, Is, IsMark, bind, both, weaken, possibly-behind, give}
 use Rattle.sm_text.proofs.Sound.Choices.{at_mark, refused_at, anywhere, choose, choose_by, after, expect_told, bind_at, weaken_at, standing, Inner, Enclosed, inside_told, grouped_told}

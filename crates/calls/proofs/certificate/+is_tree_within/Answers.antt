@@ -1,9 +1,5 @@
 -- The lines of a certificate are its own, the last one, and those of its parts.
-use Rattle.std.proofs.Common.{length, subst}
-use Rattle.std.proofs.lemmas.Bool.{OnTrue_at, OnTrue_from}
-use Rattle.sm_term.specs.Tables.{trees_in}
-use Rattle.sm_cert.specs.Views.{lines_of, AreLinesWithin}
-use Rattle.sm_cert.specs.declared.tree.CertTree.{CertTree}
+use Rattle.calls.proofs.Imports.{length, subst, OnTrue_at, OnTrue_from, trees_in, lines_of, AreLinesWithin, CertTree}
 use Rattle.calls.proofs.WithinLemmas.{closed_within, split_within}
 use Rattle.calls.proofs.certificate.+is_tree_within.Goals as goal
 

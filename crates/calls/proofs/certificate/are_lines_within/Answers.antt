@@ -1,10 +1,5 @@
 -- A line that is within, before others that are.
-use Rattle.std.proofs.Common.{length, sym, subst}
-use Rattle.std.proofs.lemmas.Bool.{OnTrue_at}
-use Rattle.std.proofs.lemmas.List.{drop_all}
-use Rattle.sm_term.specs.Tables.{trees_in}
-use Rattle.sm_theory.specs.Views.{IsLineWithin}
-use Rattle.sm_cert.specs.Views.{AreLinesWithin}
+use Rattle.calls.proofs.Imports.{length, sym, subst, OnTrue_at, drop_all, trees_in, IsLineWithin, AreLinesWithin}
 use Rattle.calls.proofs.WithinLemmas.{line_before}
 use Rattle.calls.proofs.certificate.are_lines_within.Goals as goal
 

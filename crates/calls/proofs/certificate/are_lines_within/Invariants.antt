@@ -1,7 +1,5 @@
 -- The lines from here on decide.
-use Rattle.std.proofs.Common.{drop, length}
-use Rattle.sm_term.specs.Tables.{trees_in}
-use Rattle.sm_cert.specs.Views.{AreLinesWithin}
+use Rattle.calls.proofs.Imports.{drop, length, trees_in, AreLinesWithin}
 use Rattle.calls.proofs.certificate.are_lines_within.Given as goal
 
 abbrev pub invariant-loop-line : goal.invariant-loop-line

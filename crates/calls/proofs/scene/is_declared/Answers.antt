@@ -1,10 +1,5 @@
 -- The declaration that was found declares the name.
-use Rattle.std.proofs.Common.{IsTrue, List, map, subst}
-use Rattle.std.specs.Option.{is_some}
-use Rattle.sm_syntax.specs.declared.tree.Name.{Name}
-use Rattle.sm_syntax.specs.declared.tree.Sort.{Sort}
-use Rattle.sm_syntax.specs.declared.tree.Sort.TheVariants.{Num}
-use Rattle.sm_syntax.specs.text.Parts.{sort_of}
+use Rattle.calls.proofs.Imports.{IsTrue, List, map, subst, is_some, Name, Sort, Num, sort_of}
 use Rattle.calls.proofs.DeclaredLemmas.{declared_at}
 use Rattle.calls.proofs.scene.is_declared.Goals as goal
 

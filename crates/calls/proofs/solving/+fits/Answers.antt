@@ -1,6 +1,5 @@
 -- What a formula needs of its terms.
-use Rattle.std.proofs.lemmas.Bool.{OnTrue_at, OnTrue_from}
-use Rattle.sm_term.specs.Tables.{trees_in, sorts_in}
+use Rattle.calls.proofs.Imports.{OnTrue_at, OnTrue_from, trees_in, sorts_in}
 use Rattle.calls.proofs.FormulasLemmas.{IsSortedIn, equal_sorted, unequal_sorted, at_most_sorted, below_sorted}
 use Rattle.calls.proofs.solving.+fits.Goals as goal
 

@@ -1,9 +1,5 @@
 -- One formula more.
-use Rattle.std.proofs.Common.{length, List, sym, subst}
-use Rattle.sm_term.specs.Sorted.{AreFormsSorted}
-use Rattle.sm_term.specs.Tables.{trees_in, sorts_in}
-use Rattle.sm_term.specs.declared.formula.Formula.{Formula}
-use Rattle.sm_list.specs.Parts.{all_numbered, assertions_in, AreFormulasWithin}
+use Rattle.calls.proofs.Imports.{length, List, sym, subst, AreFormsSorted, trees_in, sorts_in, Formula, all_numbered, assertions_in, AreFormulasWithin}
 use Rattle.calls.proofs.FormulasLemmas.{within_more, sorted_more}
 use Rattle.calls.proofs.solving.formulas.Goals as goal
 

@@ -1,8 +1,5 @@
 -- The formulas so far are over terms of the table, of the sorts that they need.
-use Rattle.std.proofs.Common.{length}
-use Rattle.sm_term.specs.Sorted.{AreFormsSorted}
-use Rattle.sm_term.specs.Tables.{trees_in, sorts_in}
-use Rattle.sm_list.specs.Parts.{all_numbered, assertions_in, AreFormulasWithin}
+use Rattle.calls.proofs.Imports.{length, AreFormsSorted, trees_in, sorts_in, all_numbered, assertions_in, AreFormulasWithin}
 use Rattle.calls.proofs.solving.formulas.Given as goal
 
 abbrev pub invariant-loop-fact : goal.invariant-loop-fact

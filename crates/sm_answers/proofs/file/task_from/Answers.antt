@@ -1,7 +1,6 @@
-use Rattle.std.proofs.Common.{◌≢◌, rules}
+use Rattle.sm_answers.proofs.Imports.{◌≢◌, rules, parts_of}
 use Rattle.sm_check.proofs.SpelledCheckable.{spelled_checkable}
 use Rattle.sm_replay.proofs.NamesFound.{spelled_found}
-use Rattle.sm_task.specs.Tasks.{parts_of}
 use Rattle.sm_task.specs.declared.error.TaskError.TheVariants as no_task
 use Rattle.sm_answers.proofs.Answering.{is_no_task}
 use Rattle.sm_answers.proofs.file.task_from.Goals as goal

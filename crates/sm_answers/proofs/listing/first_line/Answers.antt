@@ -1,9 +1,6 @@
 -- The first line ends at the first line end.
-use Rattle.std.proofs.Common.{◌+◌, ℕ, List, take, length, length-drop, refl, sym, ap, ◌∙◌, arith}
-use Rattle.std.proofs.lemmas.List.{take_rest}
-use Rattle.sm_check.proofs.LineLemmas.{lines_in-plain}
-use Rattle.sm_proof.specs.Verdicts.{lines_in}
-use Rattle.sm_answers.specs.Listed.{line_before}
+use Rattle.sm_answers.proofs.Imports.{◌+◌, ℕ, List, length, length-drop, refl, sym, ap, ◌∙◌, arith, take_rest, lines_in-plain, lines_in, line_before}
+use Rattle.std.proofs.Common.{take}
 use Rattle.sm_answers.proofs.ListsLemmas.{first_by}
 use Rattle.sm_answers.proofs.listing.first_line.Goals as goal
 

@@ -1,8 +1,6 @@
 -- The lines so far are names, and those behind them decide.
-use Rattle.std.proofs.Common.{◌≡◌, ◌++◌, length, map}
+use Rattle.sm_answers.proofs.Imports.{◌≡◌, ◌++◌, length, map, lines_in, bad_line, bad_line_after, names_in}
 use Rattle.std.specs.String.{string_bytes}
-use Rattle.sm_proof.specs.Verdicts.{lines_in}
-use Rattle.sm_answers.specs.Lists.{bad_line, bad_line_after, names_in}
 use Rattle.sm_answers.proofs.listing.names_in.Given as goal
 
 abbrev pub invariant-lines : goal.invariant-lines

@@ -1,5 +1,4 @@
-use Rattle.std.proofs.Common.{rules}
-use Rattle.sm_task.specs.Tasks.{parts_of}
+use Rattle.sm_answers.proofs.Imports.{rules, parts_of}
 use Rattle.sm_answers.proofs.Replayed.{none_replayed, replayed_by, replayed_read}
 use Rattle.sm_answers.proofs.replaying.replay_in.Goals as goal
 

@@ -1,5 +1,4 @@
-use Rattle.std.proofs.Common.{inr, rules}
-use Rattle.sm_task.specs.Tasks.{parts_of}
+use Rattle.sm_answers.proofs.Imports.{inr, rules, parts_of}
 use Rattle.sm_answers.proofs.Replayed.{none_run, run_read}
 use Rattle.sm_answers.proofs.replaying.replay_task.Goals as goal
 

@@ -1,5 +1,4 @@
-use Rattle.std.proofs.Common.{rules}
-use Rattle.sm_task.specs.Tasks.{parts_of}
+use Rattle.sm_answers.proofs.Imports.{rules, parts_of}
 use Rattle.sm_answers.proofs.Answering.{verified_by}
 use Rattle.sm_answers.proofs.ReadingsLemmas.{none_verified, verified_read}
 use Rattle.sm_answers.proofs.verifying.verify_in.Goals as goal

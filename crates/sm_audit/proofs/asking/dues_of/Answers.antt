@@ -1,6 +1,5 @@
 -- A task has the parts of its tree.
-use Rattle.sm_syntax.specs.text.Parts.{task_of}
-use Rattle.sm_text.specs.Tasks.{parts_of}
+use Rattle.sm_audit.proofs.Imports.{task_of, parts_of}
 use Rattle.sm_audit.proofs.TaskParts.{has_parts}
 use Rattle.sm_audit.proofs.asking.dues_of.Goals as goal
 

@@ -1,8 +1,5 @@
 -- The plan is ready over the last table, too.
-use Rattle.std.proofs.Common.{◌≡◌}
-use Rattle.std.proofs.lemmas.Bool.{OnTrue_at}
-use Rattle.sm_expand.specs.Views.{numbered_plan}
-use Rattle.sm_expand.proofs.PlansWiden.{plan_ready}
+use Rattle.sm_audit.proofs.Imports.{◌≡◌, OnTrue_at, numbered_plan, plan_ready}
 use Rattle.sm_audit.proofs.WholeLemmas.{if_any}
 use Rattle.sm_audit.proofs.auditing.check_all.Goals as goal
 

@@ -1,21 +1,8 @@
 -- What was found over the tables on the way is so over the last one.
-use Rattle.std.proofs.Common.{◌≡◌, ℕ, Option, List, Ok, length, map, sym, ap, ◌∙◌, subst}
-use Rattle.sm_syntax.specs.text.Parts.{task_of}
-use Rattle.sm_term.specs.Tables.{trees_in, sorts_in}
-use Rattle.sm_text.specs.Tasks.{parts_of}
-use Rattle.sm_plan.specs.declared.node.NodeRow.{NodeRow}
-use Rattle.sm_plan.specs.Plans.{Plan, obligations}
+use Rattle.sm_audit.proofs.Imports.{◌≡◌, ℕ, Option, List, Ok, length, map, sym, ap, ◌∙◌, subst, task_of, trees_in, sorts_in, parts_of, NodeRow, obligations, start_state, widens_twice, AreDuesReady, dues_in, numbered_plan, plan_in, dues_ready, dues_stay, plan_ready, plan_stays, plan_states, all_goals, AreGoalsFit, AreRowsKnown, AreSince}
+use Rattle.sm_plan.specs.Plans.{Plan}
 use Rattle.sm_plan.specs.Plans as plain
-use Rattle.sm_plan.specs.States.{start_state}
-use Rattle.sm_plan.proofs.TablesWiden.{widens_twice}
-use Rattle.sm_expand.specs.Views.{AreDuesReady, dues_in, numbered_plan, plan_in}
 use Rattle.sm_expand.specs.declared.due.Due.{Due}
-use Rattle.sm_expand.proofs.PlansWiden.{dues_ready, dues_stay, plan_ready, plan_stays}
-use Rattle.sm_write.specs.PlanStates.{plan_states}
-use Rattle.sm_write.specs.Writable.{all_goals}
-use Rattle.sm_audit.specs.Fit.{AreGoalsFit}
-use Rattle.sm_audit.specs.Known.{AreRowsKnown}
-use Rattle.sm_audit.specs.Since.{AreSince}
 use Rattle.sm_audit.proofs.FitLemmas.{goals_within}
 use Rattle.sm_audit.proofs.WholeLemmas.{found_writable, if_found, if_both_found}
 use Rattle.sm_audit.proofs.auditing.check_asked.Goals as goal

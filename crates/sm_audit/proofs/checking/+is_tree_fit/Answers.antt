@@ -1,8 +1,5 @@
 -- The lines of a certificate are its own, the last one, and those of its parts.
-use Rattle.std.proofs.Common.{subst}
-use Rattle.std.proofs.lemmas.Bool.{OnTrue_at, OnTrue_from}
-use Rattle.sm_audit.specs.Fit.{IsTreeFit}
-use Rattle.sm_audit.specs.Known.{AreLinesFit}
+use Rattle.sm_audit.proofs.Imports.{subst, OnTrue_at, OnTrue_from, IsTreeFit, AreLinesFit}
 use Rattle.sm_audit.proofs.FitLemmas.{closed_fit, split_fit}
 use Rattle.sm_audit.proofs.checking.+is_tree_fit.Goals as goal
 

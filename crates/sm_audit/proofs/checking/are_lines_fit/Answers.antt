@@ -1,8 +1,5 @@
 -- A line that fits, before others that do.
-use Rattle.std.proofs.Common.{sym, subst}
-use Rattle.std.proofs.lemmas.Bool.{OnTrue_at}
-use Rattle.std.proofs.lemmas.List.{drop_all}
-use Rattle.sm_audit.specs.Known.{AreLinesFit, IsLineFit}
+use Rattle.sm_audit.proofs.Imports.{sym, subst, OnTrue_at, drop_all, AreLinesFit, IsLineFit}
 use Rattle.sm_audit.proofs.KnownLemmas.{line_before}
 use Rattle.sm_audit.proofs.checking.are_lines_fit.Goals as goal
 

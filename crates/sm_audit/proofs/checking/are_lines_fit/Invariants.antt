@@ -1,6 +1,5 @@
 -- The lines from here on decide.
-use Rattle.std.proofs.Common.{drop}
-use Rattle.sm_audit.specs.Known.{AreLinesFit}
+use Rattle.sm_audit.proofs.Imports.{drop, AreLinesFit}
 use Rattle.sm_audit.proofs.checking.are_lines_fit.Given as goal
 
 abbrev pub invariant-loop-line : goal.invariant-loop-line

@@ -1,8 +1,5 @@
 -- The certificate is checked by the three theories.
-use Rattle.sm_term.specs.Formulas.{numbered, assertion_in}
-use Rattle.sm_term.specs.Tables.{trees_in, sorts_in}
-use Rattle.sm_plan.specs.Views.{forms_in}
-use Rattle.sm_write.specs.Writable.{denied}
+use Rattle.sm_audit.proofs.Imports.{numbered, assertion_in, trees_in, sorts_in, forms_in, denied}
 use Rattle.sm_audit.proofs.BranchLemmas.{denied_sorted}
 use Rattle.sm_audit.proofs.checking.check_branch.Goals as goal
 

@@ -1,11 +1,5 @@
 -- A goal's certificate stands before those of the others.
-use Rattle.std.proofs.Common.{◌++◌, List, length, sym, subst}
-use Rattle.std.proofs.lemmas.List.{drop_all}
-use Rattle.sm_term.specs.declared.formula.Formula.{Formula}
-use Rattle.sm_term.specs.Tables.{trees_in, sorts_in}
-use Rattle.sm_plan.specs.ReadyStates.{AreFormsReady}
-use Rattle.sm_plan.specs.Views.{forms_in}
-use Rattle.sm_audit.specs.Fit.{AreGoalsFit}
+use Rattle.sm_audit.proofs.Imports.{◌++◌, List, length, sym, subst, drop_all, Formula, trees_in, sorts_in, AreFormsReady, forms_in, AreGoalsFit}
 use Rattle.sm_audit.proofs.BranchLemmas.{form_ready_at, goal_before, goals_over}
 use Rattle.sm_audit.proofs.checking.check_due.Goals as goal
 

@@ -1,11 +1,5 @@
 -- The goals from here on, with the certificates that are left, decide.
-use Rattle.std.proofs.Common.{◌++◌, List, drop}
-use Rattle.sm_term.specs.Tables.{trees_in, sorts_in}
-use Rattle.sm_plan.specs.States.{State}
-use Rattle.sm_plan.specs.Views.{forms_in}
-use Rattle.sm_write.specs.Writable.{Goal}
-use Rattle.sm_audit.specs.Fit.{AreGoalsFit}
-use Rattle.sm_audit.specs.Since.{AreSince}
+use Rattle.sm_audit.proofs.Imports.{◌++◌, List, drop, trees_in, sorts_in, State, forms_in, Goal, AreGoalsFit, AreSince}
 use Rattle.sm_audit.proofs.BranchLemmas.{goals_over}
 use Rattle.sm_audit.proofs.checking.check_due.Given as goal
 

@@ -1,12 +1,6 @@
 -- The certificates of an obligation stand before those of the others.
-use Rattle.std.proofs.Common.{◌≡◌, ◌+◌, List, [], drop, eqb-true, length, sym, ◌∙◌, subst}
-use Rattle.std.proofs.lemmas.List.{drop_all, nil_from_length}
-use Rattle.sm_term.specs.Tables.{trees_in, sorts_in}
-use Rattle.sm_cert.specs.declared.tree.CertTree.{CertTree}
-use Rattle.sm_expand.specs.Views.{dues_in}
+use Rattle.sm_audit.proofs.Imports.{◌≡◌, ◌+◌, List, [], drop, eqb-true, length, sym, ◌∙◌, subst, drop_all, nil_from_length, trees_in, sorts_in, CertTree, dues_in, all_goals, AreGoalsFit}
 use Rattle.sm_expand.specs.declared.due.Due.{Due}
-use Rattle.sm_write.specs.Writable.{all_goals}
-use Rattle.sm_audit.specs.Fit.{AreGoalsFit}
 use Rattle.sm_audit.proofs.BranchLemmas.{due_before, due_ready_at}
 use Rattle.sm_audit.proofs.checking.check_dues.Goals as goal
 

@@ -1,8 +1,5 @@
 -- A certificate that fits closes the branch of its goal.
-use Rattle.std.proofs.Common.{length}
-use Rattle.std.proofs.lemmas.Bool.{OnTrue_at}
-use Rattle.sm_term.specs.Tables.{trees_in, sorts_in}
-use Rattle.sm_cert.specs.Views.{lines_of}
+use Rattle.sm_audit.proofs.Imports.{length, OnTrue_at, trees_in, sorts_in, lines_of}
 use Rattle.sm_audit.proofs.KnownLemmas.{lines_within}
 use Rattle.sm_audit.proofs.checking.check_goal.Goals as goal
 

@@ -1,11 +1,5 @@
 -- A fact more.
-use Rattle.std.proofs.Common.{◌≤◌, List, length, sym, ◌∙◌, subst, arith}
-use Rattle.std.proofs.lemmas.List.{take_all}
-use Rattle.sm_term.specs.declared.formula.Formula.{Formula}
-use Rattle.sm_theory.specs.Facts.{as_facts}
-use Rattle.sm_theory.specs.Views.{AllStand}
-use Rattle.sm_plan.specs.ReadyStates.{AreFormsReady}
-use Rattle.sm_plan.specs.Views.{forms_in}
+use Rattle.sm_audit.proofs.Imports.{◌≤◌, List, length, sym, ◌∙◌, subst, arith, take_all, Formula, as_facts, AllStand, AreFormsReady, forms_in}
 use Rattle.sm_audit.proofs.BranchLemmas.{fact_put}
 use Rattle.sm_audit.proofs.checking.facts_of.Goals as goal
 

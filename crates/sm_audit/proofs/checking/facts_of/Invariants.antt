@@ -1,11 +1,5 @@
 -- The facts so far.
-use Rattle.std.proofs.Common.{List, take}
-use Rattle.sm_syntax.specs.text.Sorts.{Sorts}
-use Rattle.sm_term.specs.Terms.{Tree}
-use Rattle.sm_theory.specs.Facts.{as_facts}
-use Rattle.sm_theory.specs.Views.{AllStand}
-use Rattle.sm_plan.specs.ReadyStates.{AreFormsReady}
-use Rattle.sm_plan.specs.Views.{forms_in}
+use Rattle.sm_audit.proofs.Imports.{List, take, Sorts, Tree, as_facts, AllStand, AreFormsReady, forms_in}
 use Rattle.sm_audit.proofs.checking.facts_of.Given as goal
 
 abbrev pub invariant-loop-f : goal.invariant-loop-f

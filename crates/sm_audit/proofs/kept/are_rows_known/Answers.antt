@@ -1,8 +1,5 @@
 -- A node that is known, before others that are.
-use Rattle.std.proofs.Common.{sym, subst}
-use Rattle.std.proofs.lemmas.Bool.{OnTrue_at}
-use Rattle.std.proofs.lemmas.List.{drop_all}
-use Rattle.sm_audit.specs.Known.{AreRowsKnown, IsRowKnown}
+use Rattle.sm_audit.proofs.Imports.{sym, subst, OnTrue_at, drop_all, AreRowsKnown, IsRowKnown}
 use Rattle.sm_audit.proofs.KnownLemmas.{row_before}
 use Rattle.sm_audit.proofs.kept.are_rows_known.Goals as goal
 

@@ -1,6 +1,5 @@
 -- The nodes from here on decide.
-use Rattle.std.proofs.Common.{drop}
-use Rattle.sm_audit.specs.Known.{AreRowsKnown}
+use Rattle.sm_audit.proofs.Imports.{drop, AreRowsKnown}
 use Rattle.sm_audit.proofs.kept.are_rows_known.Given as goal
 
 abbrev pub invariant-loop-n : goal.invariant-loop-n

@@ -1,19 +1,6 @@
 -- What the node opened waits before the others.
-use Rattle.std.proofs.Common.{◌≡◌, ◌+◌, ◌∷◌, ◌++◌, ℕ, List, length, reverse, sym, ap, ◌∙◌, subst}
-use Rattle.std.specs.Prelude.{Vec}
-use Rattle.std.specs.declared.alloc.Global.{Global}
-use Rattle.std.proofs.lemmas.List.{length-append}
-use Rattle.sm_plan.specs.declared.opening.Opened.{Opened}
-use Rattle.sm_plan.proofs.TablesWiden.{widens_same}
-use Rattle.sm_expand.specs.Cursors.{numbered_at}
-use Rattle.sm_expand.specs.declared.cursor.Cursor.{Cursor}
-use Rattle.sm_expand.specs.NumberedPlans.{below}
-use Rattle.sm_expand.proofs.PlansWiden.{plans_ready}
-use Rattle.sm_audit.specs.Walks.{IsUnderway}
-use Rattle.sm_expand.specs.PlacedStates.{ArePlacedReady, placed_with}
-use Rattle.sm_expand.specs.declared.placed.PlacedState.{PlacedState}
+use Rattle.sm_audit.proofs.Imports.{◌≡◌, ◌+◌, ◌∷◌, ◌++◌, ℕ, List, length, reverse, sym, ap, ◌∙◌, subst, Vec, Global, length-append, Opened, widens_same, numbered_at, Cursor, below, plans_ready, IsUnderway, ArePlacedReady, placed_with, PlacedState, opened_fewer, opened_ready, plans_of}
 use Rattle.sm_audit.proofs.NodesMet.{node_met}
-use Rattle.sm_expand.proofs.PlacedLemmas.{opened_fewer, opened_ready, plans_of}
 use Rattle.sm_audit.proofs.UnderwayLemmas.{underway_next}
 use Rattle.sm_audit.proofs.WaitsStay.{all_ready}
 use Rattle.sm_audit.proofs.noting.note_node.Goals as goal

@@ -1,13 +1,6 @@
 -- Nodes are taken while a state waits.
-use Rattle.std.proofs.Common.{◌≡◌, List, [], ◌∷◌, ◌++◌, length, reverse, sym, ap, ◌∙◌, subst}
-use Rattle.std.proofs.lemmas.List.{nil_from_length}
-use Rattle.sm_plan.proofs.TablesWiden.{widens_same, widens_twice}
-use Rattle.sm_plan.specs.declared.node.NodeRow.{NodeRow}
-use Rattle.sm_audit.specs.Walks.{IsUnderway, nodes_with}
-use Rattle.sm_expand.specs.PlacedStates.{ArePlacedReady}
-use Rattle.sm_expand.specs.declared.placed.PlacedState.{PlacedState}
+use Rattle.sm_audit.proofs.Imports.{◌≡◌, List, [], ◌∷◌, ◌++◌, length, reverse, sym, ap, ◌∙◌, subst, nil_from_length, widens_same, widens_twice, NodeRow, IsUnderway, nodes_with, ArePlacedReady, PlacedState, popped}
 use Rattle.sm_audit.proofs.NodesMet.{all_met}
-use Rattle.sm_expand.proofs.PlacedLemmas.{popped}
 use Rattle.sm_audit.proofs.noting.note_nodes.Goals as goal
 
 pub loop-next-init : goal.loop-next-init

@@ -1,11 +1,5 @@
 -- What waits can be gone on from; the nodes that were met and those of what waits are all; and a table only widens.
-use Rattle.std.proofs.Common.{◌≡◌, List, length, reverse}
-use Rattle.sm_syntax.specs.text.Sorts.{Sorts}
-use Rattle.sm_term.specs.TableLaws.{ExtendsTable}
-use Rattle.sm_term.specs.Terms.{Tree}
-use Rattle.sm_plan.specs.States.{State}
-use Rattle.sm_audit.specs.Walks.{IsUnderway, nodes_with}
-use Rattle.sm_expand.specs.PlacedStates.{ArePlacedReady, weight}
+use Rattle.sm_audit.proofs.Imports.{◌≡◌, List, length, reverse, Sorts, ExtendsTable, Tree, State, IsUnderway, nodes_with, ArePlacedReady, weight}
 use Rattle.sm_audit.proofs.noting.note_nodes.Given as goal
 
 abbrev pub invariant-loop-next : goal.invariant-loop-next

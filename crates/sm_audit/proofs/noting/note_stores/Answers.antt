@@ -1,8 +1,5 @@
 -- One copy after the other.
-use Rattle.std.proofs.Common.{List, sym, subst}
-use Rattle.sm_syntax.specs.claim.ConflictFree.{O, A, B, M}
-use Rattle.sm_term.specs.declared.term.TermId.{TermId}
-use Rattle.sm_audit.specs.Since.{AreNamedFrom}
+use Rattle.sm_audit.proofs.Imports.{List, sym, subst, O, A, B, M, TermId, AreNamedFrom}
 use Rattle.sm_audit.proofs.noting.note_stores.Goals as goal
 
 pub returns : goal.returns

@@ -1,9 +1,5 @@
 -- Entries tell what they told, and of the terms so far.
-use Rattle.std.proofs.Common.{List}
-use Rattle.sm_syntax.specs.text.Sorts.{Sorts}
-use Rattle.sm_term.specs.Terms.{Tree}
-use Rattle.sm_plan.specs.States.{State}
-use Rattle.sm_audit.specs.Since.{AreNamedFrom, AreSince}
+use Rattle.sm_audit.proofs.Imports.{List, Sorts, Tree, State, AreNamedFrom, AreSince}
 use Rattle.sm_audit.proofs.noting.note_terms.Given as goal
 
 abbrev pub invariant-loop-t : goal.invariant-loop-t

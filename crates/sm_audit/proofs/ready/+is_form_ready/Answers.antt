@@ -1,6 +1,5 @@
 -- What a formula needs of its terms.
-use Rattle.std.proofs.lemmas.Bool.{OnTrue_at, OnTrue_from}
-use Rattle.sm_term.specs.Tables.{trees_in, sorts_in}
+use Rattle.sm_audit.proofs.Imports.{OnTrue_at, OnTrue_from, trees_in, sorts_in}
 use Rattle.sm_audit.proofs.PlanReadyLemmas.{IsSortedIn, equal_sorted, unequal_sorted, at_most_sorted, below_sorted}
 use Rattle.sm_audit.proofs.ready.+is_form_ready.Goals as goal
 

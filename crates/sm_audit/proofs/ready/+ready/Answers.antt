@@ -1,10 +1,5 @@
 -- A plan is ready where what it keeps is, and the plans below its last node are.
-use Rattle.std.proofs.Common.{List, sym, subst}
-use Rattle.std.proofs.lemmas.Bool.{OnTrue_at, OnTrue_from}
-use Rattle.std.proofs.lemmas.List.{drop_all}
-use Rattle.sm_term.specs.Tables.{trees_in, sorts_in}
-use Rattle.sm_expand.specs.NumberedPlans.{IsPlanReady}
-use Rattle.sm_expand.specs.Views.{numbered_plan}
+use Rattle.sm_audit.proofs.Imports.{List, sym, subst, OnTrue_at, OnTrue_from, drop_all, trees_in, sorts_in, IsPlanReady, numbered_plan}
 use Rattle.sm_expand.specs.declared.plan.Plan.{Plan}
 use Rattle.sm_audit.proofs.PlanReadyLemmas.{AreListReady, plan_before, fork_ready, loop_ready, block_ready, dead_ready, end_ready}
 use Rattle.sm_audit.proofs.ready.+ready.Goals as goal

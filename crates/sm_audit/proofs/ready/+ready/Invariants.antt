@@ -1,6 +1,5 @@
 -- One node less is allowed below each, and the plans from here on decide.
-use Rattle.std.proofs.Common.{◌+◌, ◌*◌, drop}
-use Rattle.sm_term.specs.Tables.{trees_in, sorts_in}
+use Rattle.sm_audit.proofs.Imports.{◌+◌, ◌*◌, drop, trees_in, sorts_in}
 use Rattle.sm_audit.proofs.PlanReadyLemmas.{AreListReady}
 use Rattle.sm_audit.proofs.ready.+ready.Given as goal
 

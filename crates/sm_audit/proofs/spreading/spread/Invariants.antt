@@ -1,8 +1,5 @@
 -- Entries tell what is so.
-use Rattle.std.proofs.Common.{List}
-use Rattle.sm_term.specs.Tables.{trees_in, sorts_in}
-use Rattle.sm_plan.specs.States.{State}
-use Rattle.sm_audit.specs.Since.{AreSince}
+use Rattle.sm_audit.proofs.Imports.{List, trees_in, sorts_in, State, AreSince}
 use Rattle.sm_audit.proofs.spreading.spread.Given as goal
 
 abbrev pub invariant-loop-n : goal.invariant-loop-n

@@ -1,10 +1,5 @@
 -- A term that its parts make can be named when they can.
-use Rattle.std.proofs.Common.{◌<◌, ℕ, Option, List, length, sym, subst, arith}
-use Rattle.sm_term.specs.Sorted.{IsSorted}
-use Rattle.sm_term.specs.Tables.{trees_in, sorts_in, codes_in}
-use Rattle.sm_write.specs.Nameable.{Nameable}
-use Rattle.sm_write.specs.Writable.{states_until}
-use Rattle.sm_audit.specs.Since.{IsMadeOf}
+use Rattle.sm_audit.proofs.Imports.{◌<◌, ℕ, Option, List, length, sym, subst, arith, IsSorted, trees_in, sorts_in, codes_in, Nameable, states_until, IsMadeOf}
 use Rattle.sm_audit.proofs.SinceLemmas.{made_named, since_put}
 use Rattle.sm_audit.proofs.spreading.spread_one.Goals as goal
 

@@ -1,18 +1,6 @@
 -- The start of the task waits first, and no entry tells anything.
-use Rattle.std.proofs.Common.{◌≡◌, List, map, refl, sym, ap, ◌∙◌, subst}
-use Rattle.sm_syntax.specs.text.Parts.{task_of}
-use Rattle.sm_syntax.specs.text.Sorts.{Sorts}
-use Rattle.sm_term.specs.Tables.{trees_in, sorts_in}
-use Rattle.sm_text.specs.Tasks.{parts_of}
-use Rattle.sm_plan.specs.Plans.{Plan, nodes_of}
-use Rattle.sm_plan.specs.States.{State, start_state}
-use Rattle.sm_plan.specs.Views.{forms_in, state_in}
-use Rattle.sm_plan.proofs.TablesWiden.{widens_twice}
-use Rattle.sm_expand.specs.NumberedPlans.{NumberedPlan, IsPlanReady, plan_over}
-use Rattle.sm_expand.specs.Views.{numbered_plan, plan_in}
-use Rattle.sm_expand.proofs.PlansWiden.{plan_ready, plan_stays}
-use Rattle.sm_write.specs.PlanStates.{plan_states}
-use Rattle.sm_expand.specs.declared.placed.PlacedState.{PlacedState}
+use Rattle.sm_audit.proofs.Imports.{◌≡◌, List, map, refl, sym, ap, ◌∙◌, subst, task_of, Sorts, trees_in, sorts_in, parts_of, nodes_of, State, start_state, forms_in, state_in, widens_twice, NumberedPlan, IsPlanReady, plan_over, numbered_plan, plan_in, plan_ready, plan_stays, plan_states, PlacedState}
+use Rattle.sm_plan.specs.Plans.{Plan}
 use Rattle.sm_audit.proofs.SinceLemmas.{since_none}
 use Rattle.sm_audit.proofs.UnderwayLemmas.{starts_underway}
 use Rattle.sm_audit.proofs.walking.walk.Goals as goal

@@ -1,5 +1,4 @@
-use Rattle.std.proofs.Common.{rules}
-use Rattle.sm_batch.specs.Answers.{MayAnswer}
+use Rattle.sm_batch.proofs.Imports.{rules, MayAnswer}
 use Rattle.sm_batch.proofs.JobLemmas.{all_answered}
 use Rattle.sm_batch.proofs.answering.answer_all.Goals as goal
 

@@ -1,6 +1,4 @@
-use Rattle.std.proofs.Common.{◌<◌, ◌∙◌, map, is_some, sym, ap, subst, Bor}
-use Rattle.sm_text.specs.declared.task.Task.{Task}
-use Rattle.sm_batch.specs.declared.looking.Looked.{Looked}
+use Rattle.sm_batch.proofs.Imports.{◌<◌, ◌∙◌, map, is_some, sym, ap, subst, Bor, Task, Looked}
 use Rattle.sm_batch.proofs.TellLemmas.{missed_hit}
 use Rattle.sm_batch.proofs.answering.missed.Goals as goal
 

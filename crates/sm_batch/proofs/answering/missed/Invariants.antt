@@ -1,6 +1,5 @@
 -- The tasks so far that were no hits are followed by those of the rest.
-use Rattle.std.proofs.Common.{◌≡◌, ◌++◌, map, drop}
-use Rattle.sm_batch.specs.Steps.{missed}
+use Rattle.sm_batch.proofs.Imports.{◌≡◌, ◌++◌, map, drop, missed}
 use Rattle.sm_batch.proofs.answering.missed.Given as goal
 
 abbrev pub invariant-loop-i : goal.invariant-loop-i

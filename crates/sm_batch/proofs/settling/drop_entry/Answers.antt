@@ -1,8 +1,4 @@
-use Rattle.std.proofs.Common.{ap, ◌∙◌, ℕ, Vec, Global}
-use Rattle.std.specs.Str.{bytes_eq}
-use Rattle.lru.specs.LruCache.{LruCache}
-use Rattle.sm_batch.specs.declared.batch.Kept.{Kept}
-use Rattle.sm_batch.specs.Views.{entries_of, entry_of}
+use Rattle.sm_batch.proofs.Imports.{ap, ◌∙◌, ℕ, Vec, Global, bytes_eq, LruCache, Kept, entries_of, entry_of}
 use Rattle.sm_batch.proofs.MapLemmas.{images-remove_entry}
 use Rattle.sm_batch.proofs.settling.drop_entry.Goals as goal
 

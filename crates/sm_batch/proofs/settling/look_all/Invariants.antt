@@ -1,7 +1,5 @@
 -- The keys so far were looked up.
-use Rattle.std.proofs.Common.{◌≡◌, drop}
-use Rattle.sm_batch.specs.Steps.{after_looks}
-use Rattle.sm_batch.specs.Views.{entries_of}
+use Rattle.sm_batch.proofs.Imports.{◌≡◌, drop, after_looks, entries_of}
 use Rattle.sm_batch.proofs.settling.look_all.Given as goal
 
 abbrev pub invariant-loop-step : goal.invariant-loop-step

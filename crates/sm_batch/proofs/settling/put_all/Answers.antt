@@ -1,7 +1,4 @@
-use Rattle.std.proofs.Common.{◌∙◌, ℕ, List, sym, subst}
-use Rattle.sm_batch.specs.declared.telling.Step.{Step}
-use Rattle.sm_batch.specs.Steps.{IsPutOrNot, ArePutOrNot}
-use Rattle.sm_batch.specs.Views.{entries_of}
+use Rattle.sm_batch.proofs.Imports.{◌∙◌, ℕ, List, sym, subst, Step, IsPutOrNot, ArePutOrNot, entries_of}
 use Rattle.sm_batch.proofs.settling.put_all.Goals as goal
 
 pub loop-step-preserved : goal.loop-step-preserved

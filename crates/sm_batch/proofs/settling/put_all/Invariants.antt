@@ -1,9 +1,5 @@
 -- What the steps so far have was put, or left out.
-use Rattle.std.proofs.Common.{◌≡◌}
-use Rattle.std.specs.Vec.Iter.{into_iter_items}
-use Rattle.sm_batch.specs.Entries.{Entries}
-use Rattle.sm_batch.specs.Steps.{ArePutOrNot}
-use Rattle.sm_batch.specs.Views.{entries_of}
+use Rattle.sm_batch.proofs.Imports.{◌≡◌, into_iter_items, Entries, ArePutOrNot, entries_of}
 use Rattle.sm_batch.proofs.settling.put_all.Given as goal
 
 abbrev pub invariant-loop-step : goal.invariant-loop-step

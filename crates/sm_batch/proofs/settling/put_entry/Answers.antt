@@ -1,8 +1,4 @@
-use Rattle.std.proofs.Common.{ap, ◌∙◌, inl, inr, ℕ, ◌-◌, Vec, Global}
-use Rattle.std.specs.Str.{bytes_eq}
-use Rattle.lru.specs.LruCache.{LruCache}
-use Rattle.sm_batch.specs.declared.batch.Kept.{Kept}
-use Rattle.sm_batch.specs.Views.{entries_of, entry_of}
+use Rattle.sm_batch.proofs.Imports.{ap, ◌∙◌, inl, inr, ℕ, ◌-◌, Vec, Global, bytes_eq, LruCache, Kept, entries_of, entry_of}
 use Rattle.sm_batch.proofs.LookupLemmas.{none_found}
 use Rattle.sm_batch.proofs.MapLemmas.{images-put}
 use Rattle.sm_batch.proofs.settling.put_entry.Goals as goal

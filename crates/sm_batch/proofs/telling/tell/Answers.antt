@@ -1,9 +1,4 @@
-use Rattle.std.proofs.Common.{◌≡◌, ◌++◌, ◌∷◌, [], ◌∙◌, ℕ, List, length, sym, subst, Vec, Global}
-use Rattle.std.specs.Vec.Iter.{into_iter_items}
-use Rattle.std.proofs.lemmas.List.{nil_from_length}
-use Rattle.sm_batch.specs.declared.looking.Looked.{Looked}
-use Rattle.sm_batch.specs.declared.telling.Step.{Step}
-use Rattle.sm_batch.specs.Steps.{AreTold, misses}
+use Rattle.sm_batch.proofs.Imports.{◌≡◌, ◌++◌, ◌∷◌, [], ◌∙◌, ℕ, List, length, sym, subst, Vec, Global, into_iter_items, nil_from_length, Looked, Step, AreTold, misses}
 use Rattle.sm_batch.proofs.TellLemmas.{told_more, told_end, misses_more}
 use Rattle.sm_batch.proofs.telling.tell.Goals as goal
 

@@ -1,8 +1,5 @@
 -- The replies so far are followed by those of the rest; as many answers are left as are wanted.
-use Rattle.std.proofs.Common.{◌≡◌, ◌++◌, ℕ, List, length, Vec, Global}
-use Rattle.std.specs.Vec.Iter.{into_iter_items}
-use Rattle.sm_batch.specs.declared.telling.Step.{Step}
-use Rattle.sm_batch.specs.Steps.{AreTold, misses}
+use Rattle.sm_batch.proofs.Imports.{◌≡◌, ◌++◌, ℕ, List, length, Vec, Global, into_iter_items, Step, AreTold, misses}
 use Rattle.sm_batch.proofs.telling.tell.Given as goal
 
 abbrev pub invariant-loop-one : goal.invariant-loop-one

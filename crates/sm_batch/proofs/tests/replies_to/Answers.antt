@@ -1,5 +1,4 @@
-use Rattle.std.proofs.Common.{rules, subst}
-use Rattle.sm_text.specs.declared.task.Task.{Task}
+use Rattle.sm_batch.proofs.Imports.{rules, subst, Task}
 use Rattle.sm_batch.specs.Echo.{IsEcho}
 use Rattle.sm_batch.proofs.tests.replies_to.Goals as goal
 

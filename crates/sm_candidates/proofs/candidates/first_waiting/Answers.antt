@@ -1,10 +1,6 @@
 -- The plan that was tested waits with the state.
-use Rattle.std.proofs.Common.{[], ◌∷◌, ◌++◌, List, sym, ap, ◌∙◌, subst}
+use Rattle.sm_candidates.proofs.Imports.{[], ◌∷◌, ◌++◌, List, sym, ap, ◌∙◌, subst, trees_in, sorts_in, IsPlanReady, Waiting, AreWaitingReady}
 use Rattle.std.proofs.lemmas.Bool.{OnTrue_at}
-use Rattle.sm_term.specs.Tables.{trees_in, sorts_in}
-use Rattle.sm_expand.specs.NumberedPlans.{IsPlanReady}
-use Rattle.sm_candidates.specs.declared.walking.Waiting.{Waiting}
-use Rattle.sm_candidates.specs.Waits.{AreWaitingReady}
 use Rattle.sm_candidates.proofs.candidates.first_waiting.Goals as goal
 
 pub returns-then-not-is_plan_ready : goal.returns-then-not-is_plan_ready

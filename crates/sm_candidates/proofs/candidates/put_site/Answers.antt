@@ -1,6 +1,5 @@
 -- What is left of each copy is well sorted at loops, too.
-use Rattle.std.proofs.Common.{Option, IfSome, subst}
-use Rattle.sm_term.specs.Tables.{sorts_in}
+use Rattle.sm_candidates.proofs.Imports.{Option, IfSome, subst, sorts_in}
 use Rattle.sm_observed.specs.LoopStates.{IsLoopSorted}
 use Rattle.sm_observed.specs.declared.states.LoopState.{LoopState}
 use Rattle.sm_candidates.proofs.candidates.put_site.Goals as goal

@@ -1,6 +1,5 @@
 -- What waited first, over the tables that widen.
-use Rattle.std.proofs.Common.{subst}
-use Rattle.sm_candidates.specs.Waits.{AreWaitingReady}
+use Rattle.sm_candidates.proofs.Imports.{subst, AreWaitingReady}
 use Rattle.sm_candidates.proofs.WaitsLemmas.{one_stays, all_stay, without_last}
 use Rattle.sm_candidates.proofs.candidates.take_next.Goals as goal
 

@@ -1,6 +1,5 @@
 -- What is left of each copy is copied.
-use Rattle.std.proofs.Common.{sym, subst}
-use Rattle.sm_syntax.specs.text.Sorts.{IsWellSorted}
+use Rattle.sm_candidates.proofs.Imports.{sym, subst, IsWellSorted}
 use Rattle.sm_candidates.proofs.loops.state_at.Goals as goal
 
 pub returns : goal.returns

@@ -1,8 +1,5 @@
 -- One more state waits.
-use Rattle.std.proofs.Common.{sym, subst}
-use Rattle.sm_term.specs.Tables.{trees_in, sorts_in}
-use Rattle.sm_plan.specs.ReadyStates.{AreSuccessorsReady}
-use Rattle.sm_candidates.specs.Waits.{ArePlacesReady, AreWaitingReady}
+use Rattle.sm_candidates.proofs.Imports.{sym, subst, trees_in, sorts_in, AreSuccessorsReady, ArePlacesReady, AreWaitingReady}
 use Rattle.sm_candidates.proofs.WaitsLemmas.{with_one, last_state, last_place}
 use Rattle.sm_candidates.proofs.walking.put_states.Goals as goal
 

@@ -1,8 +1,5 @@
 -- What waits so far is ready, and so are the states and places that are left.
-use Rattle.std.proofs.Common.{length}
-use Rattle.sm_term.specs.Tables.{TableValue, trees_in, sorts_in}
-use Rattle.sm_plan.specs.ReadyStates.{AreSuccessorsReady}
-use Rattle.sm_candidates.specs.Waits.{ArePlacesReady, AreWaitingReady}
+use Rattle.sm_candidates.proofs.Imports.{length, TableValue, trees_in, sorts_in, AreSuccessorsReady, ArePlacesReady, AreWaitingReady}
 use Rattle.sm_candidates.proofs.walking.put_states.Given as goal
 
 abbrev pub invariant-loop-next : goal.invariant-loop-next

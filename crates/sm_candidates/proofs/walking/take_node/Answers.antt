@@ -1,7 +1,5 @@
 -- The states that follow wait, over the table that the node widened.
-use Rattle.sm_expand.specs.NumberedPlans.{below}
-use Rattle.sm_expand.specs.Cursors.{numbered_at}
-use Rattle.sm_expand.proofs.PlansWiden.{plan_ready}
+use Rattle.sm_candidates.proofs.Imports.{below, numbered_at, plan_ready}
 use Rattle.sm_candidates.proofs.WaitsLemmas.{all_stay, places_of}
 use Rattle.sm_candidates.proofs.walking.take_node.Goals as goal
 use Rattle.sm_expand.proofs.PlacedLemmas.{plans_of}

@@ -1,6 +1,5 @@
 -- The first places behind the base were looked at.
-use Rattle.std.proofs.Common.{◌≡◌, ◌+◌, length}
-use Rattle.sm_cc.specs.Scanned.{AreLooked}
+use Rattle.sm_cc.proofs.Imports.{◌≡◌, ◌+◌, length, AreLooked}
 use Rattle.sm_cc.proofs.behind.look.Given as goal
 
 abbrev pub invariant-loop-k : goal.invariant-loop-k

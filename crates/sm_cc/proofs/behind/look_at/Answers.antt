@@ -1,12 +1,7 @@
 -- The place was met for its keys, and has a label.
-use Rattle.std.proofs.Common.{◌≡◌, ◌∙◌, ◌+◌, ◌++◌, ℕ, true, Some, List, length, slice_get, refl, sym, ap, subst, arith}
-use Rattle.std.proofs.lemmas.Option.{slice_get_read}
-use Rattle.sm_cc.specs.declared.behind.Scanned.{Scanned}
+use Rattle.sm_cc.proofs.Imports.{◌≡◌, ◌∙◌, ◌+◌, ◌++◌, ℕ, true, Some, List, length, slice_get, refl, sym, ap, subst, arith, slice_get_read, Scanned, AreFirsts, met_at, row_key, alike_in, headed_in, any_two, IsMetFor, IsLabelFor, AreLooked, over_at}
 use Rattle.sm_cc.specs.declared.log.Equation.{Equation}
-use Rattle.sm_cc.specs.Firsts.{AreFirsts, met_at, row_key}
 use Rattle.sm_cc.specs.BaseClasses.{AreBelow}
-use Rattle.sm_cc.specs.Scanned.{alike_in, headed_in, any_two, IsMetFor, IsLabelFor, AreLooked}
-use Rattle.sm_cc.specs.Regrounding.{over_at}
 use Rattle.sm_cc.proofs.LookedLemmas.{alike_behind, headed_behind, looked_more}
 use Rattle.sm_cc.proofs.behind.look_at.Goals as goal
 

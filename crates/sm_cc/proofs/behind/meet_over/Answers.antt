@@ -1,8 +1,5 @@
 -- The first place that has the key, or no key.
-use Rattle.std.proofs.Common.{◌∙◌, ap}
-use Rattle.sm_cc.specs.Firsts.{met_at, key_told}
-use Rattle.sm_cc.specs.Scanned.{any_two}
-use Rattle.sm_cc.specs.Regrounding.{over_at}
+use Rattle.sm_cc.proofs.Imports.{◌∙◌, ap, met_at, key_told, any_two, over_at}
 use Rattle.sm_cc.proofs.FirstsLemmas.{firsts_none}
 use Rattle.sm_cc.proofs.LookedLemmas.{meets_any, is_met, none_met}
 use Rattle.sm_cc.proofs.behind.meet_over.Goals as goal

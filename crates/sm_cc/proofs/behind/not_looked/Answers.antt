@@ -1,7 +1,5 @@
 -- No key is met yet behind the base's.
-use Rattle.std.proofs.Common.{◌≡◌, ◌∙◌, true, None, rules}
-use Rattle.sm_cc.specs.declared.behind.Scanned.{Scanned}
-use Rattle.sm_cc.specs.Firsts.{Key, met_at}
+use Rattle.sm_cc.proofs.Imports.{◌≡◌, ◌∙◌, true, None, rules, Scanned, Key, met_at}
 use Rattle.sm_cc.proofs.LookedLemmas.{looked_none}
 use Rattle.sm_cc.proofs.behind.not_looked.Goals as goal
 

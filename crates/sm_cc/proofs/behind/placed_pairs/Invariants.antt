@@ -1,7 +1,5 @@
 -- The places of the first pairs.
-use Rattle.std.proofs.Common.{◌≡◌, map, take}
-use Rattle.sm_term.specs.declared.term.TermId.{TermId}
-use Rattle.sm_cc.specs.Positions.{place_at}
+use Rattle.sm_cc.proofs.Imports.{◌≡◌, map, take, TermId, place_at}
 use Rattle.sm_cc.proofs.behind.placed_pairs.Given as goal
 
 abbrev pub invariant-loop-p : goal.invariant-loop-p

@@ -1,9 +1,6 @@
 -- Each term has the label of its place.
-use Rattle.std.proofs.Common.{ℕ, List, map, refl, ap, subst, ◌∙◌}
-use Rattle.sm_term.specs.declared.term.TermId.{TermId}
+use Rattle.sm_cc.proofs.Imports.{ℕ, List, map, refl, ap, subst, ◌∙◌, TermId, place_at, ArePlacesLabelled}
 use Rattle.sm_cc.specs.LabelsAt.{label_at}
-use Rattle.sm_cc.specs.Positions.{place_at}
-use Rattle.sm_cc.specs.Labelled.{ArePlacesLabelled}
 use Rattle.sm_cc.proofs.behind.term_labels.Goals as goal
 
 pub returns : goal.returns

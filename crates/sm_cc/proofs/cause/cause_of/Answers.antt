@@ -1,10 +1,8 @@
-use Rattle.std.proofs.Common.{◌≡◌, false, List, map, subst, length, arith}
-use Rattle.std.proofs.lemmas.Option.{slice_get_read}
+use Rattle.sm_cc.proofs.Imports.{◌≡◌, false, List, map, subst, length, arith, slice_get_read, placed_of, are_together, pair_of, GivenHere, get_below}
 use Rattle.sm_cc.specs.Rows.{is_listed}
-use Rattle.sm_cc.specs.Closures.{placed_of, are_together, pair_of, GivenHere, Given}
+use Rattle.sm_cc.specs.Closures.{Given}
 use Rattle.sm_cc.proofs.CausesLemmas.{cause_at}
 use Rattle.sm_cc.proofs.cause.cause_of.Goals as goal
-use Rattle.sm_lemmas.proofs.Lists.{get_below}
 
 pub returns-in-Some : goal.returns-in-Some
 returns-in-Some c =

@@ -1,6 +1,4 @@
-use Rattle.std.proofs.Common.{length, refl}
-use Rattle.std.proofs.lemmas.Option.{slice_get_read}
-use Rattle.sm_cc.specs.Closures.{placed_of, are_together}
+use Rattle.sm_cc.proofs.Imports.{length, refl, slice_get_read, placed_of, are_together}
 use Rattle.sm_cc.proofs.CausesLemmas.{pair_cause_at}
 use Rattle.sm_cc.proofs.cause.pair_cause.Goals as goal
 

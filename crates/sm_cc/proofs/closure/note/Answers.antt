@@ -1,5 +1,5 @@
-use Rattle.std.proofs.Common.{◌≡◌, ℕ, length, refl, subst, arith}
-use Rattle.sm_cc.specs.Closures.{Adds, Closure}
+use Rattle.sm_cc.proofs.Imports.{◌≡◌, ℕ, length, refl, subst, arith, Adds}
+use Rattle.sm_cc.specs.Closures.{Closure}
 use Rattle.sm_cc.proofs.ClosuresLemmas.{noted}
 use Rattle.sm_cc.proofs.closure.note.Goals as goal
 

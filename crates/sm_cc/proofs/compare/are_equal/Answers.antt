@@ -1,5 +1,4 @@
-use Rattle.std.proofs.Common.{◌≡◌, length, sym, arith}
-use Rattle.sm_cc.specs.Closures.{are_together}
+use Rattle.sm_cc.proofs.Imports.{◌≡◌, length, sym, arith, are_together}
 use Rattle.sm_cc.proofs.CausesLemmas.{equal_places-other}
 use Rattle.sm_cc.proofs.compare.are_equal.Goals as goal
 

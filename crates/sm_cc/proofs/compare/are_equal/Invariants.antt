@@ -1,7 +1,5 @@
 -- The places that are left decide.
-use Rattle.std.proofs.Common.{◌≡◌, drop, length}
-use Rattle.sm_cc.specs.Rows.{equal_places}
-use Rattle.sm_cc.specs.Closures.{are_together}
+use Rattle.sm_cc.proofs.Imports.{◌≡◌, drop, length, equal_places, are_together}
 use Rattle.sm_cc.proofs.compare.are_equal.Given as goal
 
 abbrev pub invariant-loop-k : goal.invariant-loop-k

@@ -1,6 +1,4 @@
-use Rattle.std.proofs.Common.{◌≤◌, length, ap, ◌∙◌, sym, arith}
-use Rattle.std.proofs.lemmas.List.{take_all}
-use Rattle.std.specs.List.{list_any}
+use Rattle.sm_cc.proofs.Imports.{◌≤◌, length, ap, ◌∙◌, sym, arith, take_all, list_any}
 use Rattle.sm_cc.proofs.CausesLemmas.{is_pair, is_listed-map}
 use Rattle.sm_cc.proofs.compare.given.Goals as goal
 

@@ -1,6 +1,5 @@
 -- No pair that was passed is the one that is looked for.
-use Rattle.std.proofs.Common.{◌≡◌, false, take}
-use Rattle.std.specs.List.{list_any}
+use Rattle.sm_cc.proofs.Imports.{◌≡◌, false, take, list_any}
 use Rattle.sm_cc.proofs.CausesLemmas.{is_pair}
 use Rattle.sm_cc.proofs.compare.given.Given as goal
 

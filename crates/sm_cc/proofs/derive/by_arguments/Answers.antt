@@ -1,7 +1,5 @@
-use Rattle.std.proofs.Common.{◌≡◌, ℕ, List, Some, slice_get, ap, subst, sym}
+use Rattle.sm_cc.proofs.Imports.{◌≡◌, ℕ, List, Some, slice_get, ap, subst, sym, SayEqual, Noted, arguments_at}
 use Rattle.sm_cc.specs.declared.row.Row.{Row}
-use Rattle.sm_cc.specs.Log.{SayEqual}
-use Rattle.sm_cc.specs.Closures.{Noted, arguments_at}
 use Rattle.sm_cc.proofs.ClosuresLemmas.{arguments_of}
 use Rattle.sm_cc.proofs.derive.by_arguments.Goals as goal
 

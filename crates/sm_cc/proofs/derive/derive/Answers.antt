@@ -1,9 +1,5 @@
-use Rattle.std.proofs.Common.{subst}
-use Rattle.std.proofs.lemmas.Option.{slice_get_within}
-use Rattle.sm_cc.specs.declared.cause.Cause.{Cause}
+use Rattle.sm_cc.proofs.Imports.{subst, slice_get_within, Cause, IsCauseOf, placed_of, are_together}
 use Rattle.sm_cc.specs.declared.cause.Cause.TheVariants.{Arguments, Hit, Miss}
-use Rattle.sm_cc.specs.Causes.{IsCauseOf}
-use Rattle.sm_cc.specs.Closures.{placed_of, are_together}
 use Rattle.sm_cc.proofs.derive.derive.Goals as goal
 
 pub by_arguments-requires-clause-arguments : goal.by_arguments-requires-clause-arguments

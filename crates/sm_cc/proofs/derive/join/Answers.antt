@@ -1,6 +1,5 @@
-use Rattle.std.proofs.lemmas.Result.{IfOk-weaker}
-use Rattle.std.proofs.Common.{◌∙◌}
-use Rattle.sm_cc.specs.Closures.{AddsEquation, Equation}
+use Rattle.sm_cc.proofs.Imports.{IfOk-weaker, ◌∙◌, AddsEquation}
+use Rattle.sm_cc.specs.Closures.{Equation}
 use Rattle.sm_cc.proofs.ClosuresLemmas.{root_left, root_right, equation_on}
 use Rattle.sm_cc.proofs.derive.join.Goals as goal
 

@@ -1,5 +1,4 @@
-use Rattle.std.proofs.Common.{length, ap, arith}
-use Rattle.sm_cc.specs.Closures.{are_together, arguments_at}
+use Rattle.sm_cc.proofs.Imports.{length, ap, arith, are_together, arguments_at}
 use Rattle.sm_cc.proofs.CausesLemmas.{equal_places-length}
 use Rattle.sm_cc.proofs.ClosuresLemmas.{row_at, arguments_of, arguments_same, argument_together, premise_more, premises_all}
 use Rattle.sm_cc.proofs.derive.premises.Goals as goal

@@ -1,6 +1,5 @@
 -- The arguments that were passed have their equations.
-use Rattle.std.proofs.Common.{take}
-use Rattle.sm_cc.specs.Closures.{AddsPremises, arguments_at}
+use Rattle.sm_cc.proofs.Imports.{take, AddsPremises, arguments_at}
 use Rattle.sm_cc.proofs.derive.premises.Given as goal
 
 abbrev pub invariant-loop-k : goal.invariant-loop-k

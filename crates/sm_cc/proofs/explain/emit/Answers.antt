@@ -1,8 +1,5 @@
-use Rattle.std.proofs.Common.{length, refl, sym, subst, false, Some, ap, ◌∙◌, arith}
-use Rattle.std.proofs.lemmas.Option.{slice_get_read, slice_get-get_or}
-use Rattle.sm_cc.specs.declared.explain.StepsBuilder.{StepsBuilder}
-use Rattle.sm_cc.specs.Closures.{placed_of}
-use Rattle.sm_cc.specs.Steps.{AreBelow, numbers_in}
+use Rattle.sm_cc.proofs.Imports.{length, refl, sym, subst, false, Some, ap, ◌∙◌, arith, slice_get_read, slice_get-get_or, StepsBuilder, placed_of, numbers_in}
+use Rattle.sm_cc.specs.Steps.{AreBelow}
 use Rattle.sm_cc.proofs.MarksLemmas.{entry_below}
 use Rattle.sm_cc.proofs.ExplainLemmas.{draft_marked}
 use Rattle.sm_cc.proofs.explain.emit.Goals as goal

@@ -1,6 +1,5 @@
 -- The entries that were passed have their numbers.
-use Rattle.sm_cc.specs.Closures.{placed_of}
-use Rattle.sm_cc.specs.Steps.{IsDraft}
+use Rattle.sm_cc.proofs.Imports.{placed_of, IsDraft}
 use Rattle.sm_cc.proofs.explain.emitted.Given as goal
 
 abbrev pub invariant-loop-m : goal.invariant-loop-m

@@ -1,8 +1,6 @@
-use Rattle.std.proofs.Common.{ap, ◌≡◌, ◌∙◌, Bool, List, Some, sym, subst, slice_get}
-use Rattle.std.proofs.lemmas.Option.{same_Some}
+use Rattle.sm_cc.proofs.Imports.{ap, ◌≡◌, ◌∙◌, Bool, List, Some, sym, subst, slice_get, same_Some, IsMarked}
 use Rattle.sm_cc.specs.declared.log.Known.TheVariants.{Equal}
 use Rattle.sm_cc.specs.declared.log.Equation.{Equation}
-use Rattle.sm_cc.specs.Steps.{IsMarked}
 use Rattle.sm_cc.proofs.ClosuresLemmas.{first_root, second_root, root_within, root_noted}
 use Rattle.sm_cc.proofs.explain.explanation.Goals as goal
 

@@ -1,9 +1,6 @@
-use Rattle.std.proofs.Common.{◌∙◌, ◌+◌, ◌++◌, [], ◌∷◌, ℕ, List, length, subst, ap, arith}
+use Rattle.sm_cc.proofs.Imports.{◌∙◌, ◌+◌, ◌++◌, [], ◌∷◌, ℕ, List, length, subst, ap, arith, Step, placed_of, IsStated}
 use Rattle.sm_cc.specs.declared.log.Known.TheVariants.{Equal}
 use Rattle.sm_cc.specs.declared.log.Rule.TheVariants.{Trans}
-use Rattle.sm_cc.specs.declared.log.Step.{Step}
-use Rattle.sm_cc.specs.Closures.{placed_of}
-use Rattle.sm_cc.specs.Steps.{IsStated}
 use Rattle.sm_cc.proofs.ClosuresLemmas.{first_root, second_root, same_label}
 use Rattle.sm_cc.proofs.ExplainLemmas.{finished, number_read}
 use Rattle.sm_cc.proofs.explain.finish.Goals as goal

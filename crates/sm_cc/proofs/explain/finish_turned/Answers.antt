@@ -1,7 +1,5 @@
-use Rattle.std.proofs.Common.{◌∙◌, ℕ, length, subst, sym}
+use Rattle.sm_cc.proofs.Imports.{◌∙◌, ℕ, length, subst, sym, placed_of, IsStated}
 use Rattle.sm_cc.specs.declared.log.Known.TheVariants.{Equal}
-use Rattle.sm_cc.specs.Closures.{placed_of}
-use Rattle.sm_cc.specs.Steps.{IsStated}
 use Rattle.sm_cc.proofs.ClosuresLemmas.{second_root, same_label, roots_of}
 use Rattle.sm_cc.proofs.ExplainLemmas.{finished_turned, number_read}
 use Rattle.sm_cc.proofs.explain.finish_turned.Goals as goal

@@ -1,6 +1,5 @@
 -- The entries that were passed have their numbers.
-use Rattle.std.proofs.Common.{take}
-use Rattle.sm_cc.specs.Steps.{AreNumbers}
+use Rattle.sm_cc.proofs.Imports.{take, AreNumbers}
 use Rattle.sm_cc.proofs.explain.renumbered_list.Given as goal
 
 abbrev pub invariant-loop-n : goal.invariant-loop-n

@@ -1,6 +1,5 @@
 -- The first facts are sorted by their kinds.
-use Rattle.std.proofs.Common.{◌≡◌, take}
-use Rattle.sm_cc.specs.Assumed.{placed_equations, placed_contraries}
+use Rattle.sm_cc.proofs.Imports.{◌≡◌, take, placed_equations, placed_contraries}
 use Rattle.sm_cc.proofs.facts.placed_facts.Given as goal
 
 abbrev pub invariant-loop-g : goal.invariant-loop-g

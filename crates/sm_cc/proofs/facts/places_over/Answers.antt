@@ -1,14 +1,7 @@
 -- What is given of the terms is given of their places.
-use Rattle.std.proofs.Common.{◌≡◌, List, sym, subst}
-use Rattle.std.specs.Prelude.{IfOk}
-use Rattle.std.proofs.lemmas.Result.{IfOk-weaker}
+use Rattle.sm_cc.proofs.Imports.{◌≡◌, List, sym, subst, IfOk, IfOk-weaker, placed_equations, AreAllGiven, placed_with, AreGrown, Placed}
 use Rattle.sm_cc.specs.declared.log.Given.{Given}
 use Rattle.sm_cc.specs.declared.row.Row.{Row}
-use Rattle.sm_cc.specs.Assumed.{placed_equations}
-use Rattle.sm_cc.specs.BaseClasses.{AreAllGiven}
-use Rattle.sm_cc.specs.Exact.{placed_with}
-use Rattle.sm_cc.specs.Growing.{AreGrown}
-use Rattle.sm_cc.specs.Log.{Placed}
 use Rattle.sm_cc.proofs.facts.places_over.Goals as goal
 
 pub over-requires-clause-equal : goal.over-requires-clause-equal

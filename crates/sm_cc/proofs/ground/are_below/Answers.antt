@@ -1,6 +1,5 @@
 -- Each of them is.
-use Rattle.std.proofs.Common.{arith}
-use Rattle.std.proofs.lemmas.Option.{slice_get_within}
+use Rattle.sm_cc.proofs.Imports.{arith, slice_get_within}
 use Rattle.sm_cc.proofs.GroundLemmas.{all_below}
 use Rattle.sm_cc.proofs.ground.are_below.Goals as goal
 

@@ -1,7 +1,6 @@
 -- The first rows name such places.
-use Rattle.std.proofs.Common.{◌≡◌, ◌<◌, ℕ, length, slice_get, Some}
+use Rattle.sm_cc.proofs.Imports.{◌≡◌, ◌<◌, ℕ, length, slice_get, Some, IsRowBelow}
 use Rattle.sm_cc.specs.declared.row.Row.{Row}
-use Rattle.sm_cc.specs.BaseClasses.{IsRowBelow}
 use Rattle.sm_cc.proofs.ground.are_inside.Given as goal
 
 abbrev pub invariant-loop-r : goal.invariant-loop-r

@@ -1,7 +1,6 @@
 -- The rows are those of the classes.
-use Rattle.std.proofs.Common.{List, subst}
+use Rattle.sm_cc.proofs.Imports.{List, subst, AreInside}
 use Rattle.sm_cc.specs.declared.row.Row.{Row}
-use Rattle.sm_cc.specs.BaseClasses.{AreInside}
 use Rattle.sm_cc.proofs.ground.inside_keys.Goals as goal
 
 pub returns-clause-inside : goal.returns-clause-inside

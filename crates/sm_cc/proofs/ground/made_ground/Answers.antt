@@ -1,9 +1,6 @@
 -- By the keys that were found.
-use Rattle.std.proofs.Common.{Option, IfSome, length, subst}
+use Rattle.sm_cc.proofs.Imports.{Option, IfSome, length, subst, are_together, AreFirsts, met_at, alike_at, headed_at, AreInside}
 use Rattle.sm_cc.specs.declared.ground.FirstPlaces.{FirstPlaces}
-use Rattle.sm_cc.specs.Closures.{are_together}
-use Rattle.sm_cc.specs.Firsts.{AreFirsts, met_at, alike_at, headed_at}
-use Rattle.sm_cc.specs.BaseClasses.{AreInside}
 use Rattle.sm_cc.proofs.ground.made_ground.Goals as goal
 
 pub returns-in-Some : goal.returns-in-Some

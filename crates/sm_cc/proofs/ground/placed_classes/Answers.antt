@@ -1,9 +1,6 @@
 -- What is given of the terms is given of their places.
-use Rattle.std.proofs.Common.{◌≡◌, List, subst}
-use Rattle.std.specs.Prelude.{IfOk}
-use Rattle.sm_cc.specs.Closures.{placed_of, Closure, Given}
-use Rattle.sm_cc.specs.Exact.{placed_with}
-use Rattle.sm_cc.specs.Assumed.{placed_equations}
+use Rattle.sm_cc.proofs.Imports.{◌≡◌, List, subst, IfOk, placed_of, placed_with, placed_equations}
+use Rattle.sm_cc.specs.Closures.{Closure, Given}
 use Rattle.sm_cc.proofs.ground.placed_classes.Goals as goal
 
 pub returns-clause-given : goal.returns-clause-given

@@ -1,8 +1,8 @@
 -- One more place has its own entry and root.
-use Rattle.std.proofs.Common.{◌≡◌, List, [], ◌∷◌, ◌++◌, length, length-append, refl, sym, ap, subst, arith}
-use Rattle.sm_cc.specs.Log.{AllFollow, Entry}
-use Rattle.sm_cc.specs.Closures.{AllRooted, Equation}
-use Rattle.sm_cc.specs.Exact.{placed_with}
+use Rattle.sm_cc.proofs.Imports.{◌≡◌, List, [], ◌∷◌, ◌++◌, length, refl, sym, ap, subst, arith, AllFollow, AllRooted, placed_with}
+use Rattle.std.proofs.Common.{length-append}
+use Rattle.sm_cc.specs.Log.{Entry}
+use Rattle.sm_cc.specs.Closures.{Equation}
 use Rattle.sm_cc.proofs.GrowingLemmas.{own_entry, own_follow, own_rooted}
 use Rattle.sm_cc.proofs.growing.completed.Goals as goal
 

@@ -1,8 +1,5 @@
 -- The places that were passed have their entries and roots.
-use Rattle.std.proofs.Common.{◌≡◌, length}
-use Rattle.sm_cc.specs.Log.{AllFollow}
-use Rattle.sm_cc.specs.Closures.{AllRooted}
-use Rattle.sm_cc.specs.Exact.{placed_with}
+use Rattle.sm_cc.proofs.Imports.{◌≡◌, length, AllFollow, AllRooted, placed_with}
 use Rattle.sm_cc.proofs.growing.completed.Given as goal
 
 abbrev pub invariant-loop-k : goal.invariant-loop-k

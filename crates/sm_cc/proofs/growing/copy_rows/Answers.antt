@@ -1,6 +1,4 @@
-use Rattle.std.proofs.Common.{length, refl, arith}
-use Rattle.std.proofs.lemmas.Option.{slice_get_read}
-use Rattle.sm_cc.specs.Growing.{IsCopy}
+use Rattle.sm_cc.proofs.Imports.{length, refl, arith, slice_get_read, IsCopy}
 use Rattle.sm_cc.proofs.GrowingLemmas.{like_more, like_all}
 use Rattle.sm_cc.proofs.growing.copy_rows.Goals as goal
 

@@ -1,8 +1,7 @@
-use Rattle.std.proofs.Common.{List, length, sym, ap, subst, ◌∙◌}
+use Rattle.sm_cc.proofs.Imports.{List, length, sym, ap, subst, ◌∙◌, AllRooted, AreKept, AreGrown, AreEntriesKept}
 use Rattle.sm_cc.specs.declared.row.Row.{Row}
 use Rattle.sm_cc.specs.declared.log.Entry.{Entry}
-use Rattle.sm_cc.specs.Closures.{AllRooted, Equation}
-use Rattle.sm_cc.specs.Growing.{AreKept, AreGrown, AreEntriesKept}
+use Rattle.sm_cc.specs.Closures.{Equation}
 use Rattle.sm_cc.proofs.GrowingLemmas.{grown_kept, copied_follow, copied_rooted}
 use Rattle.sm_cc.proofs.growing.grown.Goals as goal
 

@@ -1,8 +1,7 @@
 -- Nothing was logged.
-use Rattle.std.proofs.Common.{◌≡◌, ℕ, ◌≤◌, None, Some, List, [], length, slice_get, sym, ap, ◌∙◌, subst, arith}
-use Rattle.sm_cc.specs.Log.{AllFollow, Entry}
-use Rattle.sm_cc.specs.Closures.{AllRooted, Equation}
-use Rattle.sm_cc.specs.Exact.{placed_with}
+use Rattle.sm_cc.proofs.Imports.{◌≡◌, ℕ, ◌≤◌, None, Some, List, [], length, slice_get, sym, ap, ◌∙◌, subst, arith, AllFollow, AllRooted, placed_with}
+use Rattle.sm_cc.specs.Log.{Entry}
+use Rattle.sm_cc.specs.Closures.{Equation}
 use Rattle.sm_cc.proofs.growing.unmerged.Goals as goal
 
 pub completed-requires-clause-follow : goal.completed-requires-clause-follow

@@ -1,9 +1,6 @@
 -- By the row of the place.
-use Rattle.std.proofs.Common.{◌≡◌, Option, sym, ap, subst}
-use Rattle.std.specs.Prelude.{IfOk}
-use Rattle.sm_theory.specs.Lines.{followed}
+use Rattle.sm_cc.proofs.Imports.{◌≡◌, Option, sym, ap, subst, IfOk, followed, Key, Keyed, key_told, shape_key, alike_at}
 use Rattle.sm_cc.specs.declared.row.Row.{Row}
-use Rattle.sm_cc.specs.Firsts.{Key, Keyed, key_told, shape_key, alike_at}
 use Rattle.sm_cc.proofs.ClosuresLemmas.{row_at}
 use Rattle.sm_cc.proofs.keys.alike_key.Goals as goal
 

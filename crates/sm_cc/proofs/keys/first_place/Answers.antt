@@ -1,6 +1,5 @@
 -- A key that was met has its place, another gets this one.
-use Rattle.std.proofs.Common.{sym, ◌∙◌, ap}
-use Rattle.sm_cc.specs.Firsts.{met_at}
+use Rattle.sm_cc.proofs.Imports.{sym, ◌∙◌, ap, met_at}
 use Rattle.sm_cc.proofs.FirstsLemmas.{met_already, met_now}
 use Rattle.sm_cc.proofs.keys.first_place.Goals as goal
 

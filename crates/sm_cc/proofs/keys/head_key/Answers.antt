@@ -1,10 +1,7 @@
 -- By the row of the place.
-use Rattle.std.proofs.Common.{◌≡◌, Option, sym, ap, subst, List, ◌∙◌}
-use Rattle.std.specs.Prelude.{IfOk}
-use Rattle.sm_theory.specs.Lines.{followed}
+use Rattle.sm_cc.proofs.Imports.{◌≡◌, Option, sym, ap, subst, List, ◌∙◌, IfOk, followed, Key, Keyed, key_told, row_key, headed_at}
 use Rattle.sm_cc.specs.declared.log.Equation.{Equation}
 use Rattle.sm_cc.specs.declared.row.Row.{Row}
-use Rattle.sm_cc.specs.Firsts.{Key, Keyed, key_told, row_key, headed_at}
 use Rattle.sm_cc.proofs.ClosuresLemmas.{row_at}
 use Rattle.sm_cc.proofs.keys.head_key.Goals as goal
 

@@ -1,7 +1,5 @@
 -- One label more, or a place that isn't there.
-use Rattle.std.proofs.Common.{◌∙◌, ◌+◌, ℕ, pos, Some, Option, ◌∷◌, drop, sym, ap}
-use Rattle.sm_theory.specs.Lines.{followed}
-use Rattle.sm_cc.specs.Firsts.{Keyed, labels_of, with_labels}
+use Rattle.sm_cc.proofs.Imports.{◌∙◌, ◌+◌, ℕ, pos, Some, Option, ◌∷◌, drop, sym, ap, followed, Keyed, labels_of, with_labels}
 use Rattle.sm_cc.proofs.FirstsLemmas.{label_behind, labels_from}
 use Rattle.sm_cc.proofs.keys.labelled.Goals as goal
 

@@ -1,6 +1,5 @@
 -- The labels of the places from here on go behind the key.
-use Rattle.std.proofs.Common.{◌≡◌, drop}
-use Rattle.sm_cc.specs.Firsts.{labels_of, with_labels}
+use Rattle.sm_cc.proofs.Imports.{◌≡◌, drop, labels_of, with_labels}
 use Rattle.sm_cc.proofs.keys.labelled.Given as goal
 
 abbrev pub invariant-loop-place : goal.invariant-loop-place

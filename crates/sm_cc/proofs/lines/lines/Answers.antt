@@ -1,12 +1,6 @@
 -- One line more.
-use Rattle.std.proofs.Common.{◌≡◌, ◌∙◌, sym, ap, refl, length, List, [], ◌∷◌, ◌++◌, map, take}
-use Rattle.std.proofs.lemmas.List.{map-append, map_more, take_all}
-use Rattle.std.proofs.lemmas.Option.{slice_get_read}
-use Rattle.sm_theory.specs.Lines.{CertificateLine}
-use Rattle.sm_theory.specs.Views.{line_in}
-use Rattle.sm_cc.specs.declared.log.Step.{Step}
+use Rattle.sm_cc.proofs.Imports.{◌≡◌, ◌∙◌, sym, ap, refl, length, List, [], ◌∷◌, ◌++◌, map, take, map-append, map_more, take_all, slice_get_read, CertificateLine, line_in, Step, step_line}
 use Rattle.sm_cc.specs.Views.{trees_of}
-use Rattle.sm_cc.specs.Explaining.{step_line}
 use Rattle.sm_cc.proofs.InsideLemmas.{lines_of_push}
 use Rattle.sm_cc.proofs.lines.lines.Goals as goal
 

@@ -1,10 +1,6 @@
 -- The lines of the first steps.
-use Rattle.std.proofs.Common.{◌≡◌, List, map, take}
-use Rattle.sm_term.specs.Terms.{Tree}
-use Rattle.sm_theory.specs.Views.{line_in}
+use Rattle.sm_cc.proofs.Imports.{◌≡◌, List, map, take, Tree, line_in, step_line, AreLinesOf}
 use Rattle.sm_cc.specs.Views.{trees_of}
-use Rattle.sm_cc.specs.Explaining.{step_line}
-use Rattle.sm_cc.specs.Explained.{AreLinesOf}
 use Rattle.sm_cc.proofs.lines.lines.Given as goal
 
 abbrev pub invariant-loop-k : goal.invariant-loop-k

@@ -1,6 +1,5 @@
 -- The entries that were passed are marked.
-use Rattle.std.proofs.Common.{take}
-use Rattle.sm_cc.specs.Steps.{Marks}
+use Rattle.sm_cc.proofs.Imports.{take, Marks}
 use Rattle.sm_cc.proofs.marks.mark_all.Given as goal
 
 abbrev pub invariant-loop-n : goal.invariant-loop-n

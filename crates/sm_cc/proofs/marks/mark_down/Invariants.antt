@@ -1,6 +1,5 @@
 -- From m on all is closed.
-use Rattle.std.proofs.Common.{◌≤◌, length}
-use Rattle.sm_cc.specs.Steps.{AreClosedFrom, MarksMore}
+use Rattle.sm_cc.proofs.Imports.{◌≤◌, length, AreClosedFrom, MarksMore}
 use Rattle.sm_cc.proofs.marks.mark_down.Given as goal
 
 abbrev pub invariant-loop-m : goal.invariant-loop-m

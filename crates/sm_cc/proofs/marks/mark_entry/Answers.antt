@@ -1,6 +1,4 @@
-use Rattle.std.proofs.Common.{length, refl, arith}
-use Rattle.std.proofs.lemmas.Option.{slice_get_read}
-use Rattle.sm_cc.specs.Steps.{numbers_in}
+use Rattle.sm_cc.proofs.Imports.{length, refl, arith, slice_get_read, numbers_in}
 use Rattle.sm_cc.proofs.MarksLemmas.{below_more, entry_below, closed_marked}
 use Rattle.sm_cc.proofs.marks.mark_entry.Goals as goal
 

@@ -1,8 +1,6 @@
-use Rattle.std.proofs.lemmas.Result.{IfOk-weaker}
-use Rattle.sm_cc.specs.Closures.{AddsEquation, Equation}
-use Rattle.sm_cc.specs.Merges.{Bridges}
+use Rattle.sm_cc.proofs.Imports.{IfOk-weaker, AddsEquation, Bridges, ◌∙◌, sym}
+use Rattle.sm_cc.specs.Closures.{Equation}
 use Rattle.sm_cc.proofs.MergesLemmas.{bridge_from, root_get}
-use Rattle.std.proofs.Common.{◌∙◌, sym}
 use Rattle.sm_cc.proofs.ClosuresLemmas.{root_in}
 use Rattle.sm_cc.proofs.merge.bridge.Goals as goal
 

@@ -1,5 +1,4 @@
-use Rattle.std.proofs.lemmas.Result.{on_ok_weaker}
-use Rattle.sm_cc.specs.Merges.{MovesRoots}
+use Rattle.sm_cc.proofs.Imports.{on_ok_weaker, MovesRoots}
 use Rattle.sm_cc.proofs.MergesLemmas.{merged_together, merged_coarser}
 use Rattle.sm_cc.proofs.merge.merge.Goals as goal
 

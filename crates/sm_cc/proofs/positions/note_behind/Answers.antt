@@ -1,11 +1,5 @@
 -- One term more.
-use Rattle.std.proofs.Common.{◌<◌, ℕ, get_or, sym, subst, ◌∙◌}
-use Rattle.std.specs.HashMap.{get}
-use Rattle.std.proofs.lemmas.Option.{slice_get-get_or}
-use Rattle.sm_term.specs.Tables.{trees_in, sorts_in, codes_in}
-use Rattle.sm_term.specs.declared.term.TermId.{TermId}
-use Rattle.sm_term.proofs.TermsLemmas.{part_before}
-use Rattle.sm_cc.specs.Positions.{same_pair}
+use Rattle.sm_cc.proofs.Imports.{◌<◌, ℕ, get_or, sym, subst, ◌∙◌, get, slice_get-get_or, trees_in, sorts_in, codes_in, TermId, part_before, same_pair}
 use Rattle.sm_cc.proofs.PositionsLemmas.{noted_more}
 use Rattle.sm_cc.proofs.positions.note_behind.Goals as goal
 

@@ -1,9 +1,6 @@
 -- What is noted of the first terms.
-use Rattle.std.proofs.Common.{◌≡◌, length, take}
-use Rattle.std.specs.HashMap.{get}
-use Rattle.sm_term.specs.Tables.{trees_in}
+use Rattle.sm_cc.proofs.Imports.{◌≡◌, length, take, get, trees_in, AreNoted, same_pair}
 use Rattle.sm_cc.specs.Views.{trees_of}
-use Rattle.sm_cc.specs.Positions.{AreNoted, same_pair}
 use Rattle.sm_cc.proofs.positions.note_behind.Given as goal
 
 abbrev pub invariant-loop-i : goal.invariant-loop-i

@@ -1,7 +1,5 @@
 -- By what the map has afterwards.
-use Rattle.std.proofs.Common.{sym, ◌∙◌}
-use Rattle.std.specs.HashMap.{get}
-use Rattle.sm_cc.specs.Positions.{same_pair}
+use Rattle.sm_cc.proofs.Imports.{sym, ◌∙◌, get, same_pair}
 use Rattle.sm_cc.proofs.PositionsLemmas.{noted, none_there}
 use Rattle.sm_cc.proofs.positions.note_pair.Goals as goal
 

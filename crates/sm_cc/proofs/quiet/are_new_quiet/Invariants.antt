@@ -1,7 +1,6 @@
 -- The first elements are quiet.
-use Rattle.std.proofs.Common.{◌≡◌, ◌<◌, ℕ, slice_get, Some}
+use Rattle.sm_cc.proofs.Imports.{◌≡◌, ◌<◌, ℕ, slice_get, Some, IsQuietBehind}
 use Rattle.sm_cc.specs.declared.row.Row.{Row}
-use Rattle.sm_cc.specs.Scanned.{IsQuietBehind}
 use Rattle.sm_cc.proofs.quiet.are_new_quiet.Given as goal
 
 abbrev pub invariant-loop-r : goal.invariant-loop-r

@@ -1,7 +1,6 @@
 -- The first elements are quiet.
-use Rattle.std.proofs.Common.{◌≡◌, ◌<◌, ℕ, slice_get, Some}
+use Rattle.sm_cc.proofs.Imports.{◌≡◌, ◌<◌, ℕ, slice_get, Some, IsQuiet}
 use Rattle.sm_cc.specs.declared.row.Row.{Row}
-use Rattle.sm_cc.specs.Scanned.{IsQuiet}
 use Rattle.sm_cc.proofs.quiet.are_old_quiet.Given as goal
 
 abbrev pub invariant-loop-i : goal.invariant-loop-i

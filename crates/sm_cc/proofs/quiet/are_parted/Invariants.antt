@@ -1,7 +1,5 @@
 -- The labels of no pair that was passed are those of the two places.
-use Rattle.std.proofs.Common.{◌≡◌, false, take}
-use Rattle.std.specs.List.{list_any}
-use Rattle.sm_cc.specs.Scanned.{has_labels}
+use Rattle.sm_cc.proofs.Imports.{◌≡◌, false, take, list_any, has_labels}
 use Rattle.sm_cc.proofs.quiet.are_parted.Given as goal
 
 abbrev pub invariant-loop-p : goal.invariant-loop-p

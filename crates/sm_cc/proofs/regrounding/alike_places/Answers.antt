@@ -1,7 +1,5 @@
 -- One place more, and then all.
-use Rattle.std.proofs.Common.{sym, subst, arith, ℕ, length}
-use Rattle.sm_cc.specs.Closures.{are_together}
-use Rattle.sm_cc.specs.Firsts.{AreFirsts, met_at, alike_at}
+use Rattle.sm_cc.proofs.Imports.{sym, subst, arith, ℕ, length, are_together, AreFirsts, met_at, alike_at}
 use Rattle.sm_cc.proofs.FirstsLemmas.{alike_bring}
 use Rattle.sm_cc.proofs.RegroundingLemmas.{exact_meet}
 use Rattle.sm_cc.proofs.regrounding.alike_places.Goals as goal

@@ -1,6 +1,5 @@
 -- A key that was met by the map before has its place there.
-use Rattle.std.proofs.Common.{sym}
-use Rattle.sm_cc.specs.Firsts.{met_at}
+use Rattle.sm_cc.proofs.Imports.{sym, met_at}
 use Rattle.sm_cc.proofs.RegroundingLemmas.{over_already}
 use Rattle.sm_cc.proofs.regrounding.first_over.Goals as goal
 

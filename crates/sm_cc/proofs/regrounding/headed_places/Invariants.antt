@@ -1,6 +1,5 @@
 -- Each place below is in one class with the first that has its key.
-use Rattle.sm_cc.specs.Closures.{are_together}
-use Rattle.sm_cc.specs.Firsts.{AreFirsts, met_at, headed_at}
+use Rattle.sm_cc.proofs.Imports.{are_together, AreFirsts, met_at, headed_at}
 use Rattle.sm_cc.proofs.regrounding.headed_places.Given as goal
 
 abbrev pub invariant-loop-i : goal.invariant-loop-i

@@ -1,6 +1,5 @@
 -- The place is met for its key, or it has none.
-use Rattle.std.proofs.Common.{◌∙◌, ap}
-use Rattle.sm_cc.specs.Firsts.{met_at, key_told}
+use Rattle.sm_cc.proofs.Imports.{◌∙◌, ap, met_at, key_told}
 use Rattle.sm_cc.proofs.FirstsLemmas.{firsts_none}
 use Rattle.sm_cc.proofs.RegroundingLemmas.{meets_first}
 use Rattle.sm_cc.proofs.regrounding.meet.Goals as goal

@@ -1,6 +1,5 @@
 -- Each place below is in one class with the first that has its key, or entries were added.
-use Rattle.sm_cc.specs.Firsts.{met_at, alike_at, TriesFirsts}
-use Rattle.sm_cc.specs.Regrounding.{over_at}
+use Rattle.sm_cc.proofs.Imports.{met_at, alike_at, TriesFirsts, over_at}
 use Rattle.sm_cc.proofs.regrounding.relate_alike_behind.Given as goal
 
 abbrev pub invariant-loop-i : goal.invariant-loop-i

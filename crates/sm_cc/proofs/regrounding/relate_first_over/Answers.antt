@@ -1,9 +1,5 @@
 -- The first place that has the key, or no key.
-use Rattle.std.proofs.Common.{◌∙◌, ap}
-use Rattle.std.proofs.lemmas.Result.{on_ok_weaker}
-use Rattle.sm_cc.specs.Settled.{Tries}
-use Rattle.sm_cc.specs.Firsts.{met_at, key_told, IsPairThere}
-use Rattle.sm_cc.specs.Regrounding.{over_at}
+use Rattle.sm_cc.proofs.Imports.{◌∙◌, ap, on_ok_weaker, Tries, met_at, key_told, IsPairThere, over_at}
 use Rattle.sm_cc.proofs.FirstsLemmas.{tried_first, tried_none}
 use Rattle.sm_cc.proofs.regrounding.relate_first_over.Goals as goal
 

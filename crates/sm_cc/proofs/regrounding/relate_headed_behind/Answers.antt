@@ -1,7 +1,5 @@
 -- The places before, one place more, and then all.
-use Rattle.std.proofs.Common.{◌≡◌, ℕ, None, ap, length, sym, subst, arith, rules}
-use Rattle.sm_cc.specs.Firsts.{Key, met_at, headed_at, TriesFirsts}
-use Rattle.sm_cc.specs.Regrounding.{over_at}
+use Rattle.sm_cc.proofs.Imports.{◌≡◌, ℕ, None, ap, length, sym, subst, arith, rules, Key, met_at, headed_at, TriesFirsts, over_at}
 use Rattle.sm_cc.proofs.FirstsLemmas.{firsts_tried_more, firsts_tried_all, headed_bring}
 use Rattle.sm_cc.proofs.RegroundingLemmas.{headed_before}
 use Rattle.sm_cc.proofs.regrounding.relate_headed_behind.Goals as goal

@@ -1,8 +1,6 @@
 -- The rules of single places, those of linear forms, and those of heads with their arguments.
-use Rattle.std.proofs.lemmas.Result.{on_ok_weaker}
+use Rattle.sm_cc.proofs.Imports.{on_ok_weaker, Tries, AreSinglesSettled, AreSettled, AreAlikeSettled, AreHeadedSettled}
 use Rattle.sm_cc.specs.declared.closure.Closure.{Closure}
-use Rattle.sm_cc.specs.Settled.{Tries, AreSinglesSettled, AreSettled}
-use Rattle.sm_cc.specs.Firsts.{AreAlikeSettled, AreHeadedSettled}
 use Rattle.sm_cc.proofs.ClosuresLemmas.{grows_on}
 use Rattle.sm_cc.proofs.RoundsLemmas.{tries_both, tries_all}
 use Rattle.sm_cc.proofs.FirstsLemmas.{pairs_by_keys}

@@ -1,6 +1,5 @@
 -- The log grows in each round but the last.
-use Rattle.std.proofs.Common.{◌-◌, ◌^◌, length}
-use Rattle.sm_cc.specs.Closures.{Grows}
+use Rattle.sm_cc.proofs.Imports.{◌-◌, ◌^◌, length, Grows}
 use Rattle.sm_cc.proofs.regrounding.settle_over.Given as goal
 
 abbrev pub invariant-loop-c : goal.invariant-loop-c

@@ -1,6 +1,5 @@
 -- One place more, and then all.
-use Rattle.std.proofs.Common.{sym, arith}
-use Rattle.sm_cc.specs.Firsts.{met_at, alike_at}
+use Rattle.sm_cc.proofs.Imports.{sym, arith, met_at, alike_at}
 use Rattle.sm_cc.proofs.FirstsLemmas.{firsts_tried_more, firsts_tried_all, alike_bring}
 use Rattle.sm_cc.proofs.rounds.relate_alike.Goals as goal
 

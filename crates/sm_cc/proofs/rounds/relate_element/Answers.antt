@@ -1,10 +1,6 @@
-use Rattle.std.proofs.Common.{◌≡◌, ◌∙◌, refl, sym, ap, subst}
-use Rattle.std.proofs.lemmas.Option.{same_Some, none-some}
-use Rattle.std.proofs.lemmas.Result.{on_ok_weaker}
+use Rattle.sm_cc.proofs.Imports.{◌≡◌, ◌∙◌, refl, sym, ap, subst, same_Some, none-some, on_ok_weaker, HasElement, Tries, IsReadSettled, IsElementSettled}
 use Rattle.sm_cc.specs.declared.row.Row.{Row}
 use Rattle.sm_cc.specs.declared.row.Element.{Element}
-use Rattle.sm_cc.specs.Log.{HasElement}
-use Rattle.sm_cc.specs.Settled.{Tries, IsReadSettled, IsElementSettled}
 use Rattle.sm_cc.proofs.ClosuresLemmas.{grows_from, row_at}
 use Rattle.sm_cc.proofs.RoundsLemmas.{tries_all}
 use Rattle.sm_cc.proofs.rounds.relate_element.Goals as goal

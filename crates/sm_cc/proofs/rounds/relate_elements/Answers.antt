@@ -1,6 +1,5 @@
-use Rattle.std.proofs.Common.{ℕ}
+use Rattle.sm_cc.proofs.Imports.{ℕ, IsElementSettled}
 use Rattle.sm_cc.specs.declared.closure.Closure.{Closure}
-use Rattle.sm_cc.specs.Settled.{IsElementSettled}
 use Rattle.sm_cc.proofs.RoundsLemmas.{tries_more}
 use Rattle.sm_cc.proofs.rounds.relate_elements.Goals as goal
 

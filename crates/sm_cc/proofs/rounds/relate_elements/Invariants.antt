@@ -1,7 +1,6 @@
 -- What was passed is settled, or entries were added.
-use Rattle.std.proofs.Common.{ℕ, ◌<◌}
+use Rattle.sm_cc.proofs.Imports.{ℕ, ◌<◌, Tries, IsElementSettled}
 use Rattle.sm_cc.specs.declared.closure.Closure.{Closure}
-use Rattle.sm_cc.specs.Settled.{Tries, IsElementSettled}
 use Rattle.sm_cc.proofs.rounds.relate_elements.Given as goal
 
 abbrev pub invariant-loop-i : goal.invariant-loop-i

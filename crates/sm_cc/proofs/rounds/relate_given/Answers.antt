@@ -1,8 +1,6 @@
-use Rattle.std.proofs.Common.{◌≡◌, ◌<◌, ◌∙◌, ℕ, Some, length, slice_get, refl, sym, ap, subst, arith}
-use Rattle.std.proofs.lemmas.Option.{slice_get_read, same_Some}
+use Rattle.sm_cc.proofs.Imports.{◌≡◌, ◌<◌, ◌∙◌, ℕ, Some, length, slice_get, refl, sym, ap, subst, arith, slice_get_read, same_Some, IsSettledThere, IsGivenSettled}
 use Rattle.sm_cc.specs.declared.log.Given.{Given}
 use Rattle.sm_cc.specs.declared.closure.Closure.{Closure}
-use Rattle.sm_cc.specs.Settled.{IsSettledThere, IsGivenSettled}
 use Rattle.sm_cc.proofs.RoundsLemmas.{tries_more, tries_all}
 use Rattle.sm_cc.proofs.rounds.relate_given.Goals as goal
 

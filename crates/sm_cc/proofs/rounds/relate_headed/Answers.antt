@@ -1,6 +1,5 @@
 -- One place more, and then all.
-use Rattle.std.proofs.Common.{sym, arith}
-use Rattle.sm_cc.specs.Firsts.{met_at, headed_at}
+use Rattle.sm_cc.proofs.Imports.{sym, arith, met_at, headed_at}
 use Rattle.sm_cc.proofs.FirstsLemmas.{firsts_tried_more, firsts_tried_all, headed_bring}
 use Rattle.sm_cc.proofs.rounds.relate_headed.Goals as goal
 

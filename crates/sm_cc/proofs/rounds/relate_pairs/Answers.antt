@@ -1,8 +1,6 @@
 -- By the linear forms, and by heads with their arguments.
-use Rattle.std.proofs.lemmas.Result.{on_ok_weaker}
+use Rattle.sm_cc.proofs.Imports.{on_ok_weaker, Tries, AllPairsSettled, AreAlikeSettled, AreHeadedSettled}
 use Rattle.sm_cc.specs.declared.closure.Closure.{Closure}
-use Rattle.sm_cc.specs.Settled.{Tries, AllPairsSettled}
-use Rattle.sm_cc.specs.Firsts.{AreAlikeSettled, AreHeadedSettled}
 use Rattle.sm_cc.proofs.RoundsLemmas.{tries_both, tries_all}
 use Rattle.sm_cc.proofs.FirstsLemmas.{pairs_by_keys}
 use Rattle.sm_cc.proofs.rounds.relate_pairs.Goals as goal

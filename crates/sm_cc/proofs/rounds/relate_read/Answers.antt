@@ -1,5 +1,4 @@
-use Rattle.std.proofs.lemmas.Result.{on_ok_weaker}
-use Rattle.sm_cc.specs.Settled.{Tries, IsSettledThere}
+use Rattle.sm_cc.proofs.Imports.{on_ok_weaker, Tries, IsSettledThere}
 use Rattle.sm_cc.proofs.RoundsLemmas.{tries_both}
 use Rattle.sm_cc.proofs.rounds.relate_read.Goals as goal
 

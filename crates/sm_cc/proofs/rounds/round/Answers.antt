@@ -1,6 +1,5 @@
-use Rattle.std.proofs.lemmas.Result.{on_ok_weaker}
+use Rattle.sm_cc.proofs.Imports.{on_ok_weaker, Tries, AreSinglesSettled, AllPairsSettled, AreSettled}
 use Rattle.sm_cc.specs.declared.closure.Closure.{Closure}
-use Rattle.sm_cc.specs.Settled.{Tries, AreSinglesSettled, AllPairsSettled, AreSettled}
 use Rattle.sm_cc.proofs.RoundsLemmas.{tries_both, tries_all}
 use Rattle.sm_cc.proofs.SettledLemmas.{settled_all}
 use Rattle.sm_cc.proofs.rounds.round.Goals as goal

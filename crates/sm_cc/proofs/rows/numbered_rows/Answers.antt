@@ -1,10 +1,5 @@
 -- The rows from the first place on.
-use Rattle.std.proofs.Common.{◌∙◌, ap, map, slice_get, arith, zero-add}
-use Rattle.std.proofs.lemmas.List.{length-map}
-use Rattle.sm_term.specs.RowLaws.{contents_of}
-use Rattle.sm_term.specs.Tables.{trees_in, tree_at}
-use Rattle.sm_term.specs.declared.term.TermId.{TermId}
-use Rattle.sm_cc.specs.Numbered.{heads_met, parts_met}
+use Rattle.sm_cc.proofs.Imports.{◌∙◌, ap, map, slice_get, arith, zero-add, length-map, contents_of, trees_in, tree_at, TermId, heads_met, parts_met}
 use Rattle.sm_cc.specs.Views.{trees_of}
 use Rattle.sm_cc.proofs.NumberedLemmas.{parts_of}
 use Rattle.sm_cc.proofs.RowsLemmas.{rows_stand, none_apart}

@@ -1,7 +1,5 @@
 -- What each part says of the term.
-use Rattle.std.proofs.Common.{arith}
-use Rattle.sm_term.specs.Tables.{trees_in, tree_at}
-use Rattle.sm_cc.specs.RowOf.{HasTree}
+use Rattle.sm_cc.proofs.Imports.{arith, trees_in, tree_at, HasTree}
 use Rattle.sm_cc.proofs.RowsLemmas.{arguments_stand}
 use Rattle.sm_cc.proofs.rows.row.Goals as goal
 

@@ -1,13 +1,7 @@
 -- One row more, with what was numbered for it.
-use Rattle.std.proofs.Common.{◌≡◌, ◌∙◌, sym, ap, subst, length, [], ◌∷◌, ◌++◌, arith, slice_get}
+use Rattle.sm_cc.proofs.Imports.{◌≡◌, ◌∙◌, sym, ap, subst, length, [], ◌∷◌, ◌++◌, arith, slice_get, length_push, slice_get-get_or, slice_get-map, trees_in, tree_at, TermId, part_before, AreRowsFrom}
 use Rattle.std.specs.Option.{option_map}
-use Rattle.std.proofs.lemmas.List.{length_push}
-use Rattle.std.proofs.lemmas.Option.{slice_get-get_or, slice_get-map}
-use Rattle.sm_term.specs.Tables.{trees_in, tree_at}
-use Rattle.sm_term.specs.declared.term.TermId.{TermId}
-use Rattle.sm_term.proofs.TermsLemmas.{part_before}
 use Rattle.sm_cc.specs.Views.{trees_of}
-use Rattle.sm_cc.specs.RowOf.{AreRowsFrom}
 use Rattle.sm_cc.proofs.RowsLemmas.{rows_more, further_twice}
 use Rattle.sm_cc.proofs.rows.rows_from.Goals as goal
 

@@ -1,8 +1,6 @@
 -- The rows of the first terms from the place on.
-use Rattle.std.proofs.Common.{◌≡◌, ◌+◌, length}
-use Rattle.sm_term.specs.Tables.{trees_in}
+use Rattle.sm_cc.proofs.Imports.{◌≡◌, ◌+◌, length, trees_in, IsFurther, AreRowsFrom}
 use Rattle.sm_cc.specs.Views.{trees_of}
-use Rattle.sm_cc.specs.RowOf.{IsFurther, AreRowsFrom}
 use Rattle.sm_cc.proofs.rows.rows_from.Given as goal
 
 abbrev pub invariant-loop-i : goal.invariant-loop-i

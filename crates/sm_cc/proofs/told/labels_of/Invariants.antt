@@ -1,8 +1,6 @@
 -- The labels of the first terms.
-use Rattle.std.proofs.Common.{◌≡◌, map, take}
-use Rattle.sm_term.specs.declared.term.TermId.{TermId}
+use Rattle.sm_cc.proofs.Imports.{◌≡◌, map, take, TermId, place_at}
 use Rattle.sm_cc.specs.LabelsAt.{label_at}
-use Rattle.sm_cc.specs.Positions.{place_at}
 use Rattle.sm_cc.proofs.told.labels_of.Given as goal
 
 abbrev pub invariant-loop-t : goal.invariant-loop-t

@@ -1,8 +1,5 @@
 -- No pair that was passed is of the two classes.
-use Rattle.std.proofs.Common.{◌≡◌, false, take}
-use Rattle.std.specs.List.{list_any}
-use Rattle.sm_cc.specs.Causes.{is_between}
-use Rattle.sm_cc.specs.Closures.{are_together}
+use Rattle.sm_cc.proofs.Imports.{◌≡◌, false, take, list_any, is_between, are_together}
 use Rattle.sm_cc.proofs.witness.are_given_apart.Given as goal
 
 abbrev pub invariant-loop-g : goal.invariant-loop-g

@@ -1,8 +1,4 @@
-use Rattle.std.proofs.Common.{◌≡◌, ◌&&◌, ℕ, ◌<◌, Bool, false, length, below_more, arith}
-use Rattle.sm_cc.specs.declared.witness.Witness.{Witness}
-use Rattle.sm_cc.specs.Rows.{places_differ}
-use Rattle.sm_cc.specs.Closures.{board_of, placed_of, are_together}
-use Rattle.sm_cc.specs.Causes.{IsHalfWitness}
+use Rattle.sm_cc.proofs.Imports.{◌≡◌, ◌&&◌, ℕ, ◌<◌, Bool, false, length, below_more, arith, Witness, places_differ, board_of, placed_of, are_together, IsHalfWitness}
 use Rattle.sm_cc.proofs.CausesLemmas.{absent, none_in}
 use Rattle.sm_cc.proofs.witness.find_other.Goals as goal
 

@@ -1,7 +1,5 @@
 -- No place that was passed differs.
-use Rattle.std.proofs.Common.{◌≡◌, ℕ, ◌<◌, ◌&&◌, false}
-use Rattle.sm_cc.specs.Rows.{places_differ}
-use Rattle.sm_cc.specs.Closures.{board_of, are_together}
+use Rattle.sm_cc.proofs.Imports.{◌≡◌, ℕ, ◌<◌, ◌&&◌, false, places_differ, board_of, are_together}
 use Rattle.sm_cc.proofs.witness.find_other.Given as goal
 
 abbrev pub invariant-loop-q : goal.invariant-loop-q

@@ -1,5 +1,4 @@
-use Rattle.std.proofs.Common.{◌≡◌, ℕ, ◌<◌, length, false, sym, ◌∙◌, below_more, arith}
-use Rattle.sm_cc.specs.Causes.{is_constant_of}
+use Rattle.sm_cc.proofs.Imports.{◌≡◌, ℕ, ◌<◌, length, false, sym, ◌∙◌, below_more, arith, is_constant_of}
 use Rattle.sm_cc.proofs.CausesLemmas.{none_in}
 use Rattle.sm_cc.proofs.SoundLemmas.{any_in}
 use Rattle.sm_cc.proofs.witness.have_constant.Goals as goal

@@ -1,6 +1,5 @@
 -- No place that was passed has a constant and is in one of the two classes.
-use Rattle.std.proofs.Common.{◌≡◌, ℕ, ◌<◌, false}
-use Rattle.sm_cc.specs.Causes.{is_constant_of}
+use Rattle.sm_cc.proofs.Imports.{◌≡◌, ℕ, ◌<◌, false, is_constant_of}
 use Rattle.sm_cc.proofs.witness.have_constant.Given as goal
 
 abbrev pub invariant-loop-p : goal.invariant-loop-p

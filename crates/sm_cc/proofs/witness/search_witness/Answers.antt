@@ -1,6 +1,4 @@
-use Rattle.std.proofs.Common.{◌&&◌, ℕ, ◌<◌, length, arith}
-use Rattle.sm_cc.specs.Closures.{board_of, are_together}
-use Rattle.sm_cc.specs.Causes.{any_differs}
+use Rattle.sm_cc.proofs.Imports.{◌&&◌, ℕ, ◌<◌, length, arith, board_of, are_together, any_differs}
 use Rattle.sm_cc.proofs.CausesLemmas.{none_in}
 use Rattle.sm_cc.proofs.witness.search_witness.Goals as goal
 

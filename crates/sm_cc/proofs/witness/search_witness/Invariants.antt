@@ -1,7 +1,5 @@
 -- No place that was passed differs from one of the class.
-use Rattle.std.proofs.Common.{◌≡◌, ℕ, ◌<◌, ◌&&◌, false}
-use Rattle.sm_cc.specs.Causes.{any_differs}
-use Rattle.sm_cc.specs.Closures.{board_of, are_together}
+use Rattle.sm_cc.proofs.Imports.{◌≡◌, ℕ, ◌<◌, ◌&&◌, false, any_differs, board_of, are_together}
 use Rattle.sm_cc.proofs.witness.search_witness.Given as goal
 
 abbrev pub invariant-loop-p : goal.invariant-loop-p

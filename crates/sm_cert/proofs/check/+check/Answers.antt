@@ -1,15 +1,6 @@
-use Rattle.std.proofs.Common.{rules, ◌≡◌, ◌+◌, ◌*◌, ◌<◌, ◌++◌, ◌∷◌, [], arith, suc, List, Option, length, sym, ap, ◌∙◌, subst}
-use Rattle.sm_term.specs.Tables.{trees_in, sorts_in}
-use Rattle.sm_theory.specs.Views.{line_in, AllStand}
-use Rattle.sm_theory.specs.declared.line.CertLine.{CertLine}
-use Rattle.sm_theory.specs.declared.fact.Fact.{Fact}
-use Rattle.sm_theory.specs.Ways.{ways_with}
-use Rattle.sm_cert.specs.declared.error.CertFault.{CertFault}
+use Rattle.sm_cert.proofs.Imports.{rules, ◌≡◌, ◌+◌, ◌*◌, ◌<◌, ◌++◌, ◌∷◌, [], arith, suc, List, length, sym, ap, ◌∙◌, subst, trees_in, sorts_in, line_in, AllStand, CertLine, Fact, ways_with, CertFault, Certificate, Closed, Split, first_of_three, first_bad, bad_line, lines_in, lines_before, certificate_in, lines_of, AreLinesWithin, FaultTells, CertTree, SplitsInto, line_number, Passes}
+use Rattle.std.proofs.Common.{Option}
 use Rattle.sm_cert.specs.declared.error.CertFault.TheVariants as fault
-use Rattle.sm_cert.specs.Certificates.{Certificate, Closed, Split, first_of_three, first_bad, bad_line, lines_in}
-use Rattle.sm_cert.specs.Views.{lines_before, certificate_in, lines_of, AreLinesWithin, FaultTells, CertTree}
-use Rattle.sm_cert.specs.Ways.{SplitsInto}
-use Rattle.sm_cert.specs.Check.{line_number, Passes}
 use Rattle.sm_cert.proofs.CheckLemmas.{tree_closed, tree_split, three_sound, line_sorted, counted_more}
 use Rattle.sm_cert.proofs.WaysLemmas.{stand_append}
 use Rattle.std.proofs.lemmas.Result.{IfOk-weaker, IfErr-weaker}

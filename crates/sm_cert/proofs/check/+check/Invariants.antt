@@ -1,6 +1,5 @@
 -- Each side of a tree has fewer lines.
-use Rattle.std.proofs.Common.{◌+◌, ◌*◌, length}
-use Rattle.sm_cert.specs.Views.{lines_of}
+use Rattle.sm_cert.proofs.Imports.{◌+◌, ◌*◌, length, lines_of}
 use Rattle.sm_cert.proofs.check.+check.Given as goal
 
 abbrev pub decreases-check_at : goal.decreases-check_at

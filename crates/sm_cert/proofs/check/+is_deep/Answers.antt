@@ -1,7 +1,4 @@
-use Rattle.std.proofs.Common.{◌≡◌, ◌-◌, nat_lt, true, false, length, sym, ap, ◌∙◌, subst}
-use Rattle.sm_cert.specs.Certificates.{splits_above}
-use Rattle.sm_cert.specs.Views.{certificate_in, lines_of, AreLinesWithin, CertTree}
-use Rattle.sm_cert.specs.NamedTerms.{IsCertificateSorted}
+use Rattle.sm_cert.proofs.Imports.{◌≡◌, ◌-◌, nat_lt, true, false, length, sym, ap, ◌∙◌, subst, splits_above, certificate_in, lines_of, AreLinesWithin, CertTree, IsCertificateSorted}
 use Rattle.sm_cert.proofs.NamedLemmas.{closed_sorted, split_sorted}
 use Rattle.sm_cert.proofs.TreeLemmas.{split_within}
 use Rattle.sm_cert.proofs.CheckLemmas.{split_depth, closed_depth, none_allowed, none_deep, first_deep, second_deep}

@@ -1,13 +1,5 @@
-use Rattle.std.proofs.Common.{◌+◌, Bool, List, take, drop, length, sym, subst}
-use Rattle.sm_term.specs.Tables.{trees_in, sorts_in}
-use Rattle.sm_theory.specs.Views.{line_in, IsLineWithin}
-use Rattle.sm_theory.specs.declared.line.CertLine.{CertLine}
-use Rattle.sm_theory.specs.Ways.{ways_with}
+use Rattle.sm_cert.proofs.Imports.{◌+◌, Bool, List, take, drop, length, sym, subst, trees_in, sorts_in, line_in, IsLineWithin, CertLine, ways_with, first_of_three, first_bad, bad_line, lines_before, FaultTells, GoesOn, Arrives}
 use Rattle.sm_cert.specs.declared.error.CertFault.TheVariants as fault
-use Rattle.sm_cert.specs.Certificates.{first_of_three, first_bad, bad_line}
-use Rattle.sm_cert.specs.Views.{lines_before, FaultTells}
-use Rattle.sm_cert.specs.Ways.{GoesOn}
-use Rattle.sm_cert.specs.Check.{Arrives}
 use Rattle.sm_cert.proofs.CheckLemmas.{within_at, three_sound, line_sorted, arrives_more, arrives_bad, lines_at, lines_more, take_within, take_all}
 use Rattle.sm_cert.proofs.check.add_lines.Goals as goal
 

@@ -1,11 +1,5 @@
 -- The lines so far lead to the branch as it is, and it begins with the facts that it had.
-use Rattle.std.proofs.Common.{◌≡◌, ℕ, List, length, take}
-use Rattle.sm_term.specs.Tables.{trees_in, sorts_in}
-use Rattle.sm_theory.specs.Facts.{BranchFact}
-use Rattle.sm_theory.specs.SortedFacts.{AreFactsSorted}
-use Rattle.sm_theory.specs.Views.{AllStand}
-use Rattle.sm_cert.specs.Certificates.{first_of_three}
-use Rattle.sm_cert.specs.Check.{line_number, Arrives}
+use Rattle.sm_cert.proofs.Imports.{◌≡◌, ℕ, List, length, take, trees_in, sorts_in, BranchFact, AreFactsSorted, AllStand, first_of_three, line_number, Arrives}
 use Rattle.sm_cert.proofs.check.add_lines.Given as goal
 
 abbrev pub invariant-loop-line : goal.invariant-loop-line

@@ -1,9 +1,5 @@
 -- What is found of the lines, and before it of the splits.
-use Rattle.std.proofs.Common.{◌≡◌, nat_lt, None, false, refl, sym, ap, ◌∙◌, subst}
-use Rattle.sm_term.specs.Tables.{trees_in, sorts_in}
-use Rattle.sm_cert.specs.declared.error.CertFault.{CertFault}
-use Rattle.sm_cert.specs.Certificates.{first_of_three, splits_above, bad_line, Refused, refused}
-use Rattle.sm_cert.specs.Views.{certificate_in, FaultTells}
+use Rattle.sm_cert.proofs.Imports.{◌≡◌, nat_lt, None, false, refl, sym, ap, ◌∙◌, subst, trees_in, sorts_in, CertFault, first_of_three, splits_above, bad_line, Refused, refused, certificate_in, FaultTells}
 use Rattle.std.specs.Prelude.{Option}
 use Rattle.sm_cert.proofs.CertificateSound.{closes}
 use Rattle.sm_cert.proofs.CheckLemmas.{three_sound}

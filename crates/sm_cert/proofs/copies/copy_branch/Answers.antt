@@ -1,7 +1,4 @@
-use Rattle.std.proofs.Common.{◌++◌, ◌+◌, List, drop, get_or, sym, subst}
-use Rattle.sm_theory.specs.Facts.{BranchFact}
-use Rattle.sm_theory.specs.Views.{FactStands, AllStand}
-use Rattle.sm_theory.specs.declared.fact.Fact.{Fact}
+use Rattle.sm_cert.proofs.Imports.{◌++◌, ◌+◌, List, drop, get_or, sym, subst, BranchFact, FactStands, AllStand, Fact}
 use Rattle.sm_cert.proofs.WaysLemmas.{copied_more}
 use Rattle.sm_cert.proofs.copies.copy_branch.Goals as goal
 

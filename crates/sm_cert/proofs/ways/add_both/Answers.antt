@@ -1,10 +1,5 @@
-use Rattle.std.proofs.Common.{◌≡◌, ◌++◌, ◌∷◌, [], List, true, sym, ap, subst, ◌∙◌}
-use Rattle.sm_term.specs.Formulas.{NumberedFormula, And, numbered}
-use Rattle.sm_theory.specs.declared.fact.Fact.{Fact}
+use Rattle.sm_cert.proofs.Imports.{◌≡◌, ◌++◌, ◌∷◌, [], List, true, sym, ap, subst, ◌∙◌, NumberedFormula, And, numbered, Fact, followed, formula_at, both_parts, GoesOn}
 use Rattle.sm_theory.specs.declared.fact.Fact.TheVariants as fact
-use Rattle.sm_theory.specs.Lines.{followed, formula_at}
-use Rattle.sm_theory.specs.Ways.{both_parts}
-use Rattle.sm_cert.specs.Ways.{GoesOn}
 use Rattle.sm_cert.proofs.WaysLemmas.{both_go_on}
 use Rattle.sm_cert.proofs.ways.add_both.Goals as goal
 

@@ -1,12 +1,5 @@
-use Rattle.std.proofs.Common.{◌≡◌, ◌∷◌, [], List, Option, IfOk, true, false, take, length, sym, subst}
-use Rattle.sm_term.specs.Tables.{trees_in, sorts_in}
-use Rattle.sm_theory.specs.Views.{line_in, StandsIf}
-use Rattle.sm_theory.specs.declared.line.CertLine.{CertLine}
-use Rattle.sm_theory.specs.declared.fact.Fact.{Fact}
-use Rattle.sm_theory.specs.Lines.{equation_at, contrary_at}
-use Rattle.sm_theory.specs.Ways.{Ways, ways_with, adding}
-use Rattle.sm_cert.specs.Certificates.{first_of_three}
-use Rattle.sm_cert.specs.Ways.{GoesOn}
+use Rattle.sm_cert.proofs.Imports.{◌≡◌, ◌∷◌, [], List, IfOk, true, false, take, length, sym, subst, trees_in, sorts_in, line_in, StandsIf, CertLine, Fact, equation_at, contrary_at, Ways, ways_with, adding, first_of_three, GoesOn}
+use Rattle.std.proofs.Common.{Option}
 use Rattle.sm_cert.proofs.WaysLemmas.{adding_goes_on, clash_stops, theory_adds, take_first}
 use Rattle.sm_cert.proofs.ways.add_line.Goals as goal
 

@@ -1,7 +1,4 @@
-use Rattle.std.proofs.Common.{◌∙◌, subst}
-use Rattle.sm_term.specs.Tables.{trees_in, sorts_in}
-use Rattle.sm_theory.specs.Views.{FactStands}
-use Rattle.sm_theory.specs.declared.fact.Fact.{Fact}
+use Rattle.sm_cert.proofs.Imports.{◌∙◌, subst, trees_in, sorts_in, FactStands, Fact}
 use Rattle.sm_cert.proofs.WaysLemmas.{sum_cannot}
 use Rattle.sm_cert.proofs.ways.cannot_hold.Goals as goal
 

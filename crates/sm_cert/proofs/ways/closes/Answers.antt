@@ -1,9 +1,4 @@
-use Rattle.std.proofs.Common.{◌≡◌, sym, subst}
-use Rattle.sm_term.specs.Tables.{trees_in, sorts_in}
-use Rattle.sm_theory.specs.Views.{line_in}
-use Rattle.sm_theory.specs.declared.line.CertLine.{CertLine}
-use Rattle.sm_theory.specs.Ways.{ways_with}
-use Rattle.sm_cert.specs.Ways.{is_closed}
+use Rattle.sm_cert.proofs.Imports.{◌≡◌, sym, subst, trees_in, sorts_in, line_in, CertLine, ways_with, is_closed}
 use Rattle.sm_cert.proofs.ways.closes.Goals as goal
 
 pub returns-in-Close : goal.returns-in-Close

@@ -1,9 +1,4 @@
-use Rattle.std.proofs.Common.{IfOk, sym, subst}
-use Rattle.sm_term.specs.Tables.{trees_in, sorts_in}
-use Rattle.sm_theory.specs.Views.{line_in}
-use Rattle.sm_theory.specs.declared.line.CertLine.{CertLine}
-use Rattle.sm_theory.specs.Ways.{ways_with}
-use Rattle.sm_cert.specs.Ways.{SplitsInto}
+use Rattle.sm_cert.proofs.Imports.{IfOk, sym, subst, trees_in, sorts_in, line_in, CertLine, ways_with, SplitsInto}
 use Rattle.sm_cert.proofs.WaysLemmas.{other_is_whole}
 use Rattle.sm_cert.proofs.ways.parts.Goals as goal
 

@@ -1,10 +1,7 @@
 -- The facts are given of terms of the table.
-use Rattle.std.proofs.Common.{IfSome, Option, List, subst, ◌∙◌}
-use Rattle.sm_term.specs.Tables.{trees_in}
-use Rattle.sm_cc.specs.declared.classes.GivenFact.{GivenFact}
+use Rattle.sm_certify.proofs.Imports.{IfSome, Option, List, subst, ◌∙◌, trees_in, GivenFact, classes_by}
 use Rattle.sm_cc.specs.declared.ground.NumberedBase.{NumberedBase}
 use Rattle.sm_cc.specs.BaseClasses.{AreBaseClasses}
-use Rattle.sm_certify.specs.Given.{classes_by}
 use Rattle.sm_certify.proofs.GivenLemmas.{whole_before, given_of_terms}
 use Rattle.sm_certify.proofs.base.base_of.Goals as goal
 

@@ -1,7 +1,5 @@
 -- The fact is a contrary whose terms are in one class, or can't hold by itself.
-use Rattle.std.proofs.Common.{sym}
-use Rattle.sm_term.specs.Formulas.{numbered}
-use Rattle.sm_certify.specs.Given.{branch_of}
+use Rattle.sm_certify.proofs.Imports.{sym, numbered, branch_of}
 use Rattle.sm_certify.proofs.CertifyLemmas.{contrary_at, refuted_at, refuting_alone}
 use Rattle.sm_certify.proofs.certify.refuted_tree.Goals as goal
 

@@ -1,11 +1,7 @@
 -- The lines explain the equation, and one more line tells the contrary.
-use Rattle.std.proofs.Common.{◌≡◌, ◌+◌, ◌-◌, length, map, sym, subst, arith}
-use Rattle.sm_term.specs.Tables.{trees_in, sorts_in, tree_at}
-use Rattle.sm_theory.specs.Views.{line_in}
+use Rattle.sm_certify.proofs.Imports.{◌≡◌, ◌+◌, ◌-◌, length, map, sym, subst, arith, trees_in, sorts_in, tree_at, line_in, Explain, AreLinesOf, ClassesValue, setting_of, equation_of, branch_of}
 use Rattle.sm_cc.specs.Classes.{Same}
-use Rattle.sm_cc.specs.Explained.{Explain, AreLinesOf}
-use Rattle.sm_cc.specs.Views.{ClassesValue, setting_of, numbers_of, equation_of}
-use Rattle.sm_certify.specs.Given.{branch_of}
+use Rattle.sm_cc.specs.Views.{numbers_of}
 use Rattle.sm_certify.proofs.CertifyLemmas.{same_seen, some_lines, torn_equal, refuting_torn}
 use Rattle.sm_certify.proofs.certify.torn_tree.Goals as goal
 

@@ -1,7 +1,5 @@
 -- Each turn lists the next term.
-use Rattle.std.proofs.Common.{◌≡◌, length, refl, ap, ◌∙◌, arith}
-use Rattle.std.specs.List.{range_with_len}
-use Rattle.sm_term.specs.Tables.{trees_in}
+use Rattle.sm_certify.proofs.Imports.{◌≡◌, length, refl, ap, ◌∙◌, arith, range_with_len, trees_in}
 use Rattle.sm_certify.proofs.GivenLemmas.{numbered_more, all_whole}
 use Rattle.sm_certify.proofs.classes.all_terms.Goals as goal
 

@@ -1,6 +1,5 @@
 -- The first terms are listed.
-use Rattle.std.proofs.Common.{◌≡◌}
-use Rattle.std.specs.List.{range_with_len}
+use Rattle.sm_certify.proofs.Imports.{◌≡◌, range_with_len}
 use Rattle.sm_terms.specs.Listing.{numbers_of}
 use Rattle.sm_certify.proofs.classes.all_terms.Given as goal
 

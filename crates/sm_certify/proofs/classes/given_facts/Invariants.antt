@@ -1,6 +1,5 @@
 -- What the formulas that are left give goes behind what is given.
-use Rattle.std.proofs.Common.{◌≡◌, ◌++◌, drop}
-use Rattle.sm_certify.specs.Given.{given_from}
+use Rattle.sm_certify.proofs.Imports.{◌≡◌, ◌++◌, drop, given_from}
 use Rattle.sm_certify.proofs.classes.given_facts.Given as goal
 
 abbrev pub invariant-loop-f : goal.invariant-loop-f

@@ -1,19 +1,7 @@
-use Rattle.std.proofs.Common.{◌≡◌, ◌+◌, List, [], length, drop, refl, sym, ap, subst, ◌∙◌}
-use Rattle.std.proofs.lemmas.List.{drop_all}
-use Rattle.sm_term.specs.Tables.{trees_in, sorts_in}
-use Rattle.sm_theory.specs.declared.line.CertLine.{CertLine}
-use Rattle.sm_theory.specs.Facts.{as_facts}
-use Rattle.sm_theory.specs.Lines.{Close}
-use Rattle.sm_theory.specs.Ways.{adds}
-use Rattle.sm_cert.specs.Certificates.{Certificate, Closed, first_bad, splits_above}
-use Rattle.sm_cert.specs.Views.{AreLinesWithin}
-use Rattle.sm_judge.specs.declared.forms.Source.{Source}
-use Rattle.sm_certify.specs.Deciding.{Decides}
-use Rattle.sm_certify.specs.Given.{branch_of}
+use Rattle.sm_certify.proofs.Imports.{◌≡◌, ◌+◌, List, [], length, drop, refl, sym, ap, subst, ◌∙◌, drop_all, trees_in, sorts_in, CertLine, as_facts, Close, adds, Certificate, Closed, first_bad, splits_above, AreLinesWithin, Source, Decides, branch_of, splits_before}
 use Rattle.sm_certify.proofs.BranchLeadsLemmas.{item_left}
 use Rattle.sm_certify.proofs.DecidedLemmas.{decides_first, decides_usable, source_in_order, decided_refutes, decided_within}
 use Rattle.sm_certify.proofs.decided.exact_tree.Goals as goal
-use Rattle.sm_cert.proofs.CheckLemmas.{splits_before}
 
 pub loop-source-init : goal.loop-source-init
 loop-source-init c =

@@ -1,7 +1,5 @@
 -- What is written decides the branch with the sources that are left.
-use Rattle.std.proofs.Common.{drop}
-use Rattle.sm_certify.specs.Deciding.{Decides}
-use Rattle.sm_certify.specs.Given.{branch_of}
+use Rattle.sm_certify.proofs.Imports.{drop, Decides, branch_of}
 use Rattle.sm_certify.proofs.decided.exact_tree.Given as goal
 
 abbrev pub invariant-loop-source : goal.invariant-loop-source

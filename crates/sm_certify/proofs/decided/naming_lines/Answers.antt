@@ -1,10 +1,4 @@
-use Rattle.std.proofs.Common.{◌≡◌, ◌<◌, List, [], length, take, refl, sym, subst, arith}
-use Rattle.std.proofs.lemmas.List.{take_all}
-use Rattle.sm_term.specs.Tables.{trees_in}
-use Rattle.sm_term.specs.Terms.{Tree}
-use Rattle.sm_theory.specs.declared.line.CertLine.{CertLine}
-use Rattle.sm_certify.specs.Deciding.{StandInOrder}
-use Rattle.sm_certify.specs.Given.{branch_of}
+use Rattle.sm_certify.proofs.Imports.{◌≡◌, ◌<◌, List, [], length, take, refl, sym, subst, arith, take_all, trees_in, Tree, CertLine, StandInOrder, branch_of}
 use Rattle.sm_certify.proofs.DecidedLemmas.{naming_next}
 use Rattle.sm_certify.proofs.OrderLemmas.{order_none}
 use Rattle.sm_certify.proofs.decided.naming_lines.Goals as goal

@@ -1,7 +1,5 @@
 -- The terms up to the next are named.
-use Rattle.std.proofs.Common.{[], take}
-use Rattle.sm_certify.specs.Deciding.{StandInOrder}
-use Rattle.sm_certify.specs.Given.{branch_of}
+use Rattle.sm_certify.proofs.Imports.{[], take, StandInOrder, branch_of}
 use Rattle.sm_certify.proofs.decided.naming_lines.Given as goal
 
 abbrev pub invariant-loop-n : goal.invariant-loop-n

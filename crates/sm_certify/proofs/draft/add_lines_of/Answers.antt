@@ -1,6 +1,4 @@
-use Rattle.std.proofs.Common.{subst}
-use Rattle.sm_certify.specs.Given.{branch_of}
-use Rattle.sm_certify.specs.Refuting.{IsUsable}
+use Rattle.sm_certify.proofs.Imports.{subst, branch_of, IsUsable}
 use Rattle.sm_certify.proofs.SameLemmas.{same_by_classes}
 use Rattle.sm_certify.proofs.draft.add_lines_of.Goals as goal
 

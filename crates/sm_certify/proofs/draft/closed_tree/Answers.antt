@@ -1,5 +1,4 @@
-use Rattle.std.proofs.Common.{refl}
-use Rattle.sm_cert.proofs.CheckLemmas.{tree_closed, lines_closed}
+use Rattle.sm_certify.proofs.Imports.{refl, tree_closed, lines_closed}
 use Rattle.sm_certify.proofs.draft.closed_tree.Goals as goal
 
 pub returns-clause-certificate : goal.returns-clause-certificate

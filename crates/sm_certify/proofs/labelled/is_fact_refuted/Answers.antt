@@ -1,10 +1,5 @@
 -- Terms of one label are equal on the branch.
-use Rattle.std.proofs.Common.{◌≡◌, ◌<◌, true, length, sym, subst}
-use Rattle.sm_term.specs.Formulas.{numbered, assertion_in, IsFormulaWithin}
-use Rattle.sm_term.specs.declared.formula.Formula.{Formula}
-use Rattle.sm_term.specs.Tables.{trees_in, sorts_in}
-use Rattle.sm_certify.specs.Given.{branch_of}
-use Rattle.sm_judge.specs.Holding.{is_refuted}
+use Rattle.sm_certify.proofs.Imports.{◌≡◌, ◌<◌, true, length, sym, subst, numbered, assertion_in, IsFormulaWithin, Formula, trees_in, sorts_in, branch_of, is_refuted}
 use Rattle.sm_certify.proofs.ByLabelsLemmas.{equal_by_labels}
 use Rattle.sm_certify.proofs.labelled.is_fact_refuted.Goals as goal
 

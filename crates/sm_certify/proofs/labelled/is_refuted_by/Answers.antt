@@ -1,8 +1,6 @@
 -- A fact that can't hold closes the branch.
-use Rattle.std.proofs.Common.{length}
-use Rattle.sm_term.specs.Tables.{trees_in}
+use Rattle.sm_certify.proofs.Imports.{length, trees_in, within_at}
 use Rattle.sm_certify.proofs.ByLabelsLemmas.{closed_by_fact}
-use Rattle.sm_judge.proofs.ClosingLemmas.{within_at}
 use Rattle.sm_certify.proofs.labelled.is_refuted_by.Goals as goal
 
 pub returns-then-is_fact_refuted : goal.returns-then-is_fact_refuted

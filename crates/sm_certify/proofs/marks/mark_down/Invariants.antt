@@ -1,6 +1,5 @@
 -- The sums that were passed are marked with their forms.
-use Rattle.std.proofs.Common.{◌≡◌, ◌≤◌, ◌+◌, drop, length}
-use Rattle.sm_certify.specs.Refuting.{mark_at, AreMarked}
+use Rattle.sm_certify.proofs.Imports.{◌≡◌, ◌≤◌, ◌+◌, drop, length, mark_at, AreMarked}
 use Rattle.sm_certify.proofs.marks.mark_down.Given as goal
 
 abbrev pub invariant-loop-left : goal.invariant-loop-left

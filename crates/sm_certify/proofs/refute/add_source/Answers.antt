@@ -1,5 +1,4 @@
-use Rattle.std.proofs.Common.{sym, ◌∙◌}
-use Rattle.sm_certify.specs.Refuting.{mark_at}
+use Rattle.sm_certify.proofs.Imports.{sym, ◌∙◌, mark_at}
 use Rattle.sm_certify.proofs.BranchLeadsLemmas.{source_step, skip_step}
 use Rattle.sm_certify.proofs.refute.add_source.Goals as goal
 

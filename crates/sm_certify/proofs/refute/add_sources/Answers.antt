@@ -1,7 +1,4 @@
-use Rattle.std.proofs.Common.{List, ◌+◌, drop}
-use Rattle.sm_judge.specs.declared.forms.Source.{Source}
-use Rattle.sm_certify.specs.Given.{branch_of}
-use Rattle.sm_certify.specs.Refuting.{Leads, mark_at}
+use Rattle.sm_certify.proofs.Imports.{List, ◌+◌, drop, Source, branch_of, Leads, mark_at}
 use Rattle.sm_certify.proofs.BranchLeadsLemmas.{item_left}
 use Rattle.sm_certify.proofs.LeadsLemmas.{leads_usable}
 use Rattle.sm_certify.proofs.refute.add_sources.Goals as goal

@@ -1,5 +1,4 @@
-use Rattle.std.proofs.Common.{sym, ◌∙◌}
-use Rattle.sm_certify.specs.Refuting.{mark_at}
+use Rattle.sm_certify.proofs.Imports.{sym, ◌∙◌, mark_at}
 use Rattle.sm_certify.proofs.BranchLeadsLemmas.{sum_step, skip_sum_step}
 use Rattle.sm_certify.proofs.refute.add_sum.Goals as goal
 

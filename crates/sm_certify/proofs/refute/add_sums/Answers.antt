@@ -1,5 +1,4 @@
-use Rattle.std.proofs.Common.{◌+◌, drop}
-use Rattle.sm_certify.specs.Refuting.{mark_at}
+use Rattle.sm_certify.proofs.Imports.{◌+◌, drop, mark_at}
 use Rattle.sm_certify.proofs.BranchLeadsLemmas.{sums_left, next_f, next_g}
 use Rattle.sm_certify.proofs.refute.add_sums.Goals as goal
 

@@ -1,7 +1,5 @@
 -- What is written leads on with the sums that are left.
-use Rattle.std.proofs.Common.{[], drop}
-use Rattle.sm_certify.specs.Given.{branch_of}
-use Rattle.sm_certify.specs.Refuting.{Leads, mark_at}
+use Rattle.sm_certify.proofs.Imports.{[], drop, branch_of, Leads, mark_at}
 use Rattle.sm_certify.proofs.refute.add_sums.Given as goal
 
 abbrev pub invariant-loop-elim : goal.invariant-loop-elim

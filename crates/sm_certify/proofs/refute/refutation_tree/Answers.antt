@@ -1,17 +1,7 @@
-use Rattle.std.proofs.Common.{ℕ, List, [], length, sym, ap, ◌∙◌, subst}
-use Rattle.sm_term.specs.Tables.{trees_in, sorts_in}
-use Rattle.sm_theory.specs.declared.line.CertLine.{CertLine}
-use Rattle.sm_theory.specs.Lines.{Close}
-use Rattle.sm_theory.specs.Facts.{as_facts}
-use Rattle.sm_theory.specs.Ways.{adds}
-use Rattle.sm_cert.specs.Certificates.{Certificate, Closed, first_bad, splits_above}
-use Rattle.sm_cert.specs.Views.{AreLinesWithin}
-use Rattle.sm_certify.specs.Given.{branch_of}
-use Rattle.sm_certify.specs.Refuting.{Leads, mark_at}
+use Rattle.sm_certify.proofs.Imports.{ℕ, List, [], length, sym, ap, ◌∙◌, subst, trees_in, sorts_in, CertLine, Close, as_facts, adds, Certificate, Closed, first_bad, splits_above, AreLinesWithin, branch_of, Leads, mark_at, splits_before}
 use Rattle.sm_certify.proofs.LeadsLemmas.{leads_first, leads_bad, places_first}
 use Rattle.sm_certify.proofs.BranchLeadsLemmas.{closed_step, closed_within}
 use Rattle.sm_certify.proofs.refute.refutation_tree.Goals as goal
-use Rattle.sm_cert.proofs.CheckLemmas.{splits_before}
 
 pub add_sources-requires-clause-leads : goal.add_sources-requires-clause-leads
 add_sources-requires-clause-leads c =

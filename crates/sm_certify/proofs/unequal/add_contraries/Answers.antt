@@ -1,6 +1,5 @@
 -- Each turn tells of one more formula.
-use Rattle.sm_certify.specs.Given.{given_from}
-use Rattle.std.proofs.Common.{◌++◌}
+use Rattle.sm_certify.proofs.Imports.{given_from, ◌++◌}
 use Rattle.sm_certify.proofs.ContrariesLemmas.{sides_of, none_step, sides_step}
 use Rattle.sm_certify.proofs.unequal.add_contraries.Goals as goal
 

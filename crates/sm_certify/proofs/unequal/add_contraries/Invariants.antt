@@ -1,6 +1,5 @@
 -- What the formulas that are left tell goes behind what is told.
-use Rattle.std.proofs.Common.{◌≡◌, ◌++◌, drop}
-use Rattle.sm_certify.specs.Given.{given_from}
+use Rattle.sm_certify.proofs.Imports.{◌≡◌, ◌++◌, drop, given_from}
 use Rattle.sm_certify.proofs.ContrariesLemmas.{are_contraries, sides_of}
 use Rattle.sm_certify.proofs.unequal.add_contraries.Given as goal
 

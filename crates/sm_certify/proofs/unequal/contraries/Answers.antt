@@ -1,7 +1,5 @@
 -- The formula at the place and those behind tell all that is added.
-use Rattle.std.proofs.Common.{sym, ap, ◌∙◌, ◌++◌, List, [], ◌∷◌}
-use Rattle.sm_term.specs.declared.term.TermId.{TermId}
-use Rattle.sm_certify.specs.Given.{given_from}
+use Rattle.sm_certify.proofs.Imports.{sym, ap, ◌∙◌, ◌++◌, List, [], ◌∷◌, TermId, given_from}
 use Rattle.sm_certify.proofs.ContrariesLemmas.{sides_of, adds_contraries}
 use Rattle.sm_certify.proofs.unequal.contraries.Goals as goal
 

@@ -1,8 +1,5 @@
 -- One line more, and the last.
-use Rattle.std.proofs.Common.{ℕ, List, refl, subst}
-use Rattle.sm_term.specs.Tables.{trees_in, sorts_in}
-use Rattle.sm_check.specs.LineEnds.{ended_in}
-use Rattle.sm_check.specs.Walks.{terms_in}
+use Rattle.sm_check.proofs.Imports.{ℕ, List, refl, subst, trees_in, sorts_in, ended_in, terms_in}
 use Rattle.sm_check.proofs.JobsLemmas.{Leads, leads_first, leads_on, closed_home, none_is}
 use Rattle.sm_check.proofs.alone.closes.Goals as goal
 

@@ -1,15 +1,7 @@
 -- The lines so far lead on.
-use Rattle.std.proofs.Common.{ℕ, List, length}
-use Rattle.sm_syntax.specs.claim.ConflictFree.{Copy}
-use Rattle.sm_term.specs.Symbolic.{SymbolicStore}
-use Rattle.sm_term.specs.Tables.{trees_in, sorts_in}
-use Rattle.sm_theory.specs.Facts.{BranchFact}
-use Rattle.sm_theory.specs.SortedFacts.{AreFactsSorted}
-use Rattle.sm_theory.specs.Views.{AllStand}
+use Rattle.sm_check.proofs.Imports.{ℕ, List, length, Copy, SymbolicStore, trees_in, sorts_in, BranchFact, AreFactsSorted, AllStand, ended_in, terms_in}
 use Rattle.sm_proof.specs.Passing as plain
 use Rattle.sm_check.specs.Closing.{OpensAs}
-use Rattle.sm_check.specs.LineEnds.{ended_in}
-use Rattle.sm_check.specs.Walks.{terms_in}
 use Rattle.sm_check.proofs.JobsLemmas.{Leads}
 use Rattle.sm_check.proofs.alone.closes.Given as goal
 

@@ -1,10 +1,6 @@
 -- The line is taken at the branch that is due.
-use Rattle.std.proofs.Common.{◌≡◌, ◌∙◌, Ok, Some, ap}
-use Rattle.sm_term.specs.Tables.{trees_in, sorts_in}
-use Rattle.sm_proof.specs.Lines.{numbered_line, line_of}
-use Rattle.sm_proof.specs.declared.line.Line.{Line}
+use Rattle.sm_check.proofs.Imports.{◌≡◌, ◌∙◌, Ok, Some, ap, trees_in, sorts_in, numbered_line, line_of, Line, terms_in}
 use Rattle.sm_check.specs.declared.pending.Due.TheVariants as due
-use Rattle.sm_check.specs.Walks.{terms_in}
 use Rattle.sm_check.proofs.JobsLemmas.{due_first, went_on}
 use Rattle.sm_check.proofs.alone.goes_on_by.Goals as goal
 

@@ -1,10 +1,7 @@
 -- Nothing waits behind the branch.
-use Rattle.std.proofs.Common.{List, subst, sym, Some, ◌∷◌, []}
+use Rattle.sm_check.proofs.Imports.{List, subst, sym, Some, ◌∷◌, [], Copy, SymbolicStore, PendingStands, Waiting}
 use Rattle.sm_check.specs.declared.pending.Due.TheVariants as due
-use Rattle.sm_syntax.specs.claim.ConflictFree.{Copy}
-use Rattle.sm_term.specs.Symbolic.{SymbolicStore}
 use Rattle.sm_proof.specs.Passing as plain
-use Rattle.sm_check.specs.Pending.{PendingStands, Waiting}
 use Rattle.sm_check.proofs.JobsLemmas.{alone_stands}
 use Rattle.sm_check.proofs.alone.lone_branch.Goals as goal
 

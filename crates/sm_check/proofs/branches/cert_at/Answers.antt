@@ -1,19 +1,6 @@
 -- What is pending after the line, over the rest of the proof.
-use Rattle.std.proofs.Common.{Result, Ok, Err, Option, List, length, refl, sym, subst}
-use Rattle.sm_term.specs.Tables.{trees_in, sorts_in}
-use Rattle.sm_term.specs.declared.term.TermId.{TermId}
-use Rattle.sm_term.specs.Terms.{Tree}
-use Rattle.sm_plan.specs.ReadyStates.{AreStoresReady}
-use Rattle.sm_plan.specs.Views.{stores_in}
-use Rattle.sm_proof.specs.Lines.{numbered_line}
-use Rattle.sm_proof.specs.Named.{found_or, named_line}
-use Rattle.sm_proof.specs.declared.word.Word.{Word}
-use Rattle.sm_proof.specs.declared.word.Word.TheVariants.{BadNumber}
-use Rattle.sm_proof.specs.Passing.{Pending, Progress, after_line}
-use Rattle.sm_check.specs.CertsTaken.{pending_after, WalksIn}
-use Rattle.sm_check.specs.Pending.{PendingStands, Due}
-use Rattle.sm_check.specs.Tells.{Tells}
-use Rattle.sm_check.specs.Walks.{WalkValue, Walks, terms_in}
+use Rattle.sm_check.proofs.Imports.{Result, Ok, Err, Option, List, length, refl, sym, subst, trees_in, sorts_in, TermId, Tree, AreStoresReady, stores_in, numbered_line, found_or, named_line, Word, BadNumber, Pending, Progress, after_line, pending_after, WalksIn, PendingStands, Tells, WalkValue, Walks, terms_in}
+use Rattle.sm_check.specs.Pending.{Due}
 use Rattle.sm_check.proofs.CertTaken.{goes, cert_after_is, tells_then, walks_on}
 use Rattle.sm_check.proofs.NodeTaken.{tells_on}
 use Rattle.sm_check.proofs.branches.cert_at.Goals as goal

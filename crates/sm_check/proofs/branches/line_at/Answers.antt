@@ -1,21 +1,6 @@
 -- The line is named, tested, and taken.
-use Rattle.std.proofs.Common.{◌≡◌, ℕ, Option, Some, Result, Ok, List, length, sym, ap, ◌∙◌, subst}
-use Rattle.std.proofs.lemmas.Result.{err_from_is_err_and}
-use Rattle.sm_term.specs.Tables.{trees_in, sorts_in}
-use Rattle.sm_theory.specs.Facts.{BranchFact}
-use Rattle.sm_theory.specs.Ways.{ways}
-use Rattle.sm_theory.specs.Views.{line_in}
-use Rattle.sm_plan.specs.Views.{stores_in}
-use Rattle.sm_proof.specs.Lines.{numbered_line}
-use Rattle.sm_proof.specs.Named.{found_or, named_line}
-use Rattle.sm_proof.specs.declared.word.Word.{Word}
-use Rattle.sm_proof.specs.declared.word.Word.TheVariants.{Deep, First}
-use Rattle.sm_proof.specs.declared.word.Head.{Head}
-use Rattle.sm_proof.specs.Passing.{Pending, branches_before}
-use Rattle.sm_check.specs.CertsTaken.{pending_after}
-use Rattle.sm_check.specs.LineKinds.{Misses}
-use Rattle.sm_check.specs.Pending.{PendingStands, Due}
-use Rattle.sm_check.specs.Walks.{terms_in}
+use Rattle.sm_check.proofs.Imports.{◌≡◌, ℕ, Option, Some, Result, Ok, List, length, sym, ap, ◌∙◌, subst, err_from_is_err_and, trees_in, sorts_in, BranchFact, ways, line_in, stores_in, numbered_line, found_or, named_line, Word, Deep, First, Head, Pending, branches_before, pending_after, Misses, PendingStands, terms_in}
+use Rattle.sm_check.specs.Pending.{Due}
 use Rattle.sm_check.proofs.CertTaken.{misses_told, cert_deep, cert_tried}
 use Rattle.sm_check.proofs.NodesLemmas.{tells_word}
 use Rattle.sm_check.proofs.PendingLemmas.{stand_long}

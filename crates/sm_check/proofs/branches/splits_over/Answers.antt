@@ -1,6 +1,5 @@
 -- Not too many splits.
-use Rattle.std.proofs.Common.{sym, ◌∙◌, inl, inr}
-use Rattle.sm_proof.specs.Lines.{numbered_line}
+use Rattle.sm_check.proofs.Imports.{sym, ◌∙◌, inl, inr, numbered_line}
 use Rattle.sm_check.proofs.CertTaken.{splits_told}
 use Rattle.sm_check.proofs.branches.splits_over.Goals as goal
 use Rattle.sm_check.proofs.branches.splits_over.Goals.{then-splits_branch, else-splits_branch}

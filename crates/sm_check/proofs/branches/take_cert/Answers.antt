@@ -1,10 +1,6 @@
 -- A line of a certificate where a branch is due.
-use Rattle.std.proofs.Common.{◌≡◌, Some, List, sym, subst, ap, ◌∙◌}
-use Rattle.sm_term.specs.Tables.{sorts_in}
-use Rattle.sm_proof.specs.Lines.{Cert, numbered_line}
-use Rattle.sm_proof.specs.Passing.{Pending, taken, taken_at}
+use Rattle.sm_check.proofs.Imports.{◌≡◌, Some, List, sym, subst, ap, ◌∙◌, sorts_in, Cert, numbered_line, Pending, taken, taken_at, WalkValue, Walks}
 use Rattle.sm_check.specs.declared.pending.Due.TheVariants as due
-use Rattle.sm_check.specs.Walks.{WalkValue, Walks}
 use Rattle.sm_check.proofs.CertTaken.{at_branch}
 use Rattle.sm_check.proofs.TellsLemmas.{tells_along}
 use Rattle.sm_check.proofs.branches.take_cert.Goals as goal

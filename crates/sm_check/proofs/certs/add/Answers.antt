@@ -1,14 +1,6 @@
 -- One way, or a refusal.
-use Rattle.std.proofs.Common.{◌≡◌, List, Bool, refl, subst, Some}
-use Rattle.sm_term.specs.Tables.{trees_in, sorts_in}
-use Rattle.sm_theory.specs.Facts.{BranchFact}
-use Rattle.sm_theory.specs.Ways.{ways, adds}
-use Rattle.sm_theory.specs.Views.{line_in}
-use Rattle.sm_theory.proofs.ArithmeticKept.{arithmetic_sorted}
-use Rattle.sm_theory.proofs.TheoriesLemmas.{ways_are_sorted_from}
+use Rattle.sm_check.proofs.Imports.{◌≡◌, List, Bool, refl, subst, Some, trees_in, sorts_in, BranchFact, ways, adds, line_in, arithmetic_sorted, ways_are_sorted_from, line_sorted, First}
 use Rattle.sm_cert.specs.Ways.{GoesOn}
-use Rattle.sm_cert.proofs.CheckLemmas.{line_sorted}
-use Rattle.sm_proof.specs.declared.word.Word.TheVariants.{First}
 use Rattle.sm_check.specs.declared.fault.LineFault.TheVariants.{Wrong}
 use Rattle.sm_check.proofs.TellsLemmas.{same_word}
 use Rattle.sm_check.proofs.CertsLemmas.{Stand, next_of, one_goes, one_stops, adding_ways}

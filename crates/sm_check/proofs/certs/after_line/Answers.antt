@@ -1,6 +1,5 @@
 -- A line that closes the branch.
-use Rattle.sm_term.specs.Tables.{trees_in}
-use Rattle.sm_plan.specs.Views.{stores_in}
+use Rattle.sm_check.proofs.Imports.{trees_in, stores_in}
 use Rattle.sm_check.proofs.certs.after_line.Goals as goal
 
 pub returns-then-closes_branch-clause-tells : goal.returns-then-closes_branch-clause-tells

@@ -1,9 +1,5 @@
 -- What waits first is due, or a refusal.
-use Rattle.std.proofs.Common.{refl, sym, Ok}
-use Rattle.sm_term.specs.Tables.{trees_in, sorts_in}
-use Rattle.sm_theory.specs.Ways.{ways, adds}
-use Rattle.sm_theory.specs.Views.{line_in}
-use Rattle.sm_proof.specs.declared.word.Word.TheVariants.{First}
+use Rattle.sm_check.proofs.Imports.{refl, sym, Ok, trees_in, sorts_in, ways, adds, line_in, First}
 use Rattle.sm_check.specs.declared.fault.LineFault.TheVariants.{Wrong}
 use Rattle.sm_check.proofs.TellsLemmas.{same_word, tells_along}
 use Rattle.sm_check.proofs.CertsLemmas.{Stand, closing_ways, after_all, none_closes, none_refuses}

@@ -1,19 +1,6 @@
 -- Two ways, or a refusal.
-use Rattle.std.proofs.Common.{◌≡◌, Option, List, ◌∷◌, [], sym, subst, Some, ◌∙◌}
-use Rattle.sm_term.specs.Tables.{trees_in, sorts_in}
-use Rattle.sm_theory.specs.Facts.{BranchFact}
-use Rattle.sm_theory.specs.Ways.{ways, adds}
-use Rattle.sm_theory.specs.Views.{line_in}
-use Rattle.sm_theory.specs.declared.fact.Fact.{Fact}
-use Rattle.sm_theory.proofs.ArithmeticKept.{arithmetic_sorted}
-use Rattle.sm_theory.proofs.TheoriesLemmas.{ways_are_sorted_from}
-use Rattle.sm_cert.specs.Ways.{SplitsInto}
-use Rattle.sm_cert.proofs.CheckLemmas.{line_sorted}
+use Rattle.sm_check.proofs.Imports.{◌≡◌, Option, List, ◌∷◌, [], sym, subst, Some, ◌∙◌, trees_in, sorts_in, BranchFact, ways, adds, line_in, Fact, arithmetic_sorted, ways_are_sorted_from, SplitsInto, line_sorted, AreWaitingReady, PerCopy, SymStore, AreStoresReady}
 use Rattle.sm_check.specs.declared.pending.Waiting.TheVariants as waits
-use Rattle.sm_check.specs.Pending.{AreWaitingReady}
-use Rattle.sm_syntax.specs.declared.copies.PerCopy.{PerCopy}
-use Rattle.sm_term.specs.declared.symbolic.SymStore.{SymStore}
-use Rattle.sm_plan.specs.ReadyStates.{AreStoresReady}
 use Rattle.sm_check.proofs.PendingLemmas.{stand_long, ready_append}
 use Rattle.sm_check.proofs.CertsLemmas.{two_go}
 use Rattle.sm_check.proofs.certs.split.Goals as goal

@@ -1,9 +1,5 @@
 -- One formula more.
-use Rattle.std.proofs.Common.{List, ◌++◌, ◌+◌, take, sym, subst}
-use Rattle.sm_theory.specs.Facts.{as_facts}
-use Rattle.sm_theory.specs.Views.{AllStand}
-use Rattle.sm_theory.specs.declared.fact.Fact.{Fact}
-use Rattle.sm_plan.specs.Views.{forms_in}
+use Rattle.sm_check.proofs.Imports.{List, ◌++◌, ◌+◌, take, sym, subst, as_facts, AllStand, Fact, forms_in}
 use Rattle.sm_check.proofs.PendingLemmas.{form_added}
 use Rattle.sm_check.proofs.due.add_forms.Goals as goal
 

@@ -1,11 +1,5 @@
 -- The formulas so far stand behind the facts.
-use Rattle.std.proofs.Common.{List, ◌++◌, take}
-use Rattle.sm_syntax.specs.text.Sorts.{Sorts}
-use Rattle.sm_term.specs.Terms.{Tree}
-use Rattle.sm_theory.specs.Facts.{BranchFact, as_facts}
-use Rattle.sm_theory.specs.Views.{AllStand}
-use Rattle.sm_plan.specs.Views.{forms_in}
-use Rattle.sm_plan.specs.ReadyStates.{AreFormsReady}
+use Rattle.sm_check.proofs.Imports.{List, ◌++◌, take, Sorts, Tree, BranchFact, as_facts, AllStand, forms_in, AreFormsReady}
 use Rattle.sm_check.proofs.due.add_forms.Given as goal
 
 abbrev pub invariant-loop-f : goal.invariant-loop-f

@@ -1,13 +1,6 @@
 -- The path is cut, and grows by what is the thing's own.
-use Rattle.std.proofs.Common.{List, ◌++◌, ◌∷◌, [], ◌≤◌, length, take, sym, ap, ◌∙◌, subst}
-use Rattle.sm_theory.specs.Facts.{as_facts}
-use Rattle.sm_theory.specs.Views.{AllStand}
-use Rattle.sm_theory.specs.declared.fact.Fact.{Fact}
-use Rattle.sm_plan.specs.Views.{forms_in}
-use Rattle.sm_plan.specs.ReadyStates.{AreFormsReady}
-use Rattle.sm_plan.specs.declared.state.Formulas.{Formulas}
+use Rattle.sm_check.proofs.Imports.{List, ◌++◌, ◌∷◌, [], ◌≤◌, length, take, sym, ap, ◌∙◌, subst, as_facts, AllStand, Fact, forms_in, AreFormsReady, Formulas, WaitingStands, shared_by, IsMadeReady, Waiting}
 use Rattle.sm_check.specs.declared.pending.Due.TheVariants as due
-use Rattle.sm_check.specs.Pending.{WaitingStands, shared_by, IsMadeReady, Waiting}
 use Rattle.sm_check.proofs.PendingLemmas.{stand_cut, state_turn, branch_turn}
 use Rattle.sm_check.proofs.due.made_ready.Goals as goal
 

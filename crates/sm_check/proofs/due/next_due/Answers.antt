@@ -1,6 +1,5 @@
 -- The last thing of the stack is the first that waits.
-use Rattle.std.proofs.Common.{◌∷◌, [], subst}
-use Rattle.sm_check.specs.Pending.{AreWaitingReady}
+use Rattle.sm_check.proofs.Imports.{◌∷◌, [], subst, AreWaitingReady}
 use Rattle.sm_check.proofs.PendingLemmas.{turn_taken, ready_parts}
 use Rattle.sm_check.proofs.due.next_due.Goals as goal
 

@@ -1,5 +1,4 @@
-use Rattle.std.proofs.Common.{◌∙◌, sym, ap}
-use Rattle.sm_check.specs.Files.{verdict_of}
+use Rattle.sm_check.proofs.Imports.{◌∙◌, sym, ap, verdict_of}
 use Rattle.sm_check.proofs.EndLemmas.{done_passes, undone_is_bad, unended_is_bad}
 use Rattle.sm_check.proofs.ending.at_end.Goals as goal
 

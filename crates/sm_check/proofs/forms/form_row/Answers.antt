@@ -1,8 +1,5 @@
 -- Formulas of two parts.
-use Rattle.std.proofs.Common.{refl, ap}
-use Rattle.sm_term.specs.Tables.{trees_in, sorts_in}
-use Rattle.sm_term.specs.Assertions.{And, Or}
-use Rattle.sm_check.specs.FormRows.{row_form}
+use Rattle.sm_check.proofs.Imports.{refl, ap, trees_in, sorts_in, And, Or, row_form}
 use Rattle.sm_check.proofs.FormRowsLemmas.{row_of_two}
 use Rattle.sm_check.proofs.forms.form_row.Goals as goal
 

@@ -1,6 +1,5 @@
 -- Two rows that are there.
-use Rattle.std.proofs.Common.{sym}
-use Rattle.std.proofs.lemmas.Option.{slice_get_within}
+use Rattle.sm_check.proofs.Imports.{sym, slice_get_within}
 use Rattle.sm_check.proofs.FormRowsLemmas.{there_too, missing_too, from_there, from_without_first, from_without_second}
 use Rattle.sm_check.proofs.forms.two_rows.Goals as goal
 

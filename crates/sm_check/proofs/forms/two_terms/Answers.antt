@@ -1,7 +1,5 @@
 -- Two terms that are there.
-use Rattle.std.proofs.Common.{length, sym}
-use Rattle.sm_term.specs.Tables.{trees_in}
-use Rattle.sm_term.proofs.TermsLemmas.{part_before}
+use Rattle.sm_check.proofs.Imports.{length, sym, trees_in, part_before}
 use Rattle.sm_check.proofs.FormRowsLemmas.{about_without_first, about_without_second}
 use Rattle.sm_check.proofs.forms.two_terms.Goals as goal
 

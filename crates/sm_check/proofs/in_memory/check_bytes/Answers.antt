@@ -1,5 +1,4 @@
-use Rattle.sm_proof.specs.Verdicts.{subject_of, verdict}
-use Rattle.sm_text.specs.Tasks.{parts_of}
+use Rattle.sm_check.proofs.Imports.{subject_of, verdict, parts_of}
 use Rattle.sm_check.proofs.MemoryLemmas.{passes_by}
 use Rattle.sm_check.proofs.in_memory.check_bytes.Goals as goal
 

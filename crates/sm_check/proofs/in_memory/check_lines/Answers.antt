@@ -1,6 +1,5 @@
-use Rattle.std.proofs.Common.{◌≡◌, [], rules, sym, subst, arith}
-use Rattle.sm_check.specs.Aside.{StopsAt}
-use Rattle.sm_check.specs.Pieces.{reach, Wrong}
+use Rattle.sm_check.proofs.Imports.{◌≡◌, [], rules, sym, subst, arith, StopsAt, reach}
+use Rattle.sm_check.specs.Pieces.{Wrong}
 use Rattle.sm_check.proofs.EndedLines.{ended-few}
 use Rattle.sm_check.proofs.MemoryLemmas.{all_left, bad_line, none_left}
 use Rattle.sm_check.proofs.in_memory.check_lines.Goals as goal

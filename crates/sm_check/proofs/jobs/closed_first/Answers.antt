@@ -1,16 +1,9 @@
 -- The certificates whose jobs answer true close the first branches.
 use denote.Param.Send.{sendable}
-use Rattle.std.proofs.Common.{◌≡◌, ◌<◌, ◌≤◌, ℕ, Bool, true, List, Some, length, take, subst, arith}
+use Rattle.sm_check.proofs.Imports.{◌≡◌, ◌<◌, ◌≤◌, ℕ, Bool, true, List, Some, length, take, subst, arith, slice_index_or, trees_in, sorts_in, TermId, Tree, Opening, certificates_of, CloseFirst, WalkValue, terms_in}
 use Rattle.std.proofs.Crossing.{crosses}
-use Rattle.std.specs.List.{slice_get, slice_index_or}
+use Rattle.std.specs.List.{slice_get}
 use Rattle.sm_term.proofs.term.TermId.TheSendSync as id
-use Rattle.sm_term.specs.Tables.{trees_in, sorts_in}
-use Rattle.sm_term.specs.declared.term.TermId.{TermId}
-use Rattle.sm_term.specs.Terms.{Tree}
-use Rattle.sm_check.specs.declared.openings.Opening.{Opening}
-use Rattle.sm_check.specs.Aside.{certificates_of}
-use Rattle.sm_check.specs.Closing.{CloseFirst}
-use Rattle.sm_check.specs.Walks.{WalkValue, terms_in}
 use Rattle.sm_check.proofs.JobsLemmas.{Answered, each_before, answered_close}
 use Rattle.sm_check.proofs.SharedLemmas.{table_sync, branch_sync, opening_sync, raw_sync}
 use Rattle.sm_check.proofs.jobs.closed_first.Goals as goal

@@ -1,6 +1,5 @@
 -- Those so far are true.
-use Rattle.std.proofs.Common.{◌≡◌, ◌<◌, ℕ, Bool, true}
-use Rattle.std.specs.List.{slice_index_or}
+use Rattle.sm_check.proofs.Imports.{◌≡◌, ◌<◌, ℕ, Bool, true, slice_index_or}
 use Rattle.sm_check.proofs.jobs.leading.Given as goal
 
 abbrev pub invariant-loop-i : goal.invariant-loop-i

@@ -1,12 +1,7 @@
 -- Formulas made of rows, row by row.
-use Rattle.std.proofs.Common.{◌<◌, length, refl, sym, subst, arith}
+use Rattle.sm_check.proofs.Imports.{◌<◌, length, refl, sym, subst, arith, numbered, assertion_in, tree_sort, tree_at, IsFormReady, NamesEarlier}
 use Rattle.sm_term.specs.Assertions as plain
-use Rattle.sm_term.specs.Formulas.{numbered, assertion_in}
-use Rattle.sm_term.specs.Sorted.{tree_sort}
-use Rattle.sm_term.specs.Tables.{tree_at}
-use Rattle.sm_plan.specs.ReadyStates.{IsFormReady}
 use Rattle.sm_proof.specs.declared.line.FormLine.TheVariants as line
-use Rattle.sm_check.specs.Kept.{NamesEarlier}
 use Rattle.sm_check.proofs.KeptLemmas.{row_made, both_made, made_ready, same_ready, numbers_ready}
 use Rattle.sm_check.proofs.kept.+formula_of.Goals as goal
 

@@ -1,6 +1,5 @@
 -- A formula over its limits.
-use Rattle.std.proofs.Common.{ℕ, Option, sym, subst, ◌∙◌}
-use Rattle.sm_check.specs.Kept.{IsKeptForm}
+use Rattle.sm_check.proofs.Imports.{ℕ, Option, sym, subst, ◌∙◌, IsKeptForm}
 use Rattle.sm_check.proofs.KeptLemmas.{over_limits, opens_nothing}
 use Rattle.sm_check.proofs.kept.kept_formula.Goals as goal
 

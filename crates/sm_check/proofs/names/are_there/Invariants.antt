@@ -1,6 +1,5 @@
 -- The numbers so far are there.
-use Rattle.std.proofs.Common.{◌≡◌, drop}
-use Rattle.sm_proof.specs.Named.{are_there}
+use Rattle.sm_check.proofs.Imports.{◌≡◌, drop, are_there}
 use Rattle.sm_check.proofs.names.are_there.Given as goal
 
 abbrev pub invariant-loop-n : goal.invariant-loop-n

@@ -1,7 +1,5 @@
 -- The line has the trees of its numbers; what isn't there leaves none.
-use Rattle.std.proofs.Common.{◌≡◌, None, length, refl, sym, ◌∙◌}
-use Rattle.sm_term.specs.Tables.{trees_in}
-use Rattle.sm_proof.specs.Lines.{numbered_line}
+use Rattle.sm_check.proofs.Imports.{◌≡◌, None, length, refl, sym, ◌∙◌, trees_in, numbered_line}
 use Rattle.sm_check.proofs.NamesLemmas.{line_made, line_within, line_without_term, line_without_fact}
 use Rattle.sm_check.proofs.names.named_line.Goals as goal
 use Rattle.sm_check.proofs.names.named_line.Goals.{else-has_terms-via-then-has_terms+else-has_facts, else-has_terms-via-else-has_terms}

@@ -1,6 +1,5 @@
 -- Not too many branching nodes.
-use Rattle.std.proofs.Common.{sym, ◌∙◌, inl, inr}
-use Rattle.sm_check.specs.Kept.{node_with}
+use Rattle.sm_check.proofs.Imports.{sym, ◌∙◌, inl, inr, node_with}
 use Rattle.sm_check.proofs.NodesLemmas.{above_told}
 use Rattle.sm_check.proofs.nodes.above_it.Goals as goal
 use Rattle.sm_check.proofs.nodes.above_it.Goals.{then-is_branching, else-is_branching}

@@ -1,14 +1,7 @@
 -- What a line opens is put before what waits, and the first of that is due.
-use Rattle.std.proofs.Common.{Ok, List, sym, subst, ◌∙◌}
-use Rattle.std.proofs.lemmas.Result.{err_from_is_err_and}
-use Rattle.sm_term.specs.Tables.{TableValue, trees_in, sorts_in}
-use Rattle.sm_proof.specs.Named.{found_or, named_node}
-use Rattle.sm_proof.specs.declared.word.Word.TheVariants.{BadNumber}
-use Rattle.sm_proof.specs.Passing.{Progress, after_node}
-use Rattle.sm_check.specs.FormRows.{RowsStand, FormRow}
-use Rattle.sm_check.specs.NodesTaken.{OpensAs, WalksAt}
-use Rattle.sm_check.specs.Tells.{Tells}
-use Rattle.sm_check.specs.Walks.{WalkValue, Walks}
+use Rattle.sm_check.proofs.Imports.{Ok, List, sym, subst, ◌∙◌, err_from_is_err_and, TableValue, trees_in, sorts_in, found_or, named_node, BadNumber, Progress, after_node, RowsStand, WalksAt, Tells, WalkValue, Walks}
+use Rattle.sm_check.specs.FormRows.{FormRow}
+use Rattle.sm_check.specs.NodesTaken.{OpensAs}
 use Rattle.sm_check.proofs.NodeTaken.{node_taken, node_refused}
 use Rattle.sm_check.proofs.WalkWidens.{walk_ready, ready_later}
 use Rattle.sm_check.proofs.nodes.node_at.Goals as goal

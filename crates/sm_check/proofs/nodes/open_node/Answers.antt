@@ -1,17 +1,7 @@
 -- What a line opens, or why it doesn't.
-use Rattle.std.proofs.Common.{◌≡◌, Option, Some, None, Ok, refl, sym, ap, ◌∙◌, subst}
+use Rattle.sm_check.proofs.Imports.{◌≡◌, Option, Some, None, Ok, refl, sym, ap, ◌∙◌, subst, Formula, Assertion, trees_in, sorts_in, opened_by, IsFormReady, state_in, opened_in, node_head, Deep, First, keep_of, node_with, KeepsOrFails, Tells}
 use Rattle.std.specs.Prelude.{IfSome, option_map}
-use Rattle.sm_term.specs.declared.formula.Formula.{Formula}
-use Rattle.sm_term.specs.Assertions.{Assertion}
-use Rattle.sm_term.specs.Tables.{trees_in, sorts_in}
-use Rattle.sm_plan.specs.Nodes.{opened_by}
-use Rattle.sm_plan.specs.ReadyStates.{IsFormReady}
-use Rattle.sm_plan.specs.Views.{state_in, opened_in}
-use Rattle.sm_proof.specs.Named.{node_head}
-use Rattle.sm_proof.specs.declared.word.Word.TheVariants.{Deep, First}
-use Rattle.sm_check.specs.Kept.{keep_of, node_with, KeepsOrFails}
 use Rattle.sm_check.specs.NodesTaken.{OpensAs}
-use Rattle.sm_check.specs.Tells.{Tells}
 use Rattle.sm_check.proofs.NodesLemmas.{kept_there, named_kept, deep_told, unfit_told, opened_told, tells_word, tells_fault}
 use Rattle.sm_check.proofs.nodes.open_node.Goals as goal
 

@@ -1,11 +1,6 @@
 -- A node where a state is due.
-use Rattle.std.proofs.Common.{◌≡◌, Some, List, sym, subst, ap}
-use Rattle.sm_term.specs.Tables.{sorts_in}
-use Rattle.sm_proof.specs.Lines.{Node}
-use Rattle.sm_proof.specs.Passing.{Pending, Progress, taken_at}
+use Rattle.sm_check.proofs.Imports.{◌≡◌, Some, List, sym, subst, ap, sorts_in, Node, Pending, Progress, taken_at, Tells, WalkValue, Walks}
 use Rattle.sm_check.specs.declared.pending.Due.TheVariants as due
-use Rattle.sm_check.specs.Tells.{Tells}
-use Rattle.sm_check.specs.Walks.{WalkValue, Walks}
 use Rattle.sm_check.proofs.NodeTaken.{at_state}
 use Rattle.sm_check.proofs.nodes.take_node.Goals as goal
 

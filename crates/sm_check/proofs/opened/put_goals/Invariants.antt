@@ -1,11 +1,5 @@
 -- The branches of the goals that are done wait, the first of them the last.
-use Rattle.std.proofs.Common.{◌≡◌, ◌++◌, List, length, reverse}
-use Rattle.sm_syntax.specs.text.Sorts.{Sorts}
-use Rattle.sm_term.specs.declared.formula.Formula.{Formula}
-use Rattle.sm_term.specs.Terms.{Tree}
-use Rattle.sm_plan.specs.ReadyStates.{AreStoresReady}
-use Rattle.sm_check.specs.Opened.{AreDenied}
-use Rattle.sm_check.specs.Pending.{AreWaitingReady, Waiting}
+use Rattle.sm_check.proofs.Imports.{◌≡◌, ◌++◌, List, length, reverse, Sorts, Formula, Tree, AreStoresReady, AreDenied, AreWaitingReady, Waiting}
 use Rattle.sm_check.proofs.opened.put_goals.Given as goal
 
 abbrev pub invariant-loop-goal : goal.invariant-loop-goal

@@ -1,6 +1,5 @@
 -- Goals stand before states.
-use Rattle.std.proofs.Common.{sym, subst}
-use Rattle.sm_plan.specs.ReadyStates.{AreStoresReady}
+use Rattle.sm_check.proofs.Imports.{sym, subst, AreStoresReady}
 use Rattle.sm_check.proofs.opened.put_opened.Goals as goal
 
 pub returns-in_err-put_states-clause-ready : goal.returns-in_err-put_states-clause-ready

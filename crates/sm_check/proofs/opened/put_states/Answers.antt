@@ -1,8 +1,5 @@
 -- One more state waits.
-use Rattle.std.proofs.Common.{reverse, sym, subst}
-use Rattle.sm_plan.specs.ReadyStates.{AreSuccessorsReady}
-use Rattle.sm_check.specs.Opened.{waits_at}
-use Rattle.sm_check.specs.Pending.{AreWaitingReady}
+use Rattle.sm_check.proofs.Imports.{reverse, sym, subst, AreSuccessorsReady, waits_at, AreWaitingReady}
 use Rattle.sm_check.proofs.OpenedLemmas.{put_state, successors_apart, ready_put}
 use Rattle.sm_check.proofs.opened.put_states.Goals as goal
 

@@ -1,11 +1,5 @@
 -- The states that are done wait, the first of them the last.
-use Rattle.std.proofs.Common.{◌≡◌, ◌++◌, List, length, map, reverse}
-use Rattle.sm_syntax.specs.text.Sorts.{Sorts}
-use Rattle.sm_term.specs.Terms.{Tree}
-use Rattle.sm_plan.specs.ReadyStates.{AreSuccessorsReady}
-use Rattle.sm_plan.specs.declared.opening.Successor.{Successor}
-use Rattle.sm_check.specs.Opened.{waits_at}
-use Rattle.sm_check.specs.Pending.{AreWaitingReady}
+use Rattle.sm_check.proofs.Imports.{◌≡◌, ◌++◌, List, length, map, reverse, Sorts, Tree, AreSuccessorsReady, Successor, waits_at, AreWaitingReady}
 use Rattle.sm_check.proofs.opened.put_states.Given as goal
 
 abbrev pub invariant-loop-next : goal.invariant-loop-next

@@ -1,9 +1,5 @@
 -- One fact more.
-use Rattle.std.proofs.Common.{◌++◌, ◌+◌, List, drop, get_or, sym, subst}
-use Rattle.sm_theory.specs.Facts.{BranchFact}
-use Rattle.sm_theory.specs.Views.{FactStands, AllStand}
-use Rattle.sm_theory.specs.declared.fact.Fact.{Fact}
-use Rattle.sm_cert.proofs.WaysLemmas.{copied_more}
+use Rattle.sm_check.proofs.Imports.{◌++◌, ◌+◌, List, drop, get_or, sym, subst, BranchFact, FactStands, AllStand, Fact, copied_more}
 use Rattle.sm_check.proofs.openings.copy_facts.Goals as goal
 
 pub loop-fact-preserved : goal.loop-fact-preserved

@@ -1,9 +1,5 @@
 -- The copies so far and the facts after them stand for what the facts do.
-use Rattle.std.proofs.Common.{List, ◌++◌, drop}
-use Rattle.sm_syntax.specs.text.Sorts.{Sorts}
-use Rattle.sm_term.specs.Terms.{Tree}
-use Rattle.sm_theory.specs.Facts.{BranchFact}
-use Rattle.sm_theory.specs.Views.{AllStand}
+use Rattle.sm_check.proofs.Imports.{List, ◌++◌, drop, Sorts, Tree, BranchFact, AllStand}
 use Rattle.sm_check.proofs.openings.copy_facts.Given as goal
 
 abbrev pub invariant-loop-fact : goal.invariant-loop-fact

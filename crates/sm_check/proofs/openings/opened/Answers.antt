@@ -1,8 +1,6 @@
 -- The first facts of the path, and the denied goal behind them.
-use Rattle.std.proofs.Common.{◌≡◌, ◌++◌, ℕ, List, Vec, Global, take, min, length, ap, sym, ◌∙◌, subst, arith}
-use Rattle.sm_theory.specs.Facts.{BranchFact}
-use Rattle.sm_theory.specs.Views.{AllStand}
-use Rattle.sm_theory.specs.declared.fact.Fact.{Fact}
+use Rattle.sm_check.proofs.Imports.{◌≡◌, ◌++◌, ℕ, List, Vec, take, min, length, ap, sym, ◌∙◌, subst, arith, BranchFact, AllStand, Fact}
+use Rattle.std.proofs.Common.{Global}
 use Rattle.sm_check.proofs.JobsLemmas.{cut_within, denied_none, denied_some}
 use Rattle.sm_check.proofs.openings.opened.Goals as goal
 use Rattle.sm_check.proofs.openings.opened.Goals.{in-Some+in_ok-copy_fact+in_ok-push, in_default}

@@ -1,11 +1,7 @@
 -- One opening more.
-use Rattle.std.proofs.Common.{◌≡◌, ◌∷◌, [], ◌++◌, List, Option, None, IfSome, length, refl, ap, ◌∙◌, subst, arith}
-use Rattle.sm_term.specs.Tables.{trees_in, sorts_in}
-use Rattle.sm_proof.specs.Passing.{Pending}
-use Rattle.sm_check.specs.declared.openings.Opening.{Opening}
+use Rattle.sm_check.proofs.Imports.{◌≡◌, ◌∷◌, [], ◌++◌, List, Option, None, length, refl, ap, ◌∙◌, subst, arith, trees_in, sorts_in, Pending, Opening, WaitingStands, WalkValue}
+use Rattle.std.proofs.Common.{IfSome}
 use Rattle.sm_check.specs.Closing.{OpensAs}
-use Rattle.sm_check.specs.Pending.{WaitingStands}
-use Rattle.sm_check.specs.Walks.{WalkValue}
 use Rattle.sm_check.proofs.JobsLemmas.{opens_first, opens_begin, opens_more}
 use Rattle.sm_check.proofs.openings.openings.Goals as goal
 

@@ -1,8 +1,5 @@
 -- The openings so far are of what is pending first.
-use Rattle.std.proofs.Common.{◌≤◌, length, take, reverse}
-use Rattle.sm_term.specs.Tables.{trees_in, sorts_in}
-use Rattle.sm_proof.specs.Passing.{Progress}
-use Rattle.sm_check.specs.Walks.{Walks}
+use Rattle.sm_check.proofs.Imports.{◌≤◌, length, take, reverse, trees_in, sorts_in, Progress, Walks}
 use Rattle.sm_check.proofs.JobsLemmas.{OpensUpTo}
 use Rattle.sm_check.proofs.openings.openings.Given as goal
 

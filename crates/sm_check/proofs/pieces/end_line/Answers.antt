@@ -1,9 +1,5 @@
 -- The line that ends is read where it lies, or where its bytes are kept.
-use Rattle.std.proofs.Common.{◌∙◌, ◌++◌, ◌∷◌, [], ℕ, List, ap, subst, sym}
-use Rattle.sm_proof.specs.Verdicts.{lines_in}
-use Rattle.sm_check.specs.Aside.{lines_aside}
-use Rattle.sm_check.specs.LineEnds.{ended_in}
-use Rattle.sm_check.specs.Pieces.{IsKept, StopsIn, reach}
+use Rattle.sm_check.proofs.Imports.{◌∙◌, ◌++◌, ◌∷◌, [], ℕ, List, ap, subst, sym, lines_in, lines_aside, ended_in, IsKept, StopsIn, reach}
 use Rattle.sm_check.proofs.AsideLemmas.{line_not_read, line_read}
 use Rattle.sm_check.proofs.PieceLemmas.{err_is, keeps_all, keeps_none}
 use Rattle.sm_check.proofs.ReadLemmas.{line_not_read_by, line_read_by, long_line_not_read}

@@ -1,10 +1,5 @@
 -- One line more, and at the end the bytes that no end follows.
-use Rattle.std.proofs.Common.{◌≡◌, ◌<◌, ◌≤◌, ◌+◌, ◌-◌, ◌++◌, ◌∷◌, [], ℕ, List, refl, sym, ap, subst, take, drop, length, length-take, length-drop, append-nil, ◌∙◌, arith}
-use Rattle.std.proofs.lemmas.List.{length-append, take_rest}
-use Rattle.sm_proof.specs.Verdicts.{FileLines}
-use Rattle.sm_check.specs.Aside.{AreRead, lines_aside}
-use Rattle.sm_check.specs.LineEnds.{HasNoEnd, ended_in}
-use Rattle.sm_check.specs.Pieces.{StopsIn}
+use Rattle.sm_check.proofs.Imports.{◌≡◌, ◌<◌, ◌≤◌, ◌+◌, ◌-◌, ◌++◌, ◌∷◌, [], ℕ, List, refl, sym, ap, subst, take, drop, length, length-take, length-drop, append-nil, ◌∙◌, arith, length-append, take_rest, FileLines, AreRead, lines_aside, HasNoEnd, ended_in, StopsIn}
 use Rattle.sm_check.proofs.EndedLines.{ended-few}
 use Rattle.sm_check.proofs.LineLemmas.{lines_in-end}
 use Rattle.sm_check.proofs.PieceLemmas.{err_is, to_next_end, to_piece_end, to_run_end, stops_in_piece}

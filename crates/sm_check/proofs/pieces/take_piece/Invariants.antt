@@ -1,7 +1,5 @@
 -- The lines that end so far are read.
-use Rattle.std.proofs.Common.{◌≤◌, ◌+◌, ◌-◌, ◌++◌, ℕ, List, length, take}
-use Rattle.sm_proof.specs.Verdicts.{Subject}
-use Rattle.sm_check.specs.Aside.{AreRead, lines_aside}
+use Rattle.sm_check.proofs.Imports.{◌≤◌, ◌+◌, ◌-◌, ◌++◌, ℕ, List, length, take, Subject, AreRead, lines_aside}
 use Rattle.sm_check.proofs.pieces.take_piece.Given as goal
 
 abbrev pub invariant-loop-end : goal.invariant-loop-end

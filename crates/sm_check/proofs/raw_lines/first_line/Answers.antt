@@ -1,7 +1,5 @@
 -- The first line ends at the first line end.
-use Rattle.std.proofs.Common.{◌+◌, ◌∷◌, ℕ, List, take, length, length-drop, refl, sym, ap, ◌∙◌, arith}
-use Rattle.std.proofs.lemmas.List.{take_rest}
-use Rattle.sm_check.specs.LineEnds.{ended_in}
+use Rattle.sm_check.proofs.Imports.{◌+◌, ◌∷◌, ℕ, List, take, length, length-drop, refl, sym, ap, ◌∙◌, arith, take_rest, ended_in}
 use Rattle.sm_check.proofs.EndedLines.{ended-first, ended-none}
 use Rattle.sm_check.proofs.raw_lines.first_line.Goals as goal
 

@@ -1,8 +1,5 @@
 -- One line more.
-use Rattle.std.proofs.Common.{◌<◌, ◌-◌, ◌∷◌, [], ℕ, take, drop, length, length-take, length-drop, ap, arith}
-use Rattle.std.proofs.lemmas.List.{length-append}
-use Rattle.sm_proof.specs.Verdicts.{FileLines}
-use Rattle.sm_check.specs.LineEnds.{ended_in}
+use Rattle.sm_check.proofs.Imports.{◌<◌, ◌-◌, ◌∷◌, [], ℕ, take, drop, length, length-take, length-drop, ap, arith, length-append, FileLines, ended_in}
 use Rattle.sm_check.proofs.EndedLines.{run_more}
 use Rattle.sm_check.proofs.runs.run_of.Goals as goal
 

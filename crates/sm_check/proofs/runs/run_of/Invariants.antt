@@ -1,7 +1,5 @@
 -- So many bytes are ended lines, so many of them.
-use Rattle.std.proofs.Common.{◌≡◌, ◌≤◌, ◌-◌, [], length, take}
-use Rattle.sm_proof.specs.Verdicts.{lines_in}
-use Rattle.sm_check.specs.LineEnds.{ended_in}
+use Rattle.sm_check.proofs.Imports.{◌≡◌, ◌≤◌, ◌-◌, [], length, take, lines_in, ended_in}
 use Rattle.sm_check.proofs.runs.run_of.Given as goal
 
 abbrev pub invariant-loop-count : goal.invariant-loop-count

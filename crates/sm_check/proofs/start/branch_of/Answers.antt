@@ -1,7 +1,5 @@
 -- The formulas are put on an empty path.
-use Rattle.std.proofs.Common.{List, [], sym, subst}
-use Rattle.sm_theory.specs.Views.{AllStand}
-use Rattle.sm_theory.specs.declared.fact.Fact.{Fact}
+use Rattle.sm_check.proofs.Imports.{List, [], sym, subst, AllStand, Fact}
 use Rattle.sm_check.proofs.start.branch_of.Goals as goal
 
 pub returns : goal.returns

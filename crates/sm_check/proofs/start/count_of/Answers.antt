@@ -1,7 +1,6 @@
 -- The last name has the greatest number.
-use Rattle.std.proofs.Common.{◌≡◌, ℕ, ◌+◌, ◌-◌, length, slice_get, Some, List, sym, ap, ◌∙◌, subst}
-use Rattle.sm_syntax.specs.declared.tree.Name.{Name}
-use Rattle.sm_syntax.specs.declared.tree.Sort.{Sort}
+use Rattle.sm_check.proofs.Imports.{◌≡◌, ℕ, ◌+◌, ◌-◌, length, Some, List, sym, ap, ◌∙◌, subst, Name, Sort}
+use Rattle.std.proofs.Common.{slice_get}
 use Rattle.sm_check.proofs.StartLemmas.{counted}
 use Rattle.sm_check.proofs.start.count_of.Goals as goal
 

@@ -1,31 +1,18 @@
 -- A state waits, and its facts stand.
-use Rattle.std.proofs.Common.{◌≡◌, Option, Some, List, [], ◌∷◌, length, reverse, refl, sym, ap, ◌∙◌, subst}
+use Rattle.sm_check.proofs.Imports.{◌≡◌, Option, Some, List, [], ◌∷◌, length, reverse, refl, sym, ap, ◌∙◌, subst, Copy, Condition, Code, sort_of, sorted_outputs, task_of, Sorts, Assertion, trees_in, sorts_in, AreBefore, TermId, parts_of, as_facts, forms_in, state_in, RowsStand, AreRowsReady, AllPending, AreWaitingReady, Waiting, terms_in, assumed_same}
 use Rattle.std.proofs.Math.Path.{fun_ext}
-use Rattle.sm_syntax.specs.claim.ConflictFree.{Copy}
-use Rattle.sm_syntax.specs.claim.Syntax.{Condition, Code}
-use Rattle.sm_syntax.specs.text.Parts.{sort_of, sorted_outputs, task_of}
-use Rattle.sm_syntax.specs.text.Sorts.{Sorts}
 use Rattle.sm_syntax.specs.trees.Copies.{of_copy}
 use Rattle.sm_syntax.specs.trees.Programs.{declared_of}
 use Rattle.sm_syntax.specs.trees.Views.{code_of}
-use Rattle.sm_term.specs.Assertions.{Assertion}
-use Rattle.sm_term.specs.Tables.{trees_in, sorts_in, AreBefore}
-use Rattle.sm_term.specs.declared.term.TermId.{TermId}
-use Rattle.sm_text.specs.Tasks.{parts_of}
-use Rattle.sm_theory.specs.Facts.{as_facts}
 use Rattle.sm_plan.specs.States as plain
 use Rattle.sm_plan.specs.States.{State, start_of}
-use Rattle.sm_plan.specs.Views.{forms_in, state_in}
 use Rattle.sm_proof.specs.Passing as passing
 use Rattle.sm_check.specs.declared.pending.Due.TheVariants as due
-use Rattle.sm_check.specs.FormRows.{RowsStand, AreRowsReady, FormRow}
-use Rattle.sm_check.specs.Pending.{AllPending, AreWaitingReady, Waiting}
+use Rattle.sm_check.specs.FormRows.{FormRow}
 use Rattle.sm_check.specs.Walks as walk
-use Rattle.sm_check.specs.Walks.{terms_in}
 use Rattle.sm_check.proofs.PendingLemmas.{forms_sorted}
 use Rattle.sm_check.proofs.StartLemmas.{numbered_walk, no_rows, no_rows_ready}
 use Rattle.sm_check.proofs.start.start.Goals as goal
-use Rattle.sm_syntax.proofs.Assumed.{assumed_same}
 
 pub invariant_of-result : goal.invariant_of-result
 invariant_of-result c =

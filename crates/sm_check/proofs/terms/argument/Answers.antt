@@ -1,16 +1,8 @@
 -- The term is one that a line made.
-use Rattle.std.proofs.Common.{Ok, length, refl, sym}
+use Rattle.sm_check.proofs.Imports.{Ok, length, refl, sym, trees_in, tree_at, Tree, part_before, found_or, BadNumber, First, with_tree, IsTerm, terms_in}
 use Rattle.std.specs.Prelude.{slice_get}
 use Rattle.sm_term.specs.Heads.{arguments_of}
-use Rattle.sm_term.specs.Tables.{trees_in, tree_at}
-use Rattle.sm_term.specs.Terms.{Tree}
-use Rattle.sm_term.proofs.TermsLemmas.{part_before}
 use Rattle.sm_proof.specs.declared.word.Head.TheVariants as head
-use Rattle.sm_proof.specs.Named.{found_or}
-use Rattle.sm_proof.specs.declared.word.Word.TheVariants.{BadNumber, First}
-use Rattle.sm_proof.specs.Passing.{with_tree}
-use Rattle.sm_check.specs.TermsMade.{IsTerm}
-use Rattle.sm_check.specs.Walks.{terms_in}
 use Rattle.sm_check.proofs.TellsLemmas.{same_word, tells_along}
 use Rattle.sm_check.proofs.TermsLemmas.{with_there, with_missing}
 use Rattle.sm_check.proofs.terms.argument.Goals as goal

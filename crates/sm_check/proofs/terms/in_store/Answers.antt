@@ -1,9 +1,5 @@
 -- A term of the list, or the start value.
-use Rattle.std.proofs.Common.{length, Ok}
-use Rattle.sm_term.specs.Terms.{Start}
-use Rattle.sm_term.specs.SymStores.{store_in}
-use Rattle.sm_term.specs.Tables.{trees_in}
-use Rattle.sm_check.specs.TermsMade.{IsTerm}
+use Rattle.sm_check.proofs.Imports.{length, Ok, Start, store_in, trees_in, IsTerm}
 use Rattle.sm_check.proofs.TermsLemmas.{listed_term, listed_before, unlisted_term}
 use Rattle.sm_check.proofs.TellsLemmas.{tells_along}
 use Rattle.sm_check.proofs.terms.in_store.Goals as goal

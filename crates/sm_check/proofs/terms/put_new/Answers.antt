@@ -1,10 +1,5 @@
 -- The term is the one that the line tells.
-use Rattle.std.proofs.Common.{◌≡◌, Some, None, length, refl, sym, ap, ◌∙◌}
-use Rattle.sm_term.specs.Tables.{codes_in, sorts_in, trees_in}
-use Rattle.sm_proof.specs.declared.word.Word.TheVariants.{BadNumber}
-use Rattle.sm_proof.specs.Passing.{term_made}
-use Rattle.sm_check.specs.TermsMade.{IsTerm}
-use Rattle.sm_check.specs.Walks.{terms_in}
+use Rattle.sm_check.proofs.Imports.{◌≡◌, Some, None, length, refl, sym, ap, ◌∙◌, codes_in, sorts_in, trees_in, BadNumber, term_made, IsTerm, terms_in}
 use Rattle.sm_check.proofs.NewTermLemmas.{found_in, new_made, new_within}
 use Rattle.sm_check.proofs.TellsLemmas.{same_word, tells_along}
 use Rattle.sm_check.proofs.terms.put_new.Goals as goal

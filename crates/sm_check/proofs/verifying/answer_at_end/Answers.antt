@@ -1,7 +1,4 @@
-use Rattle.std.proofs.Common.{Result, ap, subst, sym}
-use Rattle.sm_proof.specs.Verdicts.{lines_in, verdict}
-use Rattle.sm_check.specs.Files.{Judged, TellsAnswer, Checked, CheckError}
-use Rattle.sm_check.specs.Pieces.{reach}
+use Rattle.sm_check.proofs.Imports.{Result, ap, subst, sym, lines_in, verdict, Judged, TellsAnswer, Checked, CheckError, reach}
 use Rattle.sm_check.proofs.AnswerLemmas.{stopped_verdict}
 use Rattle.sm_check.proofs.MemoryLemmas.{none_left}
 use Rattle.sm_check.proofs.verifying.answer_at_end.Goals as goal

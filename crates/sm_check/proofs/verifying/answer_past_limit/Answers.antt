@@ -1,5 +1,4 @@
-use Rattle.std.proofs.Common.{Result, ap, subst, sym}
-use Rattle.sm_check.specs.Files.{cut_answer, TellsAnswer, Checked, CheckError}
+use Rattle.sm_check.proofs.Imports.{Result, ap, subst, sym, cut_answer, TellsAnswer, Checked, CheckError}
 use Rattle.sm_check.proofs.AnswerLemmas.{stopped_tells}
 use Rattle.sm_check.proofs.verifying.answer_past_limit.Goals as goal
 

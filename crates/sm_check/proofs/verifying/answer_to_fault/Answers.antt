@@ -1,6 +1,4 @@
-use Rattle.std.proofs.Common.{ap, subst}
-use Rattle.sm_check.specs.Aside.{StopsAt}
-use Rattle.sm_check.specs.Files.{cut_answer}
+use Rattle.sm_check.proofs.Imports.{ap, subst, StopsAt, cut_answer}
 use Rattle.sm_check.proofs.verifying.answer_to_fault.Goals as goal
 
 pub returns-in-Err-Wrong-clause-answer : goal.returns-in-Err-Wrong-clause-answer

@@ -1,12 +1,5 @@
-use Rattle.std.proofs.Common.{◌≡◌, ◌<◌, ◌≤◌, ◌+◌, ◌∙◌, ◌++◌, ℕ, List, [], length, take, length-take, refl, sym, ap, subst, arith}
-use Rattle.sm_io.specs.Files.{ReadsFrom}
-use Rattle.sm_io.specs.Reads.{Read, ReadsOn}
+use Rattle.sm_check.proofs.Imports.{◌≡◌, ◌<◌, ◌≤◌, ◌+◌, ◌∙◌, ◌++◌, ℕ, List, [], length, take, length-take, refl, sym, ap, subst, arith, ReadsFrom, Read, ReadsOn, reads_none, reads_more, verdict, lines_aside, Judged, TellsAnswer, cut_answer, StopsIn, reach}
 use Rattle.sm_io.proofs.FileLemmas.{read_end}
-use Rattle.sm_io.proofs.ReadLemmas.{reads_none, reads_more}
-use Rattle.sm_proof.specs.Verdicts.{verdict}
-use Rattle.sm_check.specs.Aside.{lines_aside}
-use Rattle.sm_check.specs.Files.{Judged, TellsAnswer, cut_answer}
-use Rattle.sm_check.specs.Pieces.{StopsIn, reach}
 use Rattle.sm_check.proofs.AnswerLemmas.{end_told, fault_told, pass_told, past_told, stopped_told}
 use Rattle.sm_check.proofs.EndLemmas.{taken_more, given_stands}
 use Rattle.sm_check.proofs.GivenLemmas.{front_of, own_front, own_read, part_given, some_given, stopped_no_pass, taken_long, whole_given}

@@ -1,9 +1,4 @@
-use Rattle.std.proofs.Common.{◌≡◌, ◌<◌, ◌≤◌, ◌+◌, ◌-◌, ℕ, List, [], length, take}
-use Rattle.sm_io.specs.Files.{absent, WhereHeld}
-use Rattle.sm_io.specs.Reads.{ReadsOn}
-use Rattle.sm_proof.specs.Verdicts.{Subject}
-use Rattle.sm_check.specs.Aside.{AreRead, HoldsNone, lines_aside}
-use Rattle.sm_check.specs.Pieces.{AreTaken}
+use Rattle.sm_check.proofs.Imports.{◌≡◌, ◌<◌, ◌≤◌, ◌+◌, ◌-◌, ℕ, List, [], length, take, absent, WhereHeld, ReadsOn, Subject, AreRead, HoldsNone, lines_aside, AreTaken}
 use Rattle.sm_check.proofs.verifying.check_pieces.Given as goal
 
 abbrev pub invariant-loop-count : goal.invariant-loop-count

@@ -1,6 +1,4 @@
-use Rattle.std.proofs.Common.{rules}
-use Rattle.sm_proof.specs.Verdicts.{subject_of}
-use Rattle.sm_text.specs.Tasks.{parts_of}
+use Rattle.sm_check.proofs.Imports.{rules, subject_of, parts_of}
 use Rattle.sm_check.proofs.GivenLemmas.{none_given}
 use Rattle.sm_check.proofs.verifying.verify.Goals as goal
 

@@ -1,6 +1,4 @@
-use Rattle.std.proofs.Common.{inr, rules}
-use Rattle.sm_task.specs.Tasks.{parts_of}
-use Rattle.sm_files.proofs.FilesLemmas.{cut_in, left_in, task_told}
+use Rattle.sm_commands.proofs.Imports.{inr, rules, parts_of, cut_in, left_in, task_told}
 use Rattle.sm_commands.proofs.ReadingsLemmas.{none_checked, read_still}
 use Rattle.sm_commands.proofs.checking.check_in.Goals as goal
 

@@ -1,20 +1,11 @@
 -- What is decided is the answer, or its proof couldn't be written.
-use Rattle.std.proofs.Common.{◌≡◌, ◌⊎◌, inl, ℕ, Option, Some, option_map, subst}
-use Rattle.std.specs.Prelude.{Result, Ok, Err, IfOk, codes, Vec}
+use Rattle.sm_commands.proofs.Imports.{◌≡◌, ◌⊎◌, inl, ℕ, Option, Some, option_map, subst, Ok, Err, Vec, emptied, longer, Parts, parts_of, Says, Reply, Status, Accepted, WriteFault, AnswersInTime, AnswersTask, Effort}
+use Rattle.std.specs.Prelude.{Result, IfOk, codes}
 use Rattle.std.specs.declared.alloc.AllocError.{AllocError}
 use Rattle.std.specs.declared.alloc.Global.{Global}
-use Rattle.sm_io.specs.Files.{emptied, longer}
-use Rattle.sm_syntax.specs.text.Parts.{Parts}
-use Rattle.sm_task.specs.Tasks.{parts_of}
 use Rattle.sm_answers.specs.ProofFile.{IsBegun}
-use Rattle.sm_answers.specs.Status.{Says}
-use Rattle.sm_answers.specs.declared.status.Reply.{Reply}
-use Rattle.sm_answers.specs.declared.status.Status.{Status}
-use Rattle.sm_answers.specs.declared.status.Status.TheVariants.{Accepted, WriteFault}
 use Rattle.sm_commands.proofs.FilesLemmas.{written_answers}
-use Rattle.sm_commands.specs.Why.{AnswersInTime, AnswersTask}
 use Rattle.sm_replies.specs.Views.{ComesWith}
-use Rattle.sm_words.specs.declared.effort.Effort.{Effort}
 use Rattle.sm_commands.proofs.checking.check_task.Goals as goal
 
 -- with a proof comes a task that is accepted

@@ -1,13 +1,8 @@
 -- A proof comes with no conflict, and what is found is what the search leaves open.
-use Rattle.std.proofs.Common.{Option, IfSome, inl, subst}
-use Rattle.sm_eval.specs.StoredValues.{meaning}
-use Rattle.sm_task.specs.Tasks.{parts_of}
+use Rattle.sm_commands.proofs.Imports.{Option, IfSome, inl, subst, meaning, parts_of, is_spelled, shown_status, ShowsBeyond}
 use Rattle.sm_guided.specs.Beyond as guided
 use Rattle.sm_guided.specs.declared.beyond.Shown.{Shown}
-use Rattle.sm_replies.proofs.SpelledLemmas.{is_spelled}
-use Rattle.sm_replies.proofs.Statuses.{shown_status}
 use Rattle.sm_replies.proofs.WhySaid.{shown_comes, shown_rests}
-use Rattle.sm_commands.specs.Deeper.{ShowsBeyond}
 use Rattle.sm_commands.proofs.deeper.beyond.Goals as goal
 
 pub try_inputs-requires-clause-runs : goal.try_inputs-requires-clause-runs

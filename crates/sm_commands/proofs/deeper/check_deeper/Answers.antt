@@ -1,8 +1,5 @@
 -- What is found beyond the search is an answer.
-use Rattle.std.proofs.Common.{Option, IfSome, inr, subst}
-use Rattle.sm_task.specs.Tasks.{parts_of}
-use Rattle.sm_commands.specs.Deeper.{GoesBeyond}
-use Rattle.sm_replies.specs.Grounds.{RestsOn}
+use Rattle.sm_commands.proofs.Imports.{Option, IfSome, inr, subst, parts_of, GoesBeyond, RestsOn}
 use Rattle.sm_replies.specs.declared.decided.Decided.{Decided}
 use Rattle.sm_commands.proofs.deeper.check_deeper.Goals as goal
 

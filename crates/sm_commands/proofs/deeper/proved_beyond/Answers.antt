@@ -1,10 +1,8 @@
 -- The proof passes, so the task is free of conflicts.
-use Rattle.std.proofs.Common.{Option, IfSome, inr, subst}
+use Rattle.sm_commands.proofs.Imports.{Option, IfSome, inr, subst, parts_of, is_spelled}
 use Rattle.sm_goals.specs.Whole.{IsWhole}
 use Rattle.sm_goals.specs.declared.proof.Proof.{Proof}
 use Rattle.sm_proof.proofs.PassSound.{pass_free}
-use Rattle.sm_task.specs.Tasks.{parts_of}
-use Rattle.sm_replies.proofs.SpelledLemmas.{is_spelled}
 use Rattle.sm_commands.proofs.deeper.proved_beyond.Goals as goal
 
 pub search_deeper-requires-clause-sorted : goal.search_deeper-requires-clause-sorted

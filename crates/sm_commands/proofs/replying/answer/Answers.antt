@@ -1,6 +1,4 @@
-use Rattle.std.proofs.Common.{map}
-use Rattle.std.specs.String.{string_bytes}
-use Rattle.sm_words.specs.Views.{asked_in}
+use Rattle.sm_commands.proofs.Imports.{map, string_bytes, asked_in}
 use Rattle.sm_commands.proofs.Elsewhere.{writes_elsewhere}
 use Rattle.sm_commands.proofs.replying.answer.Goals as goal
 

@@ -1,16 +1,8 @@
-use Rattle.std.proofs.Common.{ℕ, List, Some, IfErr, IfOk, subst, sym}
-use Rattle.sm_answers.specs.Exit.{ExitsWith}
-use Rattle.sm_commands.specs.Readings.{AnswersByReads}
-use Rattle.sm_commands.specs.Top.{LeavesFiles, LeavesPart}
-use Rattle.sm_answers.specs.Verify.{Verifies}
-use Rattle.sm_files.specs.Views.{EndsWith}
-use Rattle.sm_words.specs.Views.{asked_in}
-use Rattle.sm_answers.specs.declared.status.Status.{Status}
+use Rattle.sm_commands.proofs.Imports.{ℕ, List, Some, IfErr, subst, sym, ExitsWith, AnswersByReads, LeavesFiles, LeavesPart, Verifies, EndsWith, asked_in, Status, counts_none, verify_to_command}
+use Rattle.std.proofs.Common.{IfOk}
 use Rattle.sm_words.specs.declared.words.Request.{Request}
 use Rattle.sm_commands.proofs.FilesLemmas.{check_leaves}
-use Rattle.sm_files.proofs.FilesLemmas.{counts_none}
 use Rattle.sm_commands.proofs.TrimmedFiles.{trim_leaves}
-use Rattle.sm_answers.proofs.Statuses.{verify_to_command}
 use Rattle.sm_commands.proofs.replying.answer_to.Goals as goal
 
 pub returns-in-Verify-clause-writes : goal.returns-in-Verify-clause-writes

@@ -1,18 +1,11 @@
-use Rattle.std.proofs.Common.{Option, map, rules, subst}
-use Rattle.std.specs.String.{string_bytes}
-use Rattle.sm_io.specs.Files.{Known}
-use Rattle.sm_files.specs.ProofFile.{LeavesProof}
-use Rattle.sm_commands.specs.Top.{AnswersRequest, Checks}
-use Rattle.sm_words.specs.Words.{Asked, asked}
+use Rattle.sm_commands.proofs.Imports.{Option, map, rules, subst, string_bytes, Known, LeavesProof, AnswersRequest, Checks, Asked, asked, leaves_cut, leaves_front, trimmed_kept}
 use Rattle.sm_commands.proofs.Answering.{accepts, sound}
 use Rattle.sm_commands.proofs.BatchSafe.{batches_safe}
 use Rattle.sm_commands.proofs.FilesLemmas.{kept_whole, left_by, same_by}
-use Rattle.sm_files.proofs.FilesLemmas.{leaves_cut, leaves_front}
 use Rattle.sm_commands.proofs.ConflictSound.{conflicts, explains_shown, shows, replays_shown}
 use Rattle.sm_commands.proofs.ReadingsLemmas.{accepts_read, batches_read, conflicts_read, proves_read, shows_read, suggests_read}
 use Rattle.sm_commands.proofs.SuggestedSafe.{suggests_safe}
 use Rattle.sm_commands.proofs.TrimmedFiles.{trim_cut_by, trim_front_by, trim_left_by, trim_same_by, trim_tells_by}
-use Rattle.sm_files.proofs.TrimmedFiles.{trimmed_kept}
 use Rattle.sm_commands.proofs.Verified.{verifies_exactly}
 use Rattle.sm_commands.proofs.top.safemerge.Goals as goal
 

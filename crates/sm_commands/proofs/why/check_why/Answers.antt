@@ -1,6 +1,5 @@
 -- The answer with its words behind it, or without them.
-use Rattle.std.proofs.Common.{◌≡◌, ◌++◌, rules}
-use Rattle.sm_task.specs.Tasks.{parts_of}
+use Rattle.sm_commands.proofs.Imports.{◌≡◌, ◌++◌, rules, parts_of}
 use Rattle.sm_commands.proofs.WhySaid.{explained, plain_answer}
 use Rattle.sm_commands.proofs.why.check_why.Goals as goal
 

@@ -1,10 +1,6 @@
 -- What is said behind an answer is what its ground gives.
-use Rattle.std.proofs.Common.{◌≡◌, ◌++◌, ℕ, List, rules, subst}
-use Rattle.sm_task.specs.Tasks.{parts_of}
-use Rattle.sm_replies.proofs.SpelledLemmas.{is_spelled}
+use Rattle.sm_commands.proofs.Imports.{◌≡◌, ◌++◌, ℕ, List, rules, subst, parts_of, is_spelled, RestsOn, IsReason}
 use Rattle.sm_commands.proofs.WhySaid.{proved_says, shown_says, stopped_says}
-use Rattle.sm_replies.specs.Grounds.{RestsOn}
-use Rattle.sm_why.specs.Reasons.{IsReason}
 use Rattle.sm_replies.specs.declared.ground.Ground.{Ground}
 use Rattle.sm_commands.proofs.why.words_behind.Goals as goal
 

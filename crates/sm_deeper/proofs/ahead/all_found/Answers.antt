@@ -1,7 +1,6 @@
 -- What the jobs read may be read by several threads at once.
 use denote.Param.Send.{sendable}
-use Rattle.std.proofs.Crossing.{crosses}
-use Rattle.sm_goals.proofs.SharedLemmas.{table_sync, due_sync}
+use Rattle.sm_deeper.proofs.Imports.{crosses, table_sync, due_sync}
 use Rattle.sm_deeper.proofs.ahead.all_found.Goals as goal
 
 pub run_calls-requires-sync-F : goal.run_calls-requires-sync-F

@@ -1,6 +1,5 @@
 -- The table has no fewer terms, and the node is one over it.
-use Rattle.sm_term.specs.TableLaws.{ExtendsTable}
-use Rattle.sm_goals.specs.Nodes.{IsNodeOf}
+use Rattle.sm_deeper.proofs.Imports.{ExtendsTable, IsNodeOf}
 use Rattle.sm_deeper.proofs.ahead.ends_at.Given as goal
 
 abbrev pub invariant-loop-at : goal.invariant-loop-at

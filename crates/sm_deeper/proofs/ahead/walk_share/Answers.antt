@@ -1,6 +1,5 @@
 -- What the node asks is ready.
-use Rattle.sm_term.specs.Tables.{trees_in, sorts_in}
-use Rattle.sm_goals.proofs.NodesLemmas.{facts_at}
+use Rattle.sm_deeper.proofs.Imports.{trees_in, sorts_in, facts_at}
 use Rattle.sm_deeper.proofs.ahead.walk_share.Goals as goal
 
 pub ends_of-requires-clause-facts : goal.ends_of-requires-clause-facts

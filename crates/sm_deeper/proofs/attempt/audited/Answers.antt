@@ -1,9 +1,7 @@
 -- What is tested is what a proof must have.
-use Rattle.std.proofs.Common.{List, length, map, subst, ◌∙◌}
-use Rattle.sm_term.specs.Tables.{trees_in, sorts_in}
+use Rattle.sm_deeper.proofs.Imports.{List, length, map, subst, ◌∙◌, trees_in, sorts_in, plan_in}
 use Rattle.sm_cert.specs.Views.{certificate_in}
 use Rattle.sm_cert.specs.declared.tree.CertTree.{CertTree}
-use Rattle.sm_expand.specs.Views.{plan_in}
 use Rattle.sm_text.specs.Tasks.{parts_of}
 use Rattle.sm_write.specs.TreesWithin.{AreTreesWithin}
 use Rattle.sm_write.specs.Writable.{IsWritable}

@@ -1,8 +1,6 @@
 -- The obligations are ready, and the table is of the declarations to the end.
-use Rattle.std.proofs.Common.{Option, IfSome, sym, subst, ◌∙◌}
-use Rattle.sm_term.specs.Tables.{trees_in, sorts_in}
-use Rattle.sm_expand.specs.Views.{AreDuesReady}
-use Rattle.sm_deeper.specs.declared.rounds.Asked.{Asked}
+use Rattle.sm_deeper.proofs.Imports.{Option, sym, subst, ◌∙◌, trees_in, sorts_in, AreDuesReady, Asked}
+use Rattle.std.proofs.Common.{IfSome}
 use Rattle.sm_deeper.proofs.attempt.tried_by.Goals as goal
 
 pub end_of-requires-after_bounds : goal.end_of-requires-after_bounds

@@ -1,13 +1,9 @@
 -- Ready formulas are what the walk asks for.
-use Rattle.std.proofs.Common.{List, length, sym, subst}
+use Rattle.sm_deeper.proofs.Imports.{List, length, sym, subst, Formula, trees_in, sorts_in, forms_within, forms_sorted, node_over}
 use Rattle.std.specs.Prelude.{IfSome}
-use Rattle.sm_term.specs.declared.formula.Formula.{Formula}
 use Rattle.sm_term.specs.Sorted.{AreFormsSorted}
-use Rattle.sm_term.specs.Tables.{trees_in, sorts_in}
 use Rattle.sm_list.specs.Parts.{all_numbered, assertions_in, AreFormulasWithin}
 use Rattle.sm_solve.specs.Sharing.{IsFactBase}
-use Rattle.sm_goals.proofs.FormsLemmas.{forms_within, forms_sorted}
-use Rattle.sm_goals.proofs.NodesLemmas.{node_over}
 use Rattle.sm_deeper.proofs.closing.walked.Goals as goal
 
 pub solve_at-requires-clause-facts : goal.solve_at-requires-clause-facts

@@ -1,11 +1,6 @@
 -- What each job tells.
 use denote.Param.Send.{sendable}
-use Rattle.std.proofs.Common.{rules}
-use Rattle.std.proofs.Crossing.{crosses}
-use Rattle.sm_term.specs.Tables.{trees_in, sorts_in}
-use Rattle.sm_term.specs.Tails.{AreRowsSound}
-use Rattle.sm_goals.proofs.SharedLemmas.{table_sync, due_sync}
-use Rattle.sm_deeper.specs.declared.end_jobs.JobEnd.{JobEnd}
+use Rattle.sm_deeper.proofs.Imports.{rules, crosses, trees_in, sorts_in, AreRowsSound, table_sync, due_sync, JobEnd}
 use Rattle.sm_deeper.proofs.Crossing.{job_end_send}
 use Rattle.sm_deeper.proofs.RowsLemmas.{all_hold}
 use Rattle.sm_deeper.proofs.end_jobs.all_ends.Goals as goal

@@ -1,8 +1,5 @@
 -- The rows of each job are behind all terms of the table.
-use Rattle.std.proofs.Common.{ℕ, ◌<◌, List, length, get_or, sym, subst, arith}
-use Rattle.sm_term.specs.Tables.{trees_in, sorts_in}
-use Rattle.sm_term.specs.Tails.{AreRowsSound}
-use Rattle.sm_deeper.specs.declared.end_jobs.JobEnd.{JobEnd}
+use Rattle.sm_deeper.proofs.Imports.{ℕ, ◌<◌, List, length, get_or, sym, subst, arith, trees_in, sorts_in, AreRowsSound, JobEnd}
 use Rattle.sm_deeper.proofs.RowsLemmas.{all_first}
 use Rattle.sm_deeper.proofs.end_jobs.end_ahead.Goals as goal
 

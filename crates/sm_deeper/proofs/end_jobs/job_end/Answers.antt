@@ -1,6 +1,5 @@
 -- The copy has the same terms, and then its rows.
-use Rattle.sm_goals.proofs.TablesLemmas.{first_within}
-use Rattle.sm_goals.proofs.NodesLemmas.{ready_over}
+use Rattle.sm_deeper.proofs.Imports.{first_within, ready_over}
 use Rattle.sm_deeper.proofs.RowsLemmas.{copy_sound}
 use Rattle.sm_deeper.proofs.end_jobs.job_end.Goals as goal
 

@@ -1,6 +1,5 @@
 -- What the node asks is ready.
-use Rattle.sm_term.specs.Tables.{trees_in, sorts_in}
-use Rattle.sm_goals.proofs.NodesLemmas.{facts_at}
+use Rattle.sm_deeper.proofs.Imports.{trees_in, sorts_in, facts_at}
 use Rattle.sm_deeper.proofs.end_jobs.put_end.Goals as goal
 
 pub put_trees-requires-clause-facts : goal.put_trees-requires-clause-facts

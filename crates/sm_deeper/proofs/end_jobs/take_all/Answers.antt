@@ -1,6 +1,5 @@
 -- The rows of one job more.
-use Rattle.sm_plan.proofs.TablesWiden.{widens_twice}
-use Rattle.sm_goals.proofs.TablesLemmas.{front_within}
+use Rattle.sm_deeper.proofs.Imports.{widens_twice, front_within}
 use Rattle.sm_deeper.proofs.RowsLemmas.{job_sound}
 use Rattle.sm_deeper.proofs.end_jobs.take_all.Goals as goal
 

@@ -1,6 +1,4 @@
-use Rattle.sm_term.specs.Tables.{trees_in, sorts_in}
-use Rattle.sm_plan.proofs.TablesWiden.{forms_ready}
-use Rattle.sm_goals.proofs.NodesLemmas.{facts_at}
+use Rattle.sm_deeper.proofs.Imports.{trees_in, sorts_in, forms_ready, facts_at}
 use Rattle.sm_deeper.proofs.ends.open_ends.Goals as goal
 
 pub put_open-requires-clause-facts : goal.put_open-requires-clause-facts

@@ -1,6 +1,5 @@
 -- What the node asks is ready.
-use Rattle.sm_term.specs.Tables.{trees_in, sorts_in}
-use Rattle.sm_goals.proofs.NodesLemmas.{facts_at}
+use Rattle.sm_deeper.proofs.Imports.{trees_in, sorts_in, facts_at}
 use Rattle.sm_deeper.proofs.judging.judge.Goals as goal
 
 pub judged-requires-clause-facts : goal.judged-requires-clause-facts

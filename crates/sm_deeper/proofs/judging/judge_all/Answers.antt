@@ -1,6 +1,5 @@
 -- What is asked stays ready while the table widens.
-use Rattle.sm_plan.proofs.TablesWiden.{widens_twice}
-use Rattle.sm_expand.proofs.PlansWiden.{dues_ready}
+use Rattle.sm_deeper.proofs.Imports.{widens_twice, dues_ready}
 use Rattle.sm_deeper.proofs.judging.judge_all.Goals as goal
 
 pub judge-requires : goal.judge-requires

@@ -1,9 +1,6 @@
 -- The goal at a place is ready.
-use Rattle.std.proofs.Common.{Some, List, slice_get, sym, ap, ◌∙◌}
+use Rattle.sm_deeper.proofs.Imports.{Some, List, slice_get, sym, ap, ◌∙◌, Formula, trees_in, sorts_in, ready_found}
 use Rattle.std.proofs.lemmas.Option.{slice_get-get_or}
-use Rattle.sm_term.specs.declared.formula.Formula.{Formula}
-use Rattle.sm_term.specs.Tables.{trees_in, sorts_in}
-use Rattle.sm_goals.proofs.FormsLemmas.{ready_found}
 use Rattle.sm_deeper.proofs.judging.walk_at.Goals as goal
 
 pub walked-requires-clause-goal : goal.walked-requires-clause-goal

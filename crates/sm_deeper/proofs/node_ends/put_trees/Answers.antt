@@ -1,6 +1,5 @@
 -- Over the table before the node was made.
-use Rattle.sm_plan.proofs.TablesWiden.{forms_ready}
-use Rattle.sm_goals.proofs.FormsLemmas.{goals_ready}
+use Rattle.sm_deeper.proofs.Imports.{forms_ready, goals_ready}
 use Rattle.sm_deeper.proofs.Widening.{widens_then}
 use Rattle.sm_deeper.proofs.node_ends.put_trees.Goals as goal
 

@@ -1,5 +1,4 @@
-use Rattle.sm_term.specs.Tables.{trees_in, sorts_in}
-use Rattle.sm_plan.proofs.TablesWiden.{forms_ready, form_ready}
+use Rattle.sm_deeper.proofs.Imports.{trees_in, sorts_in, forms_ready, form_ready}
 use Rattle.sm_deeper.proofs.node_ends.put_trees_at.Goals as goal
 use Rattle.sm_plan.proofs.FillingForms.{ready_at}
 

@@ -1,9 +1,6 @@
 -- What is asked stays ready while it is judged.
-use Rattle.std.proofs.Common.{Option, IfSome, sym, subst, ◌∙◌}
-use Rattle.sm_term.specs.Tables.{trees_in, sorts_in}
-use Rattle.sm_expand.specs.Views.{AreDuesReady}
-use Rattle.sm_expand.proofs.PlansWiden.{dues_ready}
-use Rattle.sm_deeper.specs.declared.rounds.Asked.{Asked}
+use Rattle.sm_deeper.proofs.Imports.{Option, sym, subst, ◌∙◌, trees_in, sorts_in, AreDuesReady, dues_ready, Asked}
+use Rattle.std.proofs.Common.{IfSome}
 use Rattle.sm_deeper.proofs.rounds.settle.Goals as goal
 
 pub judged_by-requires-after_bounds : goal.judged_by-requires-after_bounds

@@ -1,10 +1,5 @@
-use Rattle.std.proofs.Common.{◌≡◌, ◌+◌, ℕ, Bool, map, drop, sym, ap, ◌∙◌, ⊎_elim}
-use Rattle.sm_syntax.specs.declared.tree.Expr.{Expr}
-use Rattle.sm_syntax.specs.Assigns.{assigns}
-use Rattle.sm_syntax.specs.claim.Syntax.{End}
-use Rattle.sm_syntax.specs.trees.Views.{sequence, statement_of, code_of}
-use Rattle.sm_syntax.specs.declared.tree.Stmt.{Stmt, Assign, Store}
-use Rattle.sm_deps.specs.Members.{members, only, either}
+use Rattle.sm_deps.proofs.Imports.{◌≡◌, ◌+◌, ℕ, Bool, map, drop, sym, ap, ◌∙◌, ⊎_elim, Expr, assigns, End, sequence, statement_of, code_of, Stmt, members, only, either}
+use Rattle.sm_syntax.specs.declared.tree.Stmt.{Assign, Store}
 use Rattle.sm_deps.proofs.MembersLemmas.{either-none, either-either, added_two, on_ok}
 use Rattle.sm_deps.proofs.AssignsLemmas.{assigns-Skip, assigns-Hole, assigns-Assign, assigns-Store, assigns-If, assigns-drop, assigns-drop-end}
 use Rattle.sm_deps.proofs.assigned.+add_block.Goals as goal

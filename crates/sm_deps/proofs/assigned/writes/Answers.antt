@@ -1,12 +1,4 @@
-use Rattle.std.proofs.Common.{◌≡◌, ℕ, Bool, List, sym, ap, subst, ◌∙◌}
-use Rattle.std.proofs.lemmas.Map.Keys.{IsStrictlyIncreasing-from_sorted}
-use Rattle.std.specs.List.Sorted.{IsStrictlyIncreasing}
-use Rattle.sm_syntax.specs.declared.program.Outputs.{Outputs}
-use Rattle.sm_syntax.specs.Assigns.{assigns}
-use Rattle.sm_syntax.specs.text.Conditions.{is_in}
-use Rattle.sm_syntax.specs.trees.Programs.{outputs_of}
-use Rattle.sm_syntax.specs.trees.Views.{code_of}
-use Rattle.sm_deps.specs.Members.{members, either}
+use Rattle.sm_deps.proofs.Imports.{◌≡◌, ℕ, Bool, List, sym, ap, subst, ◌∙◌, IsStrictlyIncreasing-from_sorted, IsStrictlyIncreasing, Outputs, assigns, is_in, outputs_of, code_of, members, either}
 use Rattle.sm_deps.proofs.MembersLemmas.{none-either, members-empty, listed-members, if_ok}
 use Rattle.sm_deps.proofs.assigned.writes.Goals as goal
 

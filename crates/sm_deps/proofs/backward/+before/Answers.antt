@@ -1,15 +1,4 @@
-use Rattle.std.proofs.Common.{◌≡◌, true, ℕ, Bool, map, drop, length, refl, sym, ap, subst, ◌∙◌, arith}
-use Rattle.std.proofs.lemmas.Bool.{OnFalse_at}
-use Rattle.std.specs.List.{each_same}
-use Rattle.sm_syntax.specs.claim.Syntax.{End}
-use Rattle.sm_syntax.specs.trees.Views.{expression_of, condition_of, sequence, statement_of, code_of}
-use Rattle.sm_syntax.specs.declared.tree.Stmt.{Stmt}
-use Rattle.sm_syntax.proofs.Statements.{statement_of-Assign, statement_of-Store}
-use Rattle.sm_deps.specs.declared.loops.Loops.{Loops}
-use Rattle.sm_deps.specs.Inputs.{needed}
-use Rattle.sm_deps.specs.Loops.{loops_in, GoesOver, KeepsSet}
-use Rattle.sm_deps.specs.Names.{mentions, tests}
-use Rattle.sm_deps.specs.Members.{members, either}
+use Rattle.sm_deps.proofs.Imports.{◌≡◌, true, ℕ, Bool, map, drop, length, refl, sym, ap, subst, ◌∙◌, arith, OnFalse_at, each_same, End, expression_of, condition_of, sequence, statement_of, code_of, Stmt, statement_of-Assign, statement_of-Store, Loops, needed, loops_in, GoesOver, KeepsSet, mentions, tests, members, either}
 use Rattle.sm_deps.proofs.LoopsExact.{over_append, over_plain, over_choice, over_loop, one_turn, last_turn}
 use Rattle.sm_deps.proofs.MembersLemmas.{on_ok}
 use Rattle.sm_deps.proofs.NeededLemmas.{without, needed-Assign, needed-Assign-other, needed-Store, needed-Store-other, sequence-before, members-remove, members-same, members-contains, turn_grows}

@@ -1,11 +1,5 @@
 -- Before a block: the statements from i on were gone over. Before turns: some rounds were made.
-use Rattle.std.proofs.Common.{◌+◌, ◌-◌, ◌*◌, ◌^◌, ◌≤◌, max, length, map, drop}
-use Rattle.sm_syntax.specs.claim.Syntax.{End}
-use Rattle.sm_syntax.specs.trees.Views.{sequence, statement_of, code_of}
-use Rattle.sm_syntax.specs.declared.tree.Stmt.{size-Stmt}
-use Rattle.sm_syntax.specs.declared.tree.Block.{size-Block}
-use Rattle.sm_deps.specs.Loops.{GoesOver}
-use Rattle.sm_deps.specs.Members.{members}
+use Rattle.sm_deps.proofs.Imports.{◌+◌, ◌-◌, ◌*◌, ◌^◌, ◌≤◌, max, length, map, drop, End, sequence, statement_of, code_of, size-Stmt, size-Block, GoesOver, members}
 use Rattle.sm_deps.proofs.LoopsExact.{Turns}
 use Rattle.sm_deps.proofs.backward.+before.Given as goal
 

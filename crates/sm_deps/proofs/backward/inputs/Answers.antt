@@ -1,9 +1,4 @@
-use Rattle.std.proofs.Common.{◌≡◌, ℕ, Bool, ap, ◌∙◌}
-use Rattle.sm_syntax.specs.declared.program.Outputs.{Outputs}
-use Rattle.sm_syntax.specs.trees.Programs.{outputs_of}
-use Rattle.sm_syntax.specs.trees.Views.{code_of}
-use Rattle.sm_deps.specs.Inputs.{needed, inputs}
-use Rattle.sm_deps.specs.Members.{members, either, only}
+use Rattle.sm_deps.proofs.Imports.{◌≡◌, ℕ, Bool, ap, ◌∙◌, Outputs, outputs_of, code_of, needed, inputs, members, either, only}
 use Rattle.sm_deps.proofs.LoopsExact.{over_all}
 use Rattle.sm_deps.proofs.NeededLemmas.{list_is_inputs}
 use Rattle.sm_deps.proofs.MembersLemmas.{none-either, members-empty, if_ok}

@@ -1,8 +1,4 @@
-use Rattle.std.proofs.Common.{◌+◌, refl, sym, ap, subst, ◌∙◌, arith}
-use Rattle.std.specs.List.{each_same}
-use Rattle.sm_deps.specs.declared.loops.Loops.{Loops}
-use Rattle.sm_deps.specs.Members.{members, either}
-use Rattle.sm_deps.specs.Loops.{Resumes}
+use Rattle.sm_deps.proofs.Imports.{◌+◌, refl, sym, ap, subst, ◌∙◌, arith, each_same, Loops, members, either, Resumes}
 use Rattle.sm_deps.proofs.LoopsExact.{resumes_last, resumes_first}
 use Rattle.sm_deps.proofs.NeededLemmas.{members-same}
 use Rattle.sm_deps.proofs.loops.resume.Goals as goal

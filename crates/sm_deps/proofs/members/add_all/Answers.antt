@@ -1,6 +1,4 @@
-use Rattle.std.proofs.lemmas.Result.{on_ok_weaker}
-use Rattle.std.specs.BTreeSet.{InsertsAll}
-use Rattle.std.specs.Ordering.{nat_cmp}
+use Rattle.sm_deps.proofs.Imports.{on_ok_weaker, InsertsAll, nat_cmp}
 use Rattle.sm_deps.proofs.MembersLemmas.{members-union}
 use Rattle.sm_deps.proofs.members.add_all.Goals as goal
 

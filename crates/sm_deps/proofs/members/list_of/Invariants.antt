@@ -1,5 +1,4 @@
-use Rattle.std.proofs.Common.{◌≡◌, ◌++◌, map}
-use Rattle.sm_syntax.specs.declared.tree.Name.{Name}
+use Rattle.sm_deps.proofs.Imports.{◌≡◌, ◌++◌, map, Name}
 use Rattle.sm_deps.proofs.members.list_of.Given as goal
 
 abbrev pub invariant-loop-x : goal.invariant-loop-x

@@ -1,8 +1,5 @@
-use Rattle.std.proofs.Common.{◌≡◌, ℕ, Bool, ap, ◌∙◌, ⊎_elim}
-use Rattle.sm_syntax.specs.trees.Views.{expression_of, condition_of}
-use Rattle.sm_syntax.specs.declared.tree.Cond.{Cond, And, Or}
-use Rattle.sm_deps.specs.Names.{mentions, tests}
-use Rattle.sm_deps.specs.Members.{members, either}
+use Rattle.sm_deps.proofs.Imports.{◌≡◌, ℕ, Bool, ap, ◌∙◌, ⊎_elim, expression_of, condition_of, Cond, mentions, tests, members, either}
+use Rattle.sm_syntax.specs.declared.tree.Cond.{And, Or}
 use Rattle.sm_deps.proofs.MembersLemmas.{tests-Compare, tests-And, tests-Or, added_two, on_ok}
 use Rattle.sm_deps.proofs.names.+add_cond.Goals as goal
 

@@ -1,8 +1,4 @@
-use Rattle.std.proofs.Common.{◌≡◌, ℕ, Bool, ap, ◌∙◌, ⊎_elim}
-use Rattle.sm_syntax.specs.declared.tree.Expr.{Expr, Add, Sub, Mul}
-use Rattle.sm_syntax.specs.trees.Views.{expression_of}
-use Rattle.sm_deps.specs.Names.{mentions}
-use Rattle.sm_deps.specs.Members.{members, either}
+use Rattle.sm_deps.proofs.Imports.{◌≡◌, ℕ, Bool, ap, ◌∙◌, ⊎_elim, Expr, Add, Sub, Mul, expression_of, mentions, members, either}
 use Rattle.sm_deps.proofs.MembersLemmas.{mentions-Plus, mentions-Minus, mentions-Times, added_two, on_ok}
 use Rattle.sm_deps.proofs.names.+add_expr.Goals as goal
 

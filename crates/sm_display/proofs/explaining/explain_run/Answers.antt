@@ -1,6 +1,4 @@
-use Rattle.std.proofs.Common.{rules}
-use Rattle.sm_task.specs.Tasks.{parts_of}
-use Rattle.sm_answers.proofs.Replayed.{replayed_read}
+use Rattle.sm_display.proofs.Imports.{rules, parts_of, replayed_read}
 use Rattle.sm_display.proofs.Explained.{explained_by, none_explained}
 use Rattle.sm_display.proofs.explaining.explain_run.Goals as goal
 

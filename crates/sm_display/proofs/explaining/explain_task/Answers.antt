@@ -1,6 +1,4 @@
-use Rattle.std.proofs.Common.{inr, rules}
-use Rattle.sm_task.specs.Tasks.{parts_of}
-use Rattle.sm_answers.proofs.Replayed.{none_run, run_read}
+use Rattle.sm_display.proofs.Imports.{inr, rules, parts_of, none_run, run_read}
 use Rattle.sm_display.proofs.explaining.explain_task.Goals as goal
 
 pub returns-clause-ok : goal.returns-clause-ok

@@ -1,10 +1,5 @@
-use Rattle.std.proofs.Common.{◌≡◌, ◌∙◌, ap}
-use Rattle.sm_syntax.specs.claim.ConflictFree.{Copy, copy_of, program_of}
-use Rattle.sm_syntax.specs.text.Parts.{task_of}
-use Rattle.sm_syntax.specs.trees.Copies.{copy_named}
+use Rattle.sm_display.proofs.Imports.{◌≡◌, ◌∙◌, ap, Copy, copy_of, program_of, task_of, copy_named, parts_of, program_parts}
 use Rattle.sm_syntax.specs.trees.Views.{code_of}
-use Rattle.sm_task.specs.Tasks.{parts_of}
-use Rattle.sm_text.specs.Tasks.{program_parts}
 use Rattle.sm_display.proofs.PrintedLemmas.{by_number, filled_named, named_alike, printed_alike}
 use Rattle.sm_display.proofs.printing.copy_text.Goals as goal
 

@@ -1,5 +1,4 @@
-use Rattle.std.proofs.Common.{◌≡◌, ◌∙◌, ℕ, Option, Some, IfOk, subst, sym}
-use Rattle.sm_display.specs.Shown.{offset_of, ShowsOffset}
+use Rattle.sm_display.proofs.Imports.{◌≡◌, ◌∙◌, ℕ, Option, Some, IfOk, subst, sym, offset_of, ShowsOffset}
 use Rattle.sm_display.proofs.Refused.{offset_within}
 use Rattle.sm_display.proofs.refusing.place_lines.Goals as goal
 

@@ -1,6 +1,5 @@
-use Rattle.std.proofs.Common.{◌≡◌, ◌∙◌, ℕ, Option, Some, IfOk, subst, sym}
+use Rattle.sm_display.proofs.Imports.{◌≡◌, ◌∙◌, ℕ, Option, Some, IfOk, subst, sym, misfit_of, ShowsTokens}
 use Rattle.std.proofs.lemmas.List.{length-take-le}
-use Rattle.sm_display.specs.Shown.{misfit_of, ShowsTokens}
 use Rattle.sm_display.proofs.Refused.{front_at_fault, misfit_within}
 use Rattle.sm_display.proofs.refusing.tokens_line.Goals as goal
 

@@ -1,5 +1,4 @@
-use Rattle.sm_eval.specs.StoredValues.{meaning}
-use Rattle.sm_task.specs.Tasks.{parts_of}
+use Rattle.sm_display.proofs.Imports.{meaning, parts_of}
 use Rattle.sm_display.proofs.Explained.{explains_replay, joined_alike}
 use Rattle.sm_display.proofs.showing.explain.Goals as goal
 

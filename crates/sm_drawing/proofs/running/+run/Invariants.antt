@@ -1,10 +1,4 @@
-use Rattle.std.proofs.Common.{◌≡◌, ◌+◌, ◌*◌, drop, map}
-use Rattle.sm_eval.specs.StoredValues.{sorts_of}
-use Rattle.sm_syntax.specs.claim.Syntax.{End}
-use Rattle.sm_syntax.specs.text.Sorts.{IsWellSorted}
-use Rattle.sm_syntax.specs.trees.Views.{sequence, statement_of}
-use Rattle.sm_syntax.specs.declared.tree.Stmt.{size-Stmt}
-use Rattle.sm_syntax.specs.declared.tree.Block.{size-Block}
+use Rattle.sm_drawing.proofs.Imports.{◌≡◌, ◌+◌, ◌*◌, drop, map, sorts_of, End, IsWellSorted, sequence, statement_of, size-Stmt, size-Block}
 use Rattle.sm_drawing.proofs.running.+run.Given as goal
 
 abbrev pub decreases-run_all : goal.decreases-run_all

@@ -1,9 +1,5 @@
 -- Where what is left is well sorted, so is the whole block.
-use Rattle.std.proofs.Common.{drop, map}
-use Rattle.sm_eval.specs.StoredValues.{sorts_of}
-use Rattle.sm_syntax.specs.claim.Syntax.{End}
-use Rattle.sm_syntax.specs.text.Sorts.{IsWellSorted}
-use Rattle.sm_syntax.specs.trees.Views.{sequence, statement_of, code_of}
+use Rattle.sm_drawing.proofs.Imports.{drop, map, sorts_of, End, IsWellSorted, sequence, statement_of, code_of}
 use Rattle.sm_drawing.proofs.sorted.+sorted.Given as goal
 
 abbrev pub invariant-is_block_sorted-loop-t : goal.invariant-is_block_sorted-loop-t

@@ -1,8 +1,5 @@
 -- The plan is ready by how it ends.
-use Rattle.std.proofs.Common.{List, map, sym, subst}
-use Rattle.sm_expand.specs.NumberedPlans.{Over, plans_before, ArePlansReady}
-use Rattle.sm_expand.specs.Views.{numbered_plan}
-use Rattle.sm_expand.specs.declared.plan.Plan.{Plan}
+use Rattle.sm_drawing.proofs.Imports.{List, map, sym, subst, Over, plans_before, ArePlansReady, numbered_plan, Plan}
 use Rattle.sm_drawing.proofs.ReadyPlans.{plan_ready, fork_ready, loop_ready, turns_more}
 use Rattle.sm_drawing.proofs.trees.+draw.Goals as goal
 

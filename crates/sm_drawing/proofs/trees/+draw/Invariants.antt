@@ -1,9 +1,5 @@
 -- Each branching node leaves room for one less below it.
-use Rattle.std.proofs.Common.{◌+◌, ◌*◌, List, map}
-use Rattle.sm_syntax.specs.text.Sorts.{Sorts}
-use Rattle.sm_term.specs.Terms.{Tree}
-use Rattle.sm_expand.specs.NumberedPlans.{Over, plans_before, ArePlansReady}
-use Rattle.sm_expand.specs.Views.{numbered_plan}
+use Rattle.sm_drawing.proofs.Imports.{◌+◌, ◌*◌, List, map, Sorts, Tree, Over, plans_before, ArePlansReady, numbered_plan}
 use Rattle.sm_drawing.proofs.trees.+draw.Given as goal
 
 abbrev pub decreases-draw_fork : goal.decreases-draw_fork

@@ -1,11 +1,5 @@
 -- The argument's tree is an argument of the term's tree.
-use Rattle.std.proofs.Common.{◌≡◌, Option, List, length, slice_get, sym, ap, ◌∙◌, subst, Some, arith}
-use Rattle.sm_term.specs.Terms.{Tree}
-use Rattle.sm_term.specs.Heads.{arguments_of}
-use Rattle.sm_term.specs.Tables.{trees_in, tree_at, codes_in, sorts_in}
-use Rattle.sm_term.specs.declared.term.TermId.{TermId}
-use Rattle.sm_theory.specs.Sides.{OptionStands}
-use Rattle.sm_euf.specs.Arguments.{argument_numbers, trees_of}
+use Rattle.sm_euf.proofs.Imports.{◌≡◌, Option, List, length, slice_get, sym, ap, ◌∙◌, subst, Some, arith, Tree, arguments_of, trees_in, tree_at, codes_in, sorts_in, TermId, OptionStands, argument_numbers, trees_of}
 use Rattle.sm_euf.proofs.ArgumentsLemmas.{arguments_are, parts_before, found_stands}
 use Rattle.sm_euf.proofs.arguments.argument_of.Goals as goal
 

@@ -1,6 +1,5 @@
-use Rattle.std.proofs.Common.{sym, ◌∙◌, nat_eq}
+use Rattle.sm_euf.proofs.Imports.{sym, ◌∙◌, nat_eq, Name}
 use Rattle.std.specs.Cmp.Derive.Mapped.{pointwise-map}
-use Rattle.sm_syntax.specs.declared.tree.Name.{Name}
 use Rattle.sm_euf.proofs.arguments.same_names.Goals as goal
 
 -- names are compared by their numbers

@@ -1,5 +1,4 @@
-use Rattle.std.proofs.Common.{length, ◌∙◌, arith}
-use Rattle.sm_term.specs.Tables.{tree_at, trees_in, sorts_in, codes_in}
+use Rattle.sm_euf.proofs.Imports.{length, ◌∙◌, arith, tree_at, trees_in, sorts_in, codes_in}
 use Rattle.sm_euf.proofs.ArgumentsLemmas.{say_of_trees, parts_before}
 use Rattle.sm_euf.proofs.CongruenceLemmas.{cong_stands, cong_fails}
 use Rattle.sm_euf.proofs.congruence.congruent.Goals as goal

@@ -1,10 +1,6 @@
-use Rattle.std.proofs.Common.{Bool, true, false, not, ◌≡◌, ◌&&◌, ◌+◌, arith, drop, length, refl, sym, ap, ◌∙◌, slice_get}
-use Rattle.std.specs.Option.{is_none}
+use Rattle.sm_euf.proofs.Imports.{Bool, true, false, not, ◌≡◌, ◌&&◌, ◌+◌, arith, drop, length, refl, sym, ap, ◌∙◌, slice_get, is_none, trees_in, say_equal, argument_numbers, trees_of}
 use Rattle.std.proofs.lemmas.Option.{slice_get-get_or, slice_get_past}
-use Rattle.sm_term.specs.Tables.{trees_in}
 use Rattle.sm_term.proofs.TermsLemmas.{part_before}
-use Rattle.sm_theory.specs.Equality.{say_equal}
-use Rattle.sm_euf.specs.Arguments.{argument_numbers, trees_of}
 use Rattle.sm_euf.proofs.ArgumentsLemmas.{say_step, say_left, say_right, say_end}
 use Rattle.sm_euf.proofs.congruence.equal_arguments.Goals as goal
 

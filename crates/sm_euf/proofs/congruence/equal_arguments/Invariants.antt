@@ -1,10 +1,5 @@
 -- The facts and arguments that are left say what all of them say.
-use Rattle.std.proofs.Common.{◌≡◌, List, drop}
-use Rattle.sm_term.specs.Tables.{trees_in, sorts_in}
-use Rattle.sm_theory.specs.Facts.{BranchFact}
-use Rattle.sm_theory.specs.Equality.{say_equal}
-use Rattle.sm_theory.specs.Views.{AllStand}
-use Rattle.sm_euf.specs.Arguments.{argument_numbers, trees_of}
+use Rattle.sm_euf.proofs.Imports.{◌≡◌, List, drop, trees_in, sorts_in, BranchFact, say_equal, AllStand, argument_numbers, trees_of}
 use Rattle.sm_euf.proofs.congruence.equal_arguments.Given as goal
 
 abbrev pub invariant-loop-i : goal.invariant-loop-i

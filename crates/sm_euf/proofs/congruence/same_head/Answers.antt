@@ -1,5 +1,4 @@
-use Rattle.std.proofs.Common.{◌∙◌}
-use Rattle.sm_term.specs.Tables.{tree_at, trees_in, sorts_in, codes_in}
+use Rattle.sm_euf.proofs.Imports.{◌∙◌, tree_at, trees_in, sorts_in, codes_in}
 use Rattle.sm_euf.proofs.ArgumentsLemmas.{trees_have_one_head}
 use Rattle.sm_euf.proofs.congruence.same_head.Goals as goal
 

@@ -1,11 +1,5 @@
-use Rattle.std.proofs.Common.{◌≡◌, ◌⊎◌, Some, IfErr, sym, ap, subst, ◌∙◌}
-use Rattle.sm_syntax.specs.claim.Meaning.{truth_of, run}
-use Rattle.sm_syntax.specs.claim.Syntax.{Code, End}
-use Rattle.sm_syntax.specs.trees.Views.{condition_of, statement_of, code_of}
-use Rattle.sm_syntax.specs.declared.tree.Stmt.{Stmt}
+use Rattle.sm_eval.proofs.Imports.{◌≡◌, ◌⊎◌, Some, IfErr, sym, ap, subst, ◌∙◌, truth_of, run, Code, End, condition_of, statement_of, code_of, Stmt, event, EvalError, Memory, meaning}
 use Rattle.sm_syntax.proofs.Statements.{statement_of-While}
-use Rattle.sm_eval.specs.Events.{event, EvalError, Memory}
-use Rattle.sm_eval.specs.StoredValues.{meaning}
 use Rattle.sm_eval.proofs.Turns.{answered, turns_event-turn, turns-turn}
 use Rattle.sm_eval.proofs.runs.+run.Goals as goal
 

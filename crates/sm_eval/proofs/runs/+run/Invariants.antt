@@ -1,12 +1,5 @@
-use Rattle.std.proofs.Common.{◌≡◌, ◌+◌, ◌*◌, drop, map}
-use Rattle.sm_syntax.specs.claim.Meaning.{truth_of, turns, run}
-use Rattle.sm_syntax.specs.text.Sorts.{IsWellSorted}
-use Rattle.sm_syntax.specs.claim.Syntax.{End}
-use Rattle.sm_syntax.specs.trees.Views.{condition_of, sequence, statement_of, code_of}
-use Rattle.sm_syntax.specs.declared.tree.Stmt.{size-Stmt}
+use Rattle.sm_eval.proofs.Imports.{◌≡◌, ◌+◌, ◌*◌, drop, map, truth_of, turns, run, IsWellSorted, End, condition_of, sequence, statement_of, code_of, size-Stmt, turns_event, event, meaning, sorts_of}
 use Rattle.sm_syntax.specs.declared.tree.Block.{size-Block}
-use Rattle.sm_eval.specs.Events.{turns_event, event}
-use Rattle.sm_eval.specs.StoredValues.{meaning, sorts_of}
 use Rattle.sm_eval.proofs.runs.+run.Given as goal
 
 abbrev pub decreases-run_block : goal.decreases-run_block

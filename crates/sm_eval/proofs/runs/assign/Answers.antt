@@ -1,10 +1,6 @@
-use Rattle.std.proofs.Common.{rules, ◌≡◌, ℤ, Some, sym, ap, ◌∙◌}
-use Rattle.std.proofs.lemmas.Int.{to_z-of_z}
-use Rattle.std.specs.Int.{w128}
+use Rattle.sm_eval.proofs.Imports.{rules, ◌≡◌, ℤ, Some, sym, ap, ◌∙◌, to_z-of_z, w128, Value, put, expression_of, meaning}
 use mir.Val.{SFits}
-use Rattle.sm_syntax.specs.claim.Stores.{Value, Number, Store, put}
-use Rattle.sm_syntax.specs.trees.Views.{expression_of}
-use Rattle.sm_eval.specs.StoredValues.{meaning}
+use Rattle.sm_syntax.specs.claim.Stores.{Number, Store}
 use Rattle.sm_eval.proofs.Numbers.{sorted_number}
 use Rattle.sm_eval.proofs.Turns.{answered}
 use Rattle.sm_eval.proofs.runs.assign.Goals as goal

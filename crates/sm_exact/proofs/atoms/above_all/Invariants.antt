@@ -1,6 +1,5 @@
 -- The number so far is above the variables of the forms from here on.
-use Rattle.std.proofs.Common.{◌≡◌, ◌≤◌, length, drop}
-use Rattle.sm_omega.specs.Exact.{above_all}
+use Rattle.sm_exact.proofs.Imports.{◌≡◌, ◌≤◌, length, drop, above_all}
 use Rattle.sm_exact.proofs.atoms.above_all.Given as goal
 
 abbrev pub invariant-loop-i : goal.invariant-loop-i

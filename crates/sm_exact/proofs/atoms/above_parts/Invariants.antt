@@ -1,6 +1,5 @@
 -- The number so far, with the parts from here on, gives that of all parts.
-use Rattle.std.proofs.Common.{◌≡◌, drop}
-use Rattle.sm_omega.specs.Exact.{above_parts}
+use Rattle.sm_exact.proofs.Imports.{◌≡◌, drop, above_parts}
 use Rattle.sm_exact.proofs.atoms.above_parts.Given as goal
 
 abbrev pub invariant-loop-part : goal.invariant-loop-part

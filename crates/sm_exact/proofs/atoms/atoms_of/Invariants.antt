@@ -1,6 +1,5 @@
 -- The variables so far, with those of the forms from here on, are those of all forms.
-use Rattle.std.proofs.Common.{◌≡◌, [], drop}
-use Rattle.sm_exact.specs.Telling.{with_forms}
+use Rattle.sm_exact.proofs.Imports.{◌≡◌, [], drop, with_forms}
 use Rattle.sm_exact.proofs.atoms.atoms_of.Given as goal
 
 abbrev pub invariant-loop-f : goal.invariant-loop-f

@@ -1,7 +1,5 @@
 -- The variables so far have their values.
-use Rattle.std.proofs.Common.{◌≡◌, nat_eq, map, take}
-use Rattle.std.specs.HashMap.{get}
-use Rattle.sm_exact.specs.Valued.{values_in}
+use Rattle.sm_exact.proofs.Imports.{◌≡◌, nat_eq, map, take, get, values_in}
 use Rattle.sm_exact.proofs.atoms.pairs_of.Given as goal
 
 abbrev pub invariant-loop-a : goal.invariant-loop-a

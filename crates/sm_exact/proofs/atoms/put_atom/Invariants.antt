@@ -1,6 +1,5 @@
 -- The variable goes among those from here on.
-use Rattle.std.proofs.Common.{◌≡◌, ◌++◌, ◌≤◌, ◌-◌, length, take, drop}
-use Rattle.sm_exact.specs.Telling.{with_atom}
+use Rattle.sm_exact.proofs.Imports.{◌≡◌, ◌++◌, ◌≤◌, ◌-◌, length, take, drop, with_atom}
 use Rattle.sm_exact.proofs.atoms.put_atom.Given as goal
 
 abbrev pub invariant-loop-i : goal.invariant-loop-i

@@ -1,6 +1,5 @@
 -- The variables so far, with those of the parts from here on, are those of all parts.
-use Rattle.std.proofs.Common.{◌≡◌, drop}
-use Rattle.sm_exact.specs.Telling.{with_parts}
+use Rattle.sm_exact.proofs.Imports.{◌≡◌, drop, with_parts}
 use Rattle.sm_exact.proofs.atoms.put_atoms.Given as goal
 
 abbrev pub invariant-loop-part : goal.invariant-loop-part

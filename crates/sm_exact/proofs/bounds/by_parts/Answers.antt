@@ -1,5 +1,4 @@
-use Rattle.std.proofs.Common.{length, arith, sym, ap, subst, ◌∙◌}
-use Rattle.sm_exact.specs.Rows.{Keeps}
+use Rattle.sm_exact.proofs.Imports.{length, arith, sym, ap, subst, ◌∙◌, Keeps}
 use Rattle.sm_exact.proofs.BoundsLemmas.{by_below, by_above, by_dark, by_close, none_by_test, some_by_test}
 use Rattle.sm_exact.proofs.bounds.by_parts.Goals as goal
 

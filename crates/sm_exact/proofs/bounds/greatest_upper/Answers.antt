@@ -1,10 +1,5 @@
-use Rattle.std.proofs.Common.{◌≡◌, int_lt, if◌then◌else◌, IsTrue, refl, subst, rules, arith, take_all}
-use Rattle.std.specs.List.{All}
-use Rattle.std.proofs.lemmas.Int.{to_z-of_z, ints}
-use Rattle.std.specs.Int.{w128}
+use Rattle.sm_exact.proofs.Imports.{◌≡◌, int_lt, if◌then◌else◌, IsTrue, refl, subst, rules, arith, take_all, All, to_z-of_z, ints, w128, fits_form, at}
 use mir.Val.{SFits, to_z}
-use Rattle.sm_num.specs.Range.{fits_form}
-use Rattle.sm_omega.specs.Solving.{at}
 use Rattle.sm_exact.proofs.BoundsLemmas.{top_more, top_end, numbers_more}
 use Rattle.sm_exact.proofs.bounds.greatest_upper.Goals as goal
 

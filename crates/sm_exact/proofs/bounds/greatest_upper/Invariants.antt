@@ -1,8 +1,5 @@
 -- The greatest so far, with the coefficients from here on, is that of all.
-use Rattle.std.proofs.Common.{take, drop, IsTrue}
-use Rattle.std.specs.List.{All}
-use Rattle.sm_num.specs.Range.{fits_form}
-use Rattle.sm_omega.specs.Solving.{at}
+use Rattle.sm_exact.proofs.Imports.{take, drop, IsTrue, All, fits_form, at}
 use Rattle.sm_exact.proofs.BoundsLemmas.{IsTop}
 use Rattle.sm_exact.proofs.bounds.greatest_upper.Given as goal
 

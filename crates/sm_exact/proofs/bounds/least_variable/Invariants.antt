@@ -1,6 +1,5 @@
 -- The least variable so far is that of the forms from here on.
-use Rattle.std.proofs.Common.{◌≡◌, ◌≤◌, length, drop}
-use Rattle.sm_omega.specs.Solving.{least_variable}
+use Rattle.sm_exact.proofs.Imports.{◌≡◌, ◌≤◌, length, drop, least_variable}
 use Rattle.sm_exact.proofs.bounds.least_variable.Given as goal
 
 abbrev pub invariant-loop-i : goal.invariant-loop-i

@@ -1,8 +1,5 @@
-use Rattle.std.proofs.Common.{IsTrue, ℤ, rules, sym, ap, subst, ◌∙◌}
-use Rattle.std.proofs.lemmas.Int.{to_z-of_z}
-use Rattle.std.specs.Int.{w128}
+use Rattle.sm_exact.proofs.Imports.{IsTrue, ℤ, rules, sym, ap, subst, ◌∙◌, to_z-of_z, w128, fits_form}
 use mir.Val.{SFits, to_z}
-use Rattle.sm_num.specs.Range.{fits_form}
 use Rattle.sm_exact.proofs.BoundsLemmas.{none_above, none_below}
 use Rattle.sm_exact.proofs.bounds.may_splinter.Goals as goal
 

@@ -1,13 +1,6 @@
 -- The terms of formulas have one place each, and so have their numbers.
-use Rattle.std.proofs.Common.{◌≡◌, List, [], drop, sym, subst, arith}
+use Rattle.sm_exact.proofs.Imports.{◌≡◌, List, [], drop, sym, subst, arith, trees_in, sorts_in, Fact, all_terms, with_formulas, HaveOnePlace, all_terms_places, trees_at, formulas_of}
 use Rattle.std.proofs.Math.ListN.{drop_of_length-le}
-use Rattle.sm_term.specs.Tables.{trees_in, sorts_in}
-use Rattle.sm_theory.specs.declared.fact.Fact.{Fact}
-use Rattle.sm_theory.specs.TermsOfFormulas.{all_terms, with_formulas}
-use Rattle.sm_theory.specs.Standing.{HaveOnePlace}
-use Rattle.sm_theory.proofs.TermsOfFormulasLemmas.{all_terms_places}
-use Rattle.sm_terms.specs.Listing.{trees_at}
-use Rattle.sm_exact.specs.Placing.{formulas_of}
 use Rattle.sm_exact.proofs.PlacedBranch.{places_once}
 use Rattle.sm_exact.proofs.branch_terms.terms_of.Goals as goal
 

@@ -1,9 +1,6 @@
 -- The terms of the formulas that are left go behind those that are listed.
-use Rattle.std.proofs.Common.{◌≡◌, length, drop}
-use Rattle.sm_term.specs.Tables.{trees_in, sorts_in}
-use Rattle.sm_theory.specs.TermsOfFormulas.{all_terms, with_formulas}
-use Rattle.sm_terms.specs.Listing.{trees_at, AreBelow, IsClosed}
-use Rattle.sm_exact.specs.Placing.{formulas_of}
+use Rattle.sm_exact.proofs.Imports.{◌≡◌, length, drop, trees_in, sorts_in, all_terms, with_formulas, trees_at, IsClosed, formulas_of}
+use Rattle.sm_terms.specs.Listing.{AreBelow}
 use Rattle.sm_exact.proofs.branch_terms.terms_of.Given as goal
 
 abbrev pub invariant-loop-fact : goal.invariant-loop-fact

@@ -1,15 +1,8 @@
 -- The part that was found has the coefficient, and past a later atom there is none.
-use Rattle.std.proofs.Common.{IsTrue, pos, get_or, rules, sym, ap, subst, ◌∙◌}
-use Rattle.std.proofs.lemmas.Int.{to_z-of_z}
-use Rattle.std.specs.Int.{w128}
+use Rattle.sm_exact.proofs.Imports.{IsTrue, pos, get_or, rules, sym, ap, subst, ◌∙◌, to_z-of_z, w128, fits_form, coefficient, AreParts, same_atom, coefficient_at, coefficient_past}
 use mir.Val.{SFits}
-use Rattle.sm_num.specs.Range.{fits_form}
-use Rattle.sm_num.specs.Forms.{coefficient, AreParts}
-use Rattle.sm_num.specs.FormLaws.{same_atom}
 use Rattle.sm_exact.proofs.CoefficientLemmas.{part_fits}
 use Rattle.sm_exact.proofs.coefficients.coefficient.Goals as goal
-use Rattle.sm_num.proofs.KeptForms.{coefficient_at}
-use Rattle.sm_num.proofs.OneForm.{coefficient_past}
 
 pub returns-then-part-t-clause-value : goal.returns-then-part-t-clause-value
 returns-then-part-t-clause-value c =

@@ -1,7 +1,5 @@
 -- Where there is no solution, the splinters are tried.
-use Rattle.std.proofs.Common.{None, subst}
-use Rattle.sm_omega.specs.Counting.{Done}
-use Rattle.sm_exact.specs.Stack.{Awaits, told}
+use Rattle.sm_exact.proofs.Imports.{None, subst, Done, Awaits, told}
 use Rattle.sm_exact.proofs.deciding.go_back_to.Goals as goal
 
 pub returns-in-Dark : goal.returns-in-Dark

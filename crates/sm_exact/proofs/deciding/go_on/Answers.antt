@@ -1,6 +1,5 @@
 -- A rule puts a frame behind the others.
-use Rattle.std.proofs.Common.{subst}
-use Rattle.sm_exact.specs.Stack.{Applies}
+use Rattle.sm_exact.proofs.Imports.{subst, Applies}
 use Rattle.sm_exact.proofs.TurnLemmas.{step_stands, zero_stands}
 use Rattle.sm_exact.proofs.deciding.go_on.Goals as goal
 

@@ -1,6 +1,5 @@
 -- Each form is kept as its type says.
-use Rattle.std.proofs.Common.{◌≡◌, length, subst, drop, arith}
-use Rattle.sm_omega.specs.ExactLaws.{AllKept}
+use Rattle.sm_exact.proofs.Imports.{◌≡◌, length, subst, drop, arith, AllKept}
 use Rattle.sm_exact.proofs.TurnLemmas.{kept_none, kept_down}
 use Rattle.sm_exact.proofs.deciding.look_at.Goals as goal
 

@@ -1,6 +1,5 @@
 -- The forms from here on are kept.
-use Rattle.std.proofs.Common.{◌≤◌, length, drop}
-use Rattle.sm_omega.specs.ExactLaws.{AllKept}
+use Rattle.sm_exact.proofs.Imports.{◌≤◌, length, drop, AllKept}
 use Rattle.sm_exact.proofs.deciding.look_at.Given as goal
 
 abbrev pub invariant-loop-i : goal.invariant-loop-i

@@ -1,7 +1,5 @@
 -- A list goes on, a contradiction goes back, and the rest ends the decision.
-use Rattle.std.proofs.Common.{◌≡◌, rules, sym, subst}
-use Rattle.std.proofs.lemmas.Int.{to_z-of_z}
-use Rattle.std.specs.Int.{w128}
+use Rattle.sm_exact.proofs.Imports.{◌≡◌, rules, sym, subst, to_z-of_z, w128}
 use mir.Val.{SFits}
 use Rattle.sm_exact.proofs.TurnLemmas.{turns_list, turns_back, steps_end, beyond_ends}
 use Rattle.sm_exact.proofs.deciding.turn.Goals as goal

@@ -1,7 +1,5 @@
 -- A contradiction, a form that is left out, or one behind the others.
-use Rattle.std.proofs.Common.{sym, ap, ◌∙◌}
-use Rattle.sm_num.specs.Tightening.{tightened, has_no_part}
-use Rattle.sm_omega.specs.Counting.{entered}
+use Rattle.sm_exact.proofs.Imports.{sym, ap, ◌∙◌, tightened, has_no_part, entered}
 use Rattle.sm_exact.proofs.EntryLemmas.{enters_refuted, enters_nothing, enters_behind, no_part_by}
 use Rattle.sm_exact.proofs.entry.enter.Goals as goal
 

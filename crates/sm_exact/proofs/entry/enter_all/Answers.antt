@@ -1,7 +1,5 @@
 -- The forms that are left go in behind those so far.
-use Rattle.std.proofs.Common.{◌+◌, map, drop, sym, ap, ◌∙◌}
-use Rattle.sm_omega.specs.Counting.{Enter, entered}
-use Rattle.sm_exact.specs.Entries.{before}
+use Rattle.sm_exact.proofs.Imports.{◌+◌, map, drop, sym, ap, ◌∙◌, Enter, entered, before}
 use Rattle.sm_exact.proofs.EntryLemmas.{turn_of, end_of, goes_list, going_other}
 use Rattle.sm_exact.proofs.entry.enter_all.Goals as goal
 

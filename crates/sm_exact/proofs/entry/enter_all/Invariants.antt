@@ -1,7 +1,5 @@
 -- The forms so far have entered.
-use Rattle.std.proofs.Common.{◌≡◌, ℕ, map, drop}
-use Rattle.sm_omega.specs.Counting.{Enter, entered}
-use Rattle.sm_exact.specs.Entries.{before}
+use Rattle.sm_exact.proofs.Imports.{◌≡◌, ℕ, map, drop, Enter, entered, before}
 use Rattle.sm_exact.proofs.entry.enter_all.Given as goal
 
 abbrev pub invariant-loop-f : goal.invariant-loop-f

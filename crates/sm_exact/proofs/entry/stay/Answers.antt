@@ -1,7 +1,5 @@
 -- The form stands behind the others.
-use Rattle.std.proofs.Common.{sym, ap, ◌∙◌}
-use Rattle.sm_omega.specs.Counting.{entered}
-use Rattle.sm_exact.specs.Entries.{before}
+use Rattle.sm_exact.proofs.Imports.{sym, ap, ◌∙◌, entered, before}
 use Rattle.sm_exact.proofs.EntryLemmas.{before_more}
 use Rattle.sm_exact.proofs.entry.stay.Goals as goal
 

@@ -1,7 +1,5 @@
 -- The rule of an equation that brings a new variable.
-use Rattle.std.proofs.Common.{◌≡◌, suc, sym, ap, ◌∙◌, arith}
-use Rattle.std.specs.List.{remove}
-use Rattle.sm_exact.specs.Stack.{answer_of, told, Equation}
+use Rattle.sm_exact.proofs.Imports.{◌≡◌, suc, sym, ap, ◌∙◌, arith, remove, answer_of, told, Equation}
 use Rattle.sm_exact.proofs.StepLemmas.{modular_step}
 use Rattle.sm_exact.proofs.equation.by_modular.Goals as goal
 

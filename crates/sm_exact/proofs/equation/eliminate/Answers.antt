@@ -1,8 +1,5 @@
 -- A form with the variable is counted, another stays.
-use Rattle.std.proofs.Common.{if◌then◌else◌, Bool, sym, ap, ◌∙◌}
-use Rattle.sm_num.specs.Eliminating.{eliminated}
-use Rattle.sm_omega.specs.Counting.{Stay, Count}
-use Rattle.sm_omega.specs.Equalities.{eliminated_item}
+use Rattle.sm_exact.proofs.Imports.{if◌then◌else◌, Bool, sym, ap, ◌∙◌, eliminated, Stay, Count, eliminated_item}
 use Rattle.sm_exact.proofs.EntryLemmas.{item_is, form_stays}
 use Rattle.sm_exact.proofs.equation.eliminate.Goals as goal
 

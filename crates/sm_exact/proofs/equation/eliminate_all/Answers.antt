@@ -1,9 +1,5 @@
 -- The forms that are left go in behind those so far.
-use Rattle.std.proofs.Common.{map, [], sym, ap, ◌∙◌, arith}
-use Rattle.std.proofs.lemmas.List.{nil_from_length}
-use Rattle.sm_omega.specs.Counting.{entered}
-use Rattle.sm_omega.specs.Equalities.{eliminated_item}
-use Rattle.sm_exact.specs.Entries.{before}
+use Rattle.sm_exact.proofs.Imports.{map, [], sym, ap, ◌∙◌, arith, nil_from_length, entered, eliminated_item, before}
 use Rattle.sm_exact.proofs.EntryLemmas.{turn_left, end_left, goes_list, going_other}
 use Rattle.sm_exact.proofs.equation.eliminate_all.Goals as goal
 

@@ -1,8 +1,5 @@
 -- What is left enters behind the forms so far.
-use Rattle.std.proofs.Common.{◌≡◌, map}
-use Rattle.sm_omega.specs.Counting.{entered}
-use Rattle.sm_omega.specs.Equalities.{eliminated_item}
-use Rattle.sm_exact.specs.Entries.{before}
+use Rattle.sm_exact.proofs.Imports.{◌≡◌, map, entered, eliminated_item, before}
 use Rattle.sm_exact.proofs.equation.eliminate_all.Given as goal
 
 abbrev pub invariant-loop-f : goal.invariant-loop-f

@@ -1,12 +1,6 @@
 -- The sum is counted, unless the count would pass its limit.
-use Rattle.std.proofs.Common.{◌≡◌, ℤ, pos, rules, subst, ◌∙◌, ℕ}
-use Rattle.std.proofs.lemmas.Int.{to_z-of_z}
-use Rattle.std.specs.Int.{w128}
+use Rattle.sm_exact.proofs.Imports.{◌≡◌, ℤ, pos, rules, subst, ◌∙◌, ℕ, to_z-of_z, w128, Outcome, combined, Returns, Linear, at}
 use mir.Val.{SFits}
-use Rattle.sm_num.specs.Combining.{Outcome, combined}
-use Rattle.sm_num.specs.Errors.{Returns}
-use Rattle.sm_num.specs.Forms.{Linear}
-use Rattle.sm_omega.specs.Solving.{at}
 use Rattle.sm_exact.proofs.EntryLemmas.{count_passed, sum_enters}
 use Rattle.sm_exact.proofs.equation.enter_reduced.Goals as goal
 

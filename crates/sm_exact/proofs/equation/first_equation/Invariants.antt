@@ -1,7 +1,5 @@
 -- The first equation is the first behind the forms so far.
-use Rattle.std.proofs.Common.{◌≡◌, take, drop}
-use Rattle.sm_omega.specs.Equalities.{first_equation}
-use Rattle.sm_exact.specs.Rows.{passed}
+use Rattle.sm_exact.proofs.Imports.{◌≡◌, take, drop, first_equation, passed}
 use Rattle.sm_exact.proofs.equation.first_equation.Given as goal
 
 abbrev pub invariant-loop-place : goal.invariant-loop-place

@@ -1,6 +1,5 @@
 -- The least part is that of the least so far and those from here on.
-use Rattle.std.proofs.Common.{◌≡◌, drop}
-use Rattle.sm_omega.specs.Equalities.{least_part, least_part_of}
+use Rattle.sm_exact.proofs.Imports.{◌≡◌, drop, least_part, least_part_of}
 use Rattle.sm_exact.proofs.equation.least_part.Given as goal
 
 abbrev pub invariant-loop-part : goal.invariant-loop-part

@@ -1,9 +1,5 @@
 -- A form with the variable is counted, another stays.
-use Rattle.std.proofs.Common.{if◌then◌else◌, Bool, pos, sym, ap, ◌∙◌}
-use Rattle.sm_num.specs.Combining.{combined}
-use Rattle.sm_omega.specs.Counting.{Stay, Count}
-use Rattle.sm_omega.specs.Solving.{at}
-use Rattle.sm_omega.specs.Equalities.{modular_item}
+use Rattle.sm_exact.proofs.Imports.{if◌then◌else◌, Bool, pos, sym, ap, ◌∙◌, combined, Stay, Count, at, modular_item}
 use Rattle.sm_exact.proofs.EntryLemmas.{item_is, form_stays}
 use Rattle.sm_exact.proofs.equation.reduce.Goals as goal
 

@@ -1,9 +1,5 @@
-use Rattle.std.proofs.Common.{nat_eq, Some, ap, rules, ◌∙◌}
-use Rattle.std.specs.HashMap.{get}
-use Rattle.sm_omega.specs.Counting.{Done}
+use Rattle.sm_exact.proofs.Imports.{nat_eq, Some, ap, rules, ◌∙◌, get, Done, told, values_in}
 use Rattle.sm_omega.specs.Equalities.{value_by}
-use Rattle.sm_exact.specs.Stack.{told}
-use Rattle.sm_exact.specs.Valued.{values_in}
 use Rattle.sm_exact.proofs.GivingLemmas.{gives_value}
 use Rattle.sm_exact.proofs.giving.give.Goals as goal
 

@@ -1,10 +1,5 @@
 -- The last frame gives its variable a value, or leaves the range.
-use Rattle.std.proofs.Common.{nat_eq, Some, subst}
-use Rattle.std.specs.HashMap.{get}
-use Rattle.std.proofs.lemmas.Result.{err_from_is_err_and}
-use Rattle.sm_omega.specs.Counting.{Done}
-use Rattle.sm_exact.specs.Stack.{Awaits}
-use Rattle.sm_exact.specs.Valued.{values_in}
+use Rattle.sm_exact.proofs.Imports.{nat_eq, Some, subst, get, err_from_is_err_and, Done, Awaits, values_in}
 use Rattle.sm_exact.proofs.GivingLemmas.{leads_on, fails_on}
 use Rattle.sm_exact.proofs.giving.give_all.Goals as goal
 

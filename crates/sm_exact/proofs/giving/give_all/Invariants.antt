@@ -1,10 +1,5 @@
 -- What all frames await of a solution of zeros, those that are left await of the values so far.
-use Rattle.std.proofs.Common.{ℕ, Some, nat_eq, length}
-use Rattle.std.specs.HashMap.{get}
-use Rattle.sm_omega.specs.Counting.{Done}
-use Rattle.sm_omega.specs.Rules.{Answer}
-use Rattle.sm_exact.specs.Stack.{Awaits, all_zero}
-use Rattle.sm_exact.specs.Valued.{values_in}
+use Rattle.sm_exact.proofs.Imports.{ℕ, Some, nat_eq, length, get, Done, Answer, Awaits, all_zero, values_in}
 use Rattle.sm_exact.proofs.giving.give_all.Given as goal
 
 abbrev pub invariant-loop-frame : goal.invariant-loop-frame

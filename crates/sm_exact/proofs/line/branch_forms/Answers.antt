@@ -1,9 +1,6 @@
 -- The forms over places are those of the branch.
-use Rattle.std.proofs.Common.{◌≡◌, Option, Some, None, Result, Ok, Err, IfOk}
-use Rattle.std.specs.Prelude.{IfSome, IfNone}
-use Rattle.sm_term.specs.Tables.{trees_in, sorts_in}
-use Rattle.sm_theory.specs.ExactLine.{forms_of_branch}
-use Rattle.sm_exact.specs.Placing.{SomeLacksPlace, ArePlacedForms}
+use Rattle.sm_exact.proofs.Imports.{◌≡◌, Option, Some, None, Ok, Err, IfSome, IfNone, trees_in, sorts_in, forms_of_branch, SomeLacksPlace, ArePlacedForms}
+use Rattle.std.proofs.Common.{Result, IfOk}
 use Rattle.sm_exact.proofs.PlacedBranch.{forms_are, forms_none}
 use Rattle.sm_exact.proofs.line.branch_forms.Goals as goal
 

@@ -1,14 +1,8 @@
 -- The forms that are decided are those of the exact line.
-use Rattle.std.proofs.Common.{◌≡◌, ℕ, true, false, List, Some, None, refl, sym, ap, subst, ◌∙◌}
-use Rattle.std.specs.Prelude.{IfSome}
-use Rattle.std.proofs.lemmas.Bool.{le-leb}
-use Rattle.sm_num.specs.Forms.{Linear}
+use Rattle.sm_exact.proofs.Imports.{◌≡◌, ℕ, true, false, List, Some, None, refl, sym, ap, subst, ◌∙◌, IfSome, le-leb, Linear, trees_in, sorts_in, forms_of_branch, has_no_solution, StandsIf}
 use Rattle.sm_omega.specs.Exact.{exact}
 use Rattle.sm_term.specs.declared.formula.Formula.TheVariants as formula
-use Rattle.sm_term.specs.Tables.{trees_in, sorts_in}
 use Rattle.sm_theory.specs.declared.fact.Fact.TheVariants as fact
-use Rattle.sm_theory.specs.ExactLine.{forms_of_branch, has_no_solution}
-use Rattle.sm_theory.specs.Views.{StandsIf}
 use Rattle.sm_exact.proofs.PlacingLemmas.{none_case}
 use Rattle.sm_exact.proofs.PlacedBranch.{adds_none, adds_decided}
 use Rattle.sm_exact.proofs.line.check_exact.Goals as goal

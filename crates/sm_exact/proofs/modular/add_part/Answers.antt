@@ -1,9 +1,5 @@
 -- The sum fits: the part goes behind the others.
-use Rattle.std.proofs.Common.{ℤ, pos, subst}
-use Rattle.sm_num.specs.Forms.{IsKept}
-use Rattle.sm_num.specs.declared.kind.Kind.TheVariants.{Eq}
-use Rattle.sm_num.specs.Combining.{combined}
-use Rattle.sm_num.specs.Errors.{Returns}
+use Rattle.sm_exact.proofs.Imports.{ℤ, pos, subst, IsKept, Eq, combined, Returns}
 use Rattle.sm_exact.proofs.ModularLemmas.{with_last, same_bits, sum_behind, gives_behind}
 use Rattle.sm_exact.proofs.modular.add_part.Goals as goal
 

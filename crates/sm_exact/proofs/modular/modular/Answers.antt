@@ -1,7 +1,5 @@
 -- The part at a place goes behind those before it.
-use Rattle.std.proofs.Common.{ℕ, sym, ap, subst, ◌∙◌, to_z, of_z}
-use Rattle.std.specs.Int.{w128}
-use Rattle.sm_num.specs.Forms.{Linear, AreParts}
+use Rattle.sm_exact.proofs.Imports.{ℕ, sym, ap, subst, ◌∙◌, to_z, of_z, w128, Linear, AreParts}
 use Rattle.sm_exact.specs.Rows.{AreBelow}
 use Rattle.sm_exact.proofs.CoefficientLemmas.{part_fits}
 use Rattle.sm_exact.proofs.ModularLemmas.{same_bits, turn_below, turn_parts}

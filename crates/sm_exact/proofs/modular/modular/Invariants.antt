@@ -1,7 +1,5 @@
 -- The equation so far, with the parts from here on, is the whole, and its variables are below theirs.
-use Rattle.std.proofs.Common.{◌≡◌, ◌++◌, drop, neg_ℤ}
-use Rattle.sm_num.specs.declared.kind.Kind.TheVariants.{Eq}
-use Rattle.sm_omega.specs.Equalities.{modular_parts, quotient}
+use Rattle.sm_exact.proofs.Imports.{◌≡◌, ◌++◌, drop, neg_ℤ, Eq, modular_parts, quotient}
 use Rattle.sm_exact.specs.Rows.{AreBelow}
 use Rattle.sm_exact.proofs.ModularLemmas.{next_atom}
 use Rattle.sm_exact.proofs.modular.modular.Given as goal

@@ -1,8 +1,6 @@
 -- The form of a linear fact goes behind those so far.
-use Rattle.std.proofs.Common.{◌++◌, ◌∷◌, [], sym, subst}
-use Rattle.sm_theory.specs.declared.fact.Fact.{Fact}
+use Rattle.sm_exact.proofs.Imports.{◌++◌, ◌∷◌, [], sym, subst, Fact, IsPlacedIf, ArePlacedForms}
 use Rattle.sm_theory.specs.declared.fact.Fact.TheVariants as fact
-use Rattle.sm_exact.specs.Placing.{IsPlacedIf, ArePlacedForms}
 use Rattle.sm_exact.proofs.PlacedBranch.{forms_append, forms_stay}
 use Rattle.sm_exact.proofs.placing.place_fact.Goals as goal
 

@@ -1,6 +1,5 @@
 -- The place is the first at which the number stands.
-use Rattle.std.proofs.Common.{sym}
-use Rattle.sm_exact.specs.Placing.{HasNoPlace}
+use Rattle.sm_exact.proofs.Imports.{sym, HasNoPlace}
 use Rattle.sm_exact.proofs.PlacingLemmas.{found_at, unlisted, if_none}
 use Rattle.sm_exact.proofs.placing.place_of.Goals as goal
 

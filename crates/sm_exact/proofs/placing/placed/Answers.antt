@@ -1,12 +1,6 @@
 -- One part more goes to its place, or there is none.
-use Rattle.std.proofs.Common.{◌≡◌, ◌-◌, ◌+ℤ◌, ◌*ℤ◌, ℕ, ℤ, pos, List, ◌∷◌, suc, get_or, drop, sym, ap, subst, ◌∙◌, arith}
-use Rattle.std.proofs.lemmas.Int.{ints}
+use Rattle.sm_exact.proofs.Imports.{◌≡◌, ◌-◌, ◌+ℤ◌, ◌*ℤ◌, ℕ, ℤ, pos, List, ◌∷◌, suc, get_or, drop, sym, ap, subst, ◌∙◌, arith, ints, AreParts, coefficient, Eq, same_atom, atom_form, HasNoPlace, ArePlaced}
 use Rattle.std.proofs.Math.Seq.{drop-cons}
-use Rattle.sm_num.specs.Forms.{AreParts, coefficient}
-use Rattle.sm_num.specs.declared.kind.Kind.TheVariants.{Eq}
-use Rattle.sm_num.specs.FormLaws.{same_atom}
-use Rattle.sm_theory.specs.LinearTerms.{atom_form}
-use Rattle.sm_exact.specs.Placing.{HasNoPlace, ArePlaced}
 use Rattle.sm_exact.proofs.CoefficientLemmas.{part_fits}
 use Rattle.sm_exact.proofs.PlacingLemmas.{combined_at, combined_constant, one_placed, whole_placed, part_counts, none_case}
 use Rattle.sm_exact.proofs.placing.placed.Goals as goal

@@ -1,6 +1,5 @@
 -- The parts from here on are over their places.
-use Rattle.std.proofs.Common.{◌≡◌, ◌≤◌, length, drop, pos}
-use Rattle.sm_exact.specs.Placing.{ArePlaced}
+use Rattle.sm_exact.proofs.Imports.{◌≡◌, ◌≤◌, length, drop, pos, ArePlaced}
 use Rattle.sm_exact.proofs.placing.placed.Given as goal
 
 abbrev pub invariant-loop-left : goal.invariant-loop-left

@@ -1,7 +1,5 @@
 -- The form of one more fact is there, or the fact has an atom without a place.
-use Rattle.std.proofs.Common.{List, take, subst}
-use Rattle.sm_theory.specs.declared.fact.Fact.{Fact}
-use Rattle.sm_exact.specs.Placing.{ArePlacedForms, SomeLacksPlace}
+use Rattle.sm_exact.proofs.Imports.{List, take, subst, Fact, ArePlacedForms, SomeLacksPlace}
 use Rattle.sm_exact.proofs.PlacingLemmas.{facts_more, fact_lacks}
 use Rattle.sm_exact.proofs.placing.placed_forms.Goals as goal
 

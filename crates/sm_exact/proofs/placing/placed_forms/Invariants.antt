@@ -1,6 +1,5 @@
 -- The forms of the facts so far are there.
-use Rattle.std.proofs.Common.{take}
-use Rattle.sm_exact.specs.Placing.{ArePlacedForms}
+use Rattle.sm_exact.proofs.Imports.{take, ArePlacedForms}
 use Rattle.sm_exact.proofs.placing.placed_forms.Given as goal
 
 abbrev pub invariant-loop-fact : goal.invariant-loop-fact

@@ -1,8 +1,4 @@
-use Rattle.std.proofs.Common.{◌++◌, ◌+◌, ℕ, map, drop, refl, ◌∙◌}
-use Rattle.sm_num.specs.Forms.{Linear}
-use Rattle.sm_omega.specs.Counting.{Item, Count, Entered, entered}
-use Rattle.sm_omega.specs.Inequalities.{shadow}
-use Rattle.sm_exact.specs.Entries.{before}
+use Rattle.sm_exact.proofs.Imports.{◌++◌, ◌+◌, ℕ, map, drop, refl, ◌∙◌, Linear, Item, Count, Entered, entered, shadow, before}
 use Rattle.sm_exact.proofs.EntryLemmas.{goes_list}
 use Rattle.sm_exact.proofs.ShadowsLemmas.{row_turn, row_end, going_same}
 use Rattle.sm_exact.proofs.shadows.enter_row.Goals as goal

@@ -1,8 +1,5 @@
 -- The shadows so far have entered.
-use Rattle.std.proofs.Common.{◌≡◌, ◌++◌, List, map, drop}
-use Rattle.sm_omega.specs.Counting.{Item, Count, entered}
-use Rattle.sm_omega.specs.Inequalities.{shadow}
-use Rattle.sm_exact.specs.Entries.{before}
+use Rattle.sm_exact.proofs.Imports.{◌≡◌, ◌++◌, List, map, drop, Item, Count, entered, shadow, before}
 use Rattle.sm_exact.proofs.shadows.enter_row.Given as goal
 
 abbrev pub invariant-loop-u : goal.invariant-loop-u

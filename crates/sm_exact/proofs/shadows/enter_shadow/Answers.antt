@@ -1,5 +1,4 @@
-use Rattle.std.proofs.Common.{◌+◌, add-one}
-use Rattle.sm_omega.specs.Inequalities.{shadow}
+use Rattle.sm_exact.proofs.Imports.{◌+◌, add-one, shadow}
 use Rattle.sm_exact.proofs.ShadowsLemmas.{count_passes, sum_enters}
 use Rattle.sm_exact.proofs.shadows.enter_shadow.Goals as goal
 

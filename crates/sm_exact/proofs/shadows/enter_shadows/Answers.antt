@@ -1,7 +1,4 @@
-use Rattle.std.proofs.Common.{◌+◌, drop, refl, ◌∙◌}
-use Rattle.sm_omega.specs.Counting.{Entered, entered}
-use Rattle.sm_omega.specs.Inequalities.{shadows}
-use Rattle.sm_exact.specs.Entries.{before}
+use Rattle.sm_exact.proofs.Imports.{◌+◌, drop, refl, ◌∙◌, Entered, entered, shadows, before}
 use Rattle.sm_exact.proofs.EntryLemmas.{goes_list, going_other}
 use Rattle.sm_exact.proofs.ShadowsLemmas.{rows_turn, rows_end}
 use Rattle.sm_exact.proofs.shadows.enter_shadows.Goals as goal

@@ -1,8 +1,5 @@
 -- The shadows so far have entered.
-use Rattle.std.proofs.Common.{◌≡◌, drop}
-use Rattle.sm_omega.specs.Counting.{entered}
-use Rattle.sm_omega.specs.Inequalities.{shadows}
-use Rattle.sm_exact.specs.Entries.{before}
+use Rattle.sm_exact.proofs.Imports.{◌≡◌, drop, entered, shadows, before}
 use Rattle.sm_exact.proofs.shadows.enter_shadows.Given as goal
 
 abbrev pub invariant-loop-l : goal.invariant-loop-l

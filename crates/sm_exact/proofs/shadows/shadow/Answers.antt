@@ -1,14 +1,8 @@
-use Rattle.std.proofs.Common.{ℤ, pos, neg_ℤ, ◌-ℤ◌, rules, refl, sym, subst, ◌∙◌}
-use Rattle.std.proofs.lemmas.Int.{to_z-of_z}
-use Rattle.std.proofs.lemmas.Result.{err_from_is_err_and}
-use Rattle.std.specs.Int.{w128}
+use Rattle.sm_exact.proofs.Imports.{ℤ, pos, neg_ℤ, ◌-ℤ◌, rules, refl, sym, subst, ◌∙◌, to_z-of_z, err_from_is_err_and, w128, Mul, Returns, neg_fits}
 use mir.Val.{SFits, to_z, of_z}
-use Rattle.sm_num.specs.declared.op.Op.TheVariants.{Mul}
-use Rattle.sm_num.specs.Errors.{Returns}
 use Rattle.sm_exact.proofs.BoundsLemmas.{less_one_fits, passed, zero_less_fits, passed_turned, passed_less}
 use Rattle.sm_exact.proofs.ShadowsLemmas.{shadow_fails, product_fails, shadow_ends, computed_in_range}
 use Rattle.sm_exact.proofs.shadows.shadow.Goals as goal
-use Rattle.sm_num.proofs.ResultsReduced.{neg_fits}
 
 pub overflow_sub-b : goal.overflow_sub-b
 overflow_sub-b c = zero_less_fits c.coefficient-b.result c.coefficient-b.ensures.range

@@ -1,6 +1,5 @@
 -- There is no lower bound so far.
-use Rattle.std.proofs.Common.{◌≡◌, drop}
-use Rattle.sm_omega.specs.Solving.{lower_bounds}
+use Rattle.sm_exact.proofs.Imports.{◌≡◌, drop, lower_bounds}
 use Rattle.sm_exact.proofs.splinters.find_lower.Given as goal
 
 abbrev pub invariant-loop-place : goal.invariant-loop-place

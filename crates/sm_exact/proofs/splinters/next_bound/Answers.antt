@@ -1,12 +1,5 @@
-use Rattle.std.proofs.Common.{◌≡◌, ◌<◌, ◌≤◌, ℕ, ℤ, pos, ◌-ℤ◌, true, length, get_or, drop, IsTrue, sym, ap, subst, refl, arith, add-one, ◌∙◌}
-use Rattle.std.proofs.lemmas.Result.{IfOk-weaker}
-use Rattle.std.specs.Int.{w128}
+use Rattle.sm_exact.proofs.Imports.{◌≡◌, ◌<◌, ◌≤◌, ℕ, ℤ, pos, ◌-ℤ◌, true, length, get_or, drop, IsTrue, sym, ap, subst, refl, arith, add-one, ◌∙◌, IfOk-weaker, w128, fits_form, Linear, at, bounds_below, lower_bounds, upper_bounds, greatest_at, TellsError}
 use mir.Val.{to_z, of_z}
-use Rattle.sm_num.specs.Range.{fits_form}
-use Rattle.sm_num.specs.Forms.{Linear}
-use Rattle.sm_omega.specs.Solving.{at, bounds_below, lower_bounds, upper_bounds}
-use Rattle.sm_omega.specs.Inequalities.{greatest_at}
-use Rattle.sm_exact.specs.Entries.{TellsError}
 use Rattle.sm_exact.proofs.BoundsLemmas.{passed, passed_turned, zero_less_fits}
 use Rattle.sm_exact.proofs.SplintersLemmas.{stands_none, stands_tried, stands_outside}
 use Rattle.sm_exact.proofs.splinters.next_bound.Goals as goal

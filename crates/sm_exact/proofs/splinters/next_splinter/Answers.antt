@@ -1,6 +1,4 @@
-use Rattle.std.proofs.Common.{subst, refl, arith, add-one}
-use Rattle.std.proofs.lemmas.Result.{IfOk-weaker}
-use Rattle.sm_exact.specs.Stack.{Awaits}
+use Rattle.sm_exact.proofs.Imports.{subst, refl, arith, add-one, IfOk-weaker, Awaits}
 use Rattle.sm_exact.proofs.SplintersLemmas.{left_none, stands_next}
 use Rattle.sm_exact.proofs.splinters.next_splinter.Goals as goal
 

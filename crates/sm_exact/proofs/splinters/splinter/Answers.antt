@@ -1,9 +1,5 @@
-use Rattle.std.proofs.Common.{◌^◌, lt-ltb, subst}
-use Rattle.std.proofs.lemmas.Int.{to_z_pos}
-use Rattle.std.proofs.lemmas.Result.{err_from_is_err_and}
-use Rattle.std.specs.Int.{w128}
+use Rattle.sm_exact.proofs.Imports.{◌^◌, lt-ltb, subst, to_z_pos, err_from_is_err_and, w128, Returns}
 use mir.Val.{to_z}
-use Rattle.sm_num.specs.Errors.{Returns}
 use Rattle.sm_exact.proofs.ShadowsLemmas.{splinter_ends}
 use Rattle.sm_exact.proofs.splinters.splinter.Goals as goal
 

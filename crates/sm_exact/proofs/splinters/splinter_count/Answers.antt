@@ -1,11 +1,7 @@
-use Rattle.std.proofs.Common.{◌≡◌, ◌<◌, ◌+◌, ◌^◌, ℕ, pos, nat_abs, int_lt, true, false, rules, sym, subst, arith}
-use Rattle.std.proofs.lemmas.Int.{to_z-of_z}
-use Rattle.std.proofs.lemmas.Result.{err_from_is_err_and}
-use Rattle.std.specs.Int.{w128}
+use Rattle.sm_exact.proofs.Imports.{◌≡◌, ◌<◌, ◌+◌, ◌^◌, ℕ, pos, nat_abs, int_lt, true, false, rules, sym, subst, arith, to_z-of_z, err_from_is_err_and, w128, size_below}
 use mir.Val.{SFits, to_z, of_z}
 use Rattle.sm_exact.proofs.SplintersLemmas.{count_fails_first, count_fails_second, count_fails_third, count_is, numbers_below, numbers_above, few_above}
 use Rattle.sm_exact.proofs.splinters.splinter_count.Goals as goal
-use Rattle.sm_num.proofs.KeptForms.{size_below}
 
 pub returns-in_err-x : goal.returns-in_err-x
 returns-in_err-x c =

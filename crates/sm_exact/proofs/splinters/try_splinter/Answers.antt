@@ -1,5 +1,4 @@
-use Rattle.std.proofs.Common.{◌+◌, add-one, arith, ◌∙◌}
-use Rattle.sm_omega.specs.Inequalities.{splinter}
+use Rattle.sm_exact.proofs.Imports.{◌+◌, add-one, arith, ◌∙◌, splinter}
 use Rattle.sm_exact.proofs.SplintersLemmas.{splinter_passes, splinter_enters}
 use Rattle.sm_exact.proofs.splinters.try_splinter.Goals as goal
 

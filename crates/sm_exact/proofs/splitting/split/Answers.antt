@@ -1,7 +1,6 @@
-use Rattle.std.proofs.Common.{sym, subst, ◌∙◌, map-id}
+use Rattle.sm_exact.proofs.Imports.{sym, subst, ◌∙◌, map-id, Splits}
 use Rattle.std.proofs.lemmas.Iterator.Adapters.{YieldsList-from_vec}
 use Rattle.std.proofs.lemmas.Iterator.Consumers.{YieldsList-end}
-use Rattle.sm_exact.specs.Rows.{Splits}
 use Rattle.sm_exact.proofs.SplittingLemmas.{splits_more}
 use Rattle.sm_exact.proofs.splitting.split.Goals as goal
 

@@ -1,11 +1,6 @@
 -- A form more is the next of the list.
-use Rattle.std.proofs.Common.{◌≡◌, ◌+◌, ◌∙◌, nat_eq, Some, None, drop, sym, ap, rules}
-use Rattle.std.specs.HashMap.{get}
-use Rattle.std.proofs.lemmas.Result.{err_from_is_err_and}
-use Rattle.std.proofs.lemmas.Int.{to_z-of_z}
-use Rattle.std.specs.Int.{w128}
+use Rattle.sm_exact.proofs.Imports.{◌≡◌, ◌+◌, ◌∙◌, nat_eq, Some, None, drop, sym, ap, rules, get, err_from_is_err_and, to_z-of_z, w128, values_in, better}
 use mir.Val.{SFits}
-use Rattle.sm_exact.specs.Valued.{values_in, better}
 use Rattle.sm_exact.proofs.ValuesLemmas.{bound_behind, bound_all, turn_more, turn_skip, turn_fails, bound_end}
 use Rattle.sm_exact.proofs.values.bound_of.Goals as goal
 use Rattle.sm_exact.proofs.values.bound_of.Goals.{then-is_from+in_ok-z, else-is_from}

@@ -1,7 +1,5 @@
 -- The best bound so far, with those of the forms from here on, is that of all forms.
-use Rattle.std.proofs.Common.{◌≡◌, nat_eq, None, drop}
-use Rattle.std.specs.HashMap.{get}
-use Rattle.sm_exact.specs.Valued.{values_in}
+use Rattle.sm_exact.proofs.Imports.{◌≡◌, nat_eq, None, drop, get, values_in}
 use Rattle.sm_exact.proofs.ValuesLemmas.{bound_behind}
 use Rattle.sm_exact.proofs.values.bound_of.Given as goal
 

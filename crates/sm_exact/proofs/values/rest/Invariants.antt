@@ -1,10 +1,5 @@
 -- The sum so far, with the parts from here on, is that of all parts.
-use Rattle.std.proofs.Common.{◌≡◌, pos, nat_eq, drop}
-use Rattle.std.specs.HashMap.{get}
-use Rattle.sm_num.specs.Forms.{parts_without}
-use Rattle.sm_num.specs.FormLaws.{same_atom}
-use Rattle.sm_omega.specs.Solving.{sum_from}
-use Rattle.sm_exact.specs.Valued.{values_in}
+use Rattle.sm_exact.proofs.Imports.{◌≡◌, pos, nat_eq, drop, get, parts_without, same_atom, sum_from, values_in}
 use Rattle.sm_exact.proofs.values.rest.Given as goal
 
 abbrev pub invariant-loop-part : goal.invariant-loop-part

@@ -1,11 +1,6 @@
 -- The turns of loops, and what stands after them.
-use Rattle.std.proofs.Common.{◌≡◌, [], ◌∷◌, ◌++◌, map, sym, ◌∙◌}
-use Rattle.std.proofs.lemmas.Result.{IfOk-weaker}
-use Rattle.std.specs.Prelude.{Vec}
-use Rattle.std.specs.declared.alloc.Global.{Global}
-use Rattle.sm_expand.specs.NumberedPlans.{below, list_of}
-use Rattle.sm_expand.specs.Cursors.{numbered_at, Cursor}
-use Rattle.sm_expand.specs.Views.{numbered_plan, numbered_last, out-Plans}
+use Rattle.sm_expand.proofs.Imports.{◌≡◌, [], ◌∷◌, ◌++◌, map, sym, ◌∙◌, IfOk-weaker, Vec, Global, below, list_of, numbered_at, numbered_plan, numbered_last, out-Plans}
+use Rattle.sm_expand.specs.Cursors.{Cursor}
 use Rattle.sm_expand.proofs.RowsLemmas.{loop_below}
 use Rattle.sm_expand.proofs.cursor.below_last.Goals as goal
 

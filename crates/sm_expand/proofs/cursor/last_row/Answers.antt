@@ -1,7 +1,5 @@
 -- A copy that is none, and the counts of a block.
-use Rattle.std.proofs.Common.{rules, ◌≡◌, None, ap, ◌∙◌}
-use Rattle.sm_expand.specs.NumberedPlans.{NumberedPlan, node_over, head}
-use Rattle.sm_expand.specs.Views.{numbered_last}
+use Rattle.sm_expand.proofs.Imports.{rules, ◌≡◌, None, ap, ◌∙◌, NumberedPlan, node_over, head, numbered_last}
 use Rattle.sm_expand.proofs.PlanViews.{last_block}
 use Rattle.sm_expand.proofs.RowsLemmas.{no_fork}
 use Rattle.sm_expand.proofs.cursor.last_row.Goals as goal

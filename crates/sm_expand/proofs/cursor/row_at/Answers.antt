@@ -1,8 +1,5 @@
 -- The first simple node, or else the last node.
-use Rattle.std.proofs.Common.{sym, subst}
-use Rattle.sm_expand.specs.NumberedPlans.{NumberedNode, NumberedPlan, head, IsKeepReady}
-use Rattle.sm_expand.specs.Cursors.{IsRowOf}
-use Rattle.sm_expand.specs.Views.{numbered_last}
+use Rattle.sm_expand.proofs.Imports.{sym, subst, NumberedNode, NumberedPlan, head, IsKeepReady, IsRowOf, numbered_last}
 use Rattle.sm_expand.proofs.RowsLemmas.{first_simple, first_none}
 use Rattle.sm_expand.proofs.cursor.row_at.Goals as goal
 

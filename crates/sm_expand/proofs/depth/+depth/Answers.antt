@@ -1,8 +1,5 @@
 -- A plan is deeper by one than the deepest plan below its last node.
-use Rattle.std.proofs.Common.{◌-◌, nat_lt, List, map, sym, ap, ◌∙◌}
-use Rattle.sm_plan.specs.Plans.{branches, most_branches}
-use Rattle.sm_expand.specs.NumberedPlans.{plans_over, plans_before, Over}
-use Rattle.sm_expand.specs.Views.{numbered_plan, plan_in, Plan, out-Plans}
+use Rattle.sm_expand.proofs.Imports.{◌-◌, nat_lt, List, map, sym, ap, ◌∙◌, branches, most_branches, plans_over, plans_before, Over, numbered_plan, plan_in, Plan, out-Plans}
 use Rattle.sm_expand.proofs.DepthLemmas.{none_deep, none_allowed, first_deep, second_deep, fork_depth, loop_depth, block_depth, dead_depth, end_depth, next_flat, one_deep}
 use Rattle.sm_expand.proofs.depth.+depth.Goals as goal
 

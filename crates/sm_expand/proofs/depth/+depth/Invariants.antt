@@ -1,10 +1,5 @@
 -- One node less is allowed below each, and the plans so far aren't deep.
-use Rattle.std.proofs.Common.{◌≡◌, ◌+◌, ◌*◌, false, List, map, take, nat_lt}
-use Rattle.sm_syntax.specs.text.Sorts.{Sorts}
-use Rattle.sm_term.specs.Terms.{Tree}
-use Rattle.sm_plan.specs.Plans.{most_branches}
-use Rattle.sm_expand.specs.NumberedPlans.{plans_over, plans_before, Over}
-use Rattle.sm_expand.specs.Views.{numbered_plan}
+use Rattle.sm_expand.proofs.Imports.{◌≡◌, ◌+◌, ◌*◌, false, List, map, take, nat_lt, Sorts, Tree, most_branches, plans_over, plans_before, Over, numbered_plan}
 use Rattle.sm_expand.proofs.depth.+depth.Given as goal
 
 abbrev pub invariant-are_deep-loop-plan : goal.invariant-are_deep-loop-plan

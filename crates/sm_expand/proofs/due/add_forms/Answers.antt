@@ -1,7 +1,5 @@
 -- One formula more.
-use Rattle.std.proofs.Common.{sym, subst}
-use Rattle.sm_plan.specs.ReadyStates.{AreFormsReady}
-use Rattle.sm_plan.specs.Views.{forms_in}
+use Rattle.sm_expand.proofs.Imports.{sym, subst, AreFormsReady, forms_in}
 use Rattle.sm_expand.proofs.FormsLemmas.{form_added, ready_added}
 use Rattle.sm_expand.proofs.due.add_forms.Goals as goal
 

@@ -1,9 +1,5 @@
 -- The formulas so far stand behind the path.
-use Rattle.std.proofs.Common.{◌≡◌, List, ◌++◌, take}
-use Rattle.sm_syntax.specs.text.Sorts.{Sorts}
-use Rattle.sm_term.specs.Terms.{Tree}
-use Rattle.sm_plan.specs.Views.{forms_in}
-use Rattle.sm_plan.specs.ReadyStates.{AreFormsReady}
+use Rattle.sm_expand.proofs.Imports.{◌≡◌, List, ◌++◌, take, Sorts, Tree, forms_in, AreFormsReady}
 use Rattle.sm_expand.proofs.due.add_forms.Given as goal
 
 abbrev pub invariant-loop-f : goal.invariant-loop-f

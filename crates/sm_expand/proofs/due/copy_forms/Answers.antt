@@ -1,6 +1,5 @@
 -- A copy of ready formulas is ready.
-use Rattle.std.proofs.Common.{sym, subst}
-use Rattle.sm_plan.specs.ReadyStates.{AreFormsReady}
+use Rattle.sm_expand.proofs.Imports.{sym, subst, AreFormsReady}
 use Rattle.sm_expand.proofs.due.copy_forms.Goals as goal
 
 pub returns-clause-ready : goal.returns-clause-ready

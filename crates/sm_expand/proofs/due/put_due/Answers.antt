@@ -1,6 +1,5 @@
 -- One obligation more.
-use Rattle.std.proofs.Common.{sym, subst}
-use Rattle.sm_expand.specs.Views.{AreDuesReady}
+use Rattle.sm_expand.proofs.Imports.{sym, subst, AreDuesReady}
 use Rattle.sm_expand.proofs.FormsLemmas.{dues_append}
 use Rattle.sm_expand.proofs.due.put_due.Goals as goal
 

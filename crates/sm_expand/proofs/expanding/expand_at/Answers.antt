@@ -1,13 +1,6 @@
 -- What waits first is taken.
-use Rattle.std.proofs.Common.{◌≡◌, List, length, reverse, refl, sym, ap, ◌∙◌, subst}
-use Rattle.sm_term.specs.Tables.{trees_in, sorts_in}
+use Rattle.sm_expand.proofs.Imports.{◌≡◌, List, length, reverse, refl, sym, ap, ◌∙◌, subst, trees_in, sorts_in, forms_in, state_in, widens_same, widens_twice, Waiting, PlanFault, plan_in, FaultTells, outcome, IsReadyWith}
 use Rattle.sm_plan.specs.Plans as plain
-use Rattle.sm_plan.specs.Views.{forms_in, state_in}
-use Rattle.sm_plan.proofs.TablesWiden.{widens_same, widens_twice}
-use Rattle.sm_expand.specs.declared.walk.Waiting.{Waiting}
-use Rattle.sm_expand.specs.declared.fault.PlanFault.{PlanFault}
-use Rattle.sm_expand.specs.Views.{plan_in, FaultTells}
-use Rattle.sm_expand.specs.Walks.{outcome, IsReadyWith}
 use Rattle.sm_expand.proofs.NodeTaken.{err_is}
 use Rattle.sm_expand.proofs.WholeLemmas.{popped, ended, no_items}
 use Rattle.sm_expand.proofs.expanding.expand_at.Goals as goal

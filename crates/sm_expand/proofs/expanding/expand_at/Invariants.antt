@@ -1,7 +1,6 @@
 -- What is asked and what waits is what the plan asks.
-use Rattle.std.proofs.Common.{◌≡◌, reverse}
-use Rattle.sm_term.specs.TableLaws.{ExtendsTable}
-use Rattle.sm_expand.specs.Walks.{outcome, weight, IsReadyWith}
+use Rattle.sm_expand.proofs.Imports.{◌≡◌, reverse, ExtendsTable, outcome, IsReadyWith}
+use Rattle.sm_expand.specs.Walks.{weight}
 use Rattle.sm_expand.proofs.expanding.expand_at.Given as goal
 
 abbrev pub invariant-loop-next : goal.invariant-loop-next

@@ -1,18 +1,10 @@
 -- Too many branching nodes are found first, over the table as it was.
-use Rattle.std.proofs.Common.{◌≡◌, Ok, sym, ◌∙◌, subst}
-use Rattle.std.proofs.lemmas.Result.{IfOk-weaker, IfErr-weaker}
-use Rattle.sm_syntax.specs.claim.ConflictFree.{Copy}
-use Rattle.sm_syntax.specs.text.Parts.{sorted_outputs}
+use Rattle.sm_expand.proofs.Imports.{◌≡◌, Ok, sym, ◌∙◌, subst, IfOk-weaker, IfErr-weaker, Copy, sorted_outputs, trees_in, sorts_in, branches, obligations, forms_in, state_in, PlanFault, numbered_plan, plan_in, dues_in, FaultTells}
 use Rattle.sm_syntax.specs.trees.Copies.{of_copy}
 use Rattle.sm_syntax.specs.trees.Programs.{declared_of, outputs_of}
 use Rattle.sm_syntax.specs.trees.Views.{code_of}
-use Rattle.sm_term.specs.Tables.{trees_in, sorts_in}
 use Rattle.sm_plan.specs.Plans as plain
-use Rattle.sm_plan.specs.Plans.{branches, obligations}
-use Rattle.sm_plan.specs.Views.{forms_in, state_in}
 use Rattle.sm_expand.specs.declared.due.Obligations.{Obligations}
-use Rattle.sm_expand.specs.declared.fault.PlanFault.{PlanFault}
-use Rattle.sm_expand.specs.Views.{numbered_plan, plan_in, dues_in, FaultTells}
 use Rattle.sm_expand.proofs.PlansWiden.{plan_stays, plan_ready}
 use Rattle.sm_expand.proofs.WholeLemmas.{too_deep, at_start}
 use Rattle.sm_expand.proofs.expanding.expand_whole.Goals as goal

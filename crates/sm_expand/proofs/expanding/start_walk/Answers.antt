@@ -1,12 +1,5 @@
 -- The state of the plan's first node waits.
-use Rattle.std.proofs.Common.{◌≡◌, List, [], ◌∷◌, ◌++◌, reverse, refl, sym, ap, ◌∙◌}
-use Rattle.sm_term.specs.Tables.{trees_in, sorts_in}
-use Rattle.sm_plan.specs.declared.state.Formulas.{Formulas}
-use Rattle.sm_plan.specs.Plans.{expand}
-use Rattle.sm_plan.specs.Views.{forms_in, state_in}
-use Rattle.sm_expand.specs.declared.walk.Waiting.{Waiting}
-use Rattle.sm_expand.specs.Views.{plan_in}
-use Rattle.sm_expand.specs.Walks.{outcome}
+use Rattle.sm_expand.proofs.Imports.{◌≡◌, List, [], ◌∷◌, ◌++◌, reverse, refl, sym, ap, ◌∙◌, trees_in, sorts_in, Formulas, expand, forms_in, state_in, Waiting, plan_in, outcome}
 use Rattle.sm_expand.proofs.WholeLemmas.{starts}
 use Rattle.sm_expand.proofs.expanding.start_walk.Goals as goal
 

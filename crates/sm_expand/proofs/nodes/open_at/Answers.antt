@@ -1,7 +1,5 @@
 -- A table that is cut back is as wide as before.
-use Rattle.std.proofs.Common.{◌∙◌, ap, take}
-use Rattle.sm_term.specs.Tables.{trees_in}
-use Rattle.sm_plan.proofs.TablesWiden.{widens_cut}
+use Rattle.sm_expand.proofs.Imports.{◌∙◌, ap, take, trees_in, widens_cut}
 use Rattle.sm_expand.proofs.nodes.open_at.Goals as goal
 
 pub returns-in-Err-clause-widens : goal.returns-in-Err-clause-widens

@@ -1,12 +1,5 @@
 -- A node that has no row, opens nothing, or opens other states than it has plans for.
-use Rattle.std.proofs.Common.{rules, ◌≡◌, Some, None, length, sym, ap, ◌∙◌}
-use Rattle.std.proofs.lemmas.List.{length-map}
-use Rattle.std.specs.Prelude.{option_map}
-use Rattle.sm_term.specs.Tables.{trees_in, sorts_in}
-use Rattle.sm_plan.specs.Nodes.{opened_by}
-use Rattle.sm_plan.specs.Views.{state_in, opened_in, successor_in}
-use Rattle.sm_expand.specs.NumberedPlans.{node_over, head}
-use Rattle.sm_expand.specs.Cursors.{numbered_at}
+use Rattle.sm_expand.proofs.Imports.{rules, ◌≡◌, Some, None, length, sym, ap, ◌∙◌, length-map, option_map, trees_in, sorts_in, opened_by, state_in, opened_in, successor_in, node_over, head, numbered_at}
 use Rattle.sm_expand.proofs.NodeOpened.{head_ready, none_opened, no_row, other_states}
 use Rattle.sm_expand.proofs.nodes.open_with.Goals as goal
 

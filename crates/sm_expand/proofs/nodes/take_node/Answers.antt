@@ -1,17 +1,6 @@
 -- What a node asks, and the states that follow it.
-use Rattle.std.proofs.Common.{◌≡◌, ℕ, suc, ◌∷◌, ◌++◌, take, reverse, sym, ap, ◌∙◌, subst, arith}
-use Rattle.std.specs.Prelude.{Vec}
-use Rattle.std.specs.declared.alloc.Global.{Global}
-use Rattle.sm_term.specs.Tables.{trees_in, sorts_in}
-use Rattle.sm_plan.specs.declared.state.Formulas.{Formulas}
-use Rattle.sm_plan.specs.ReadyStates.{AreFormsReady}
-use Rattle.sm_plan.specs.Views.{forms_in}
-use Rattle.sm_plan.specs.declared.opening.Opened.{Opened}
-use Rattle.sm_plan.proofs.TablesWiden.{forms_ready}
+use Rattle.sm_expand.proofs.Imports.{◌≡◌, ℕ, suc, ◌∷◌, ◌++◌, take, reverse, sym, ap, ◌∙◌, subst, arith, Vec, Global, trees_in, sorts_in, Formulas, AreFormsReady, forms_in, Opened, forms_ready, PlanFault, FaultTells, outcome, waits_with}
 use Rattle.sm_expand.specs.declared.cursor.Cursor.{Cursor}
-use Rattle.sm_expand.specs.declared.fault.PlanFault.{PlanFault}
-use Rattle.sm_expand.specs.Views.{FaultTells}
-use Rattle.sm_expand.specs.Walks.{outcome, waits_with}
 use Rattle.sm_expand.proofs.NodeTaken.{IsPathOf, taken, taken_ready, taken_fewer, fails, err_is}
 use Rattle.sm_expand.proofs.PlansWiden.{dues_ready}
 use Rattle.sm_expand.proofs.nodes.take_node.Goals as goal

@@ -1,8 +1,6 @@
 -- The states that are done wait, the first of them the last.
-use Rattle.std.proofs.Common.{◌≡◌, ◌++◌, List, length, reverse}
-use Rattle.sm_plan.specs.declared.opening.Successor.{Successor}
+use Rattle.sm_expand.proofs.Imports.{◌≡◌, ◌++◌, List, length, reverse, Successor, placed_with}
 use Rattle.sm_expand.specs.declared.cursor.Cursor.{Cursor}
-use Rattle.sm_expand.specs.PlacedStates.{placed_with}
 use Rattle.sm_expand.proofs.placed.put_states.Given as goal
 
 abbrev pub invariant-loop-next : goal.invariant-loop-next

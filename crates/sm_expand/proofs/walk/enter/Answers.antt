@@ -1,9 +1,5 @@
 -- The facts that are shared, and then the state's own.
-use Rattle.std.proofs.Common.{◌≡◌, List, ◌++◌, take, sym, ap, ◌∙◌, subst, append_assoc}
-use Rattle.std.proofs.lemmas.Result.{on_ok_weaker}
-use Rattle.sm_term.specs.Assertions.{Assertion}
-use Rattle.sm_plan.specs.ReadyStates.{AreFormsReady}
-use Rattle.sm_plan.specs.Views.{forms_in}
+use Rattle.sm_expand.proofs.Imports.{◌≡◌, List, ◌++◌, take, sym, ap, ◌∙◌, subst, append_assoc, on_ok_weaker, Assertion, AreFormsReady, forms_in}
 use Rattle.sm_expand.proofs.FormsLemmas.{forms_front, ready_front}
 use Rattle.sm_expand.proofs.walk.enter.Goals as goal
 

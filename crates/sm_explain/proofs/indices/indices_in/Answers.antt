@@ -1,11 +1,6 @@
 -- The indices of a copy's cells.
-use Rattle.std.proofs.Common.{◌≡◌, ℤ, pos, List, sym, ap, subst, ◌∙◌, inl, inr, ⊎_elim}
-use Rattle.sm_syntax.specs.claim.Stores.{Value, array}
-use Rattle.sm_eval.specs.Cells.{listed}
-use Rattle.sm_eval.specs.StoredValues.{meaning}
+use Rattle.sm_explain.proofs.Imports.{◌≡◌, ℤ, pos, List, sym, ap, subst, ◌∙◌, inl, inr, ⊎_elim, Value, array, listed, meaning, IsOf, Rise, firsts}
 use Rattle.sm_eval.specs.declared.store.Store as code
-use Rattle.sm_explain.specs.Indices.{IsOf, Rise}
-use Rattle.sm_explain.specs.Merging.{firsts}
 use Rattle.sm_explain.proofs.MergedCells.{rise_of, zero_or_of}
 use Rattle.sm_explain.proofs.indices.indices_in.Goals as goal
 

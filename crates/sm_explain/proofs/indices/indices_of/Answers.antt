@@ -1,8 +1,5 @@
 -- The indices of four lists.
-use Rattle.std.proofs.Common.{◌≡◌, ℤ, pos, List, subst}
-use Rattle.sm_syntax.specs.claim.ConflictFree.{Copy}
-use Rattle.sm_syntax.specs.claim.Keeps.{Element, content}
-use Rattle.sm_replay.specs.Runs.{end_in}
+use Rattle.sm_explain.proofs.Imports.{◌≡◌, ℤ, pos, List, subst, Copy, Element, content, end_in}
 use Rattle.sm_explain.proofs.MergedCells.{Within, of_four}
 use Rattle.sm_explain.proofs.indices.indices_of.Goals as goal
 

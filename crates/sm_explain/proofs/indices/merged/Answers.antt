@@ -1,7 +1,5 @@
 -- Index by index.
-use Rattle.std.proofs.Common.{◌≡◌, ◌++◌, [], ◌∷◌, ℤ, to_z, of_z, ap, ◌∙◌, drop, rules}
-use Rattle.std.specs.Int.{w128}
-use Rattle.sm_explain.specs.Merging.{past}
+use Rattle.sm_explain.proofs.Imports.{◌≡◌, ◌++◌, [], ◌∷◌, ℤ, to_z, of_z, ap, ◌∙◌, drop, rules, w128, past}
 use Rattle.sm_explain.proofs.MergedLists.{turn, turn_smaller, all_left, all_right}
 use Rattle.sm_explain.proofs.indices.merged.Goals as goal
 

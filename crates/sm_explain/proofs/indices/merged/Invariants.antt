@@ -1,6 +1,5 @@
 -- What is merged so far, and what is left of the two lists.
-use Rattle.std.proofs.Common.{◌+◌, length, drop}
-use Rattle.sm_explain.specs.Merging.{AreMerging}
+use Rattle.sm_explain.proofs.Imports.{◌+◌, length, drop, AreMerging}
 use Rattle.sm_explain.proofs.indices.merged.Given as goal
 
 abbrev pub invariant-loop-i : goal.invariant-loop-i

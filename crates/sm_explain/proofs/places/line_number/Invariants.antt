@@ -1,6 +1,5 @@
 -- The line feeds so far.
-use Rattle.std.proofs.Common.{◌≡◌, ◌+◌, ◌≤◌, take}
-use Rattle.sm_explain.specs.Places.{line_feeds}
+use Rattle.sm_explain.proofs.Imports.{◌≡◌, ◌+◌, ◌≤◌, take, line_feeds}
 use Rattle.sm_explain.proofs.places.line_number.Given as goal
 
 abbrev pub invariant-loop-k : goal.invariant-loop-k

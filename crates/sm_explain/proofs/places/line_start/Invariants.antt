@@ -1,6 +1,5 @@
 -- The line of the place so far.
-use Rattle.std.proofs.Common.{◌≤◌}
-use Rattle.sm_explain.specs.Places.{StartsLine, HasNoFeed}
+use Rattle.sm_explain.proofs.Imports.{◌≤◌, StartsLine, HasNoFeed}
 use Rattle.sm_explain.proofs.places.line_start.Given as goal
 
 abbrev pub invariant-loop-k : goal.invariant-loop-k

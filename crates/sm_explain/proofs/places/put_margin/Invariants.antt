@@ -1,6 +1,5 @@
 -- The blanks so far.
-use Rattle.std.proofs.Common.{◌≡◌, ◌++◌, map, take}
-use Rattle.sm_explain.specs.Places.{blank_under}
+use Rattle.sm_explain.proofs.Imports.{◌≡◌, ◌++◌, map, take, blank_under}
 use Rattle.sm_explain.proofs.places.put_margin.Given as goal
 
 abbrev pub invariant-loop-byte : goal.invariant-loop-byte

@@ -1,7 +1,5 @@
 -- Part by part.
-use Rattle.std.proofs.Common.{◌≡◌, to_z, of_z, sym, ◌∙◌, rules}
-use Rattle.std.specs.Int.{w128}
-use Rattle.sm_replay.specs.Runs.{end_in}
+use Rattle.sm_explain.proofs.Imports.{◌≡◌, to_z, of_z, sym, ◌∙◌, rules, w128, end_in}
 use Rattle.sm_replay.specs.Verdicts.{cell_of}
 use Rattle.sm_explain.proofs.RowsSound.{rows_put}
 use Rattle.sm_explain.proofs.rows.put_rows.Goals as goal

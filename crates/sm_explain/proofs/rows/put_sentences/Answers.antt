@@ -1,8 +1,5 @@
 -- Clause by clause.
-use Rattle.std.proofs.Common.{ℤ, to_z, of_z, ◌∙◌}
-use Rattle.std.proofs.lemmas.Int.{to_z-of_z}
-use Rattle.std.specs.Int.{w128}
-use Rattle.sm_explain.specs.Rows.{loses_change, adds_change, said_if, words_of_a, words_of_b, words_of_candidate}
+use Rattle.sm_explain.proofs.Imports.{ℤ, to_z, of_z, ◌∙◌, to_z-of_z, w128, loses_change, adds_change, said_if, words_of_a, words_of_b, words_of_candidate}
 use Rattle.sm_explain.proofs.RowsSound.{put_three, lost_same, added_same, said}
 use Rattle.sm_explain.proofs.rows.put_sentences.Goals as goal
 

@@ -1,8 +1,5 @@
 -- Value by value.
-use Rattle.std.proofs.Common.{◌++◌, codes, ℤ, ap, ◌∙◌}
-use Rattle.std.proofs.lemmas.Int.{to_z-of_z}
-use Rattle.std.specs.Int.{w128}
-use Rattle.sm_explain.specs.Rows.{labelled}
+use Rattle.sm_explain.proofs.Imports.{◌++◌, codes, ℤ, ap, ◌∙◌, to_z-of_z, w128, labelled}
 use Rattle.sm_explain.proofs.RowsSound.{put_five}
 use Rattle.sm_explain.proofs.rows.put_values.Goals as goal
 

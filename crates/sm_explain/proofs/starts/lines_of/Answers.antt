@@ -1,11 +1,5 @@
 -- Name by name.
-use Rattle.std.proofs.Common.{◌≢◌, ◌+◌, None, take, get_or, sym, subst}
-use Rattle.sm_syntax.specs.declared.tree.Name.{Name}
-use Rattle.sm_syntax.specs.text.Sorts.{Sorts}
-use Rattle.sm_syntax.specs.declared.tree.Sort.{Sort}
-use Rattle.sm_syntax.specs.declared.tree.Sort.TheVariants.{Num}
-use Rattle.sm_eval.specs.StoredValues.{meaning}
-use Rattle.sm_explain.specs.Starts.{numbered, AreStartLines}
+use Rattle.sm_explain.proofs.Imports.{◌≢◌, ◌+◌, None, take, get_or, sym, subst, Name, Sorts, Sort, Num, meaning, numbered, AreStartLines}
 use Rattle.sm_explain.proofs.StartNames.{names_more, names_all, declared_sort}
 use Rattle.sm_explain.proofs.starts.lines_of.Goals as goal
 

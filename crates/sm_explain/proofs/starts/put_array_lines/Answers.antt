@@ -1,7 +1,4 @@
-use Rattle.std.proofs.Common.{refl, sym, subst}
-use Rattle.sm_syntax.specs.claim.Stores.{Value}
-use Rattle.sm_explain.specs.Merging.{Grows}
-use Rattle.sm_explain.specs.Starts.{element_lines, AreValueLines}
+use Rattle.sm_explain.proofs.Imports.{refl, sym, subst, Value, Grows, element_lines, AreValueLines}
 use Rattle.sm_explain.proofs.starts.put_array_lines.Goals as goal
 
 pub returns : goal.returns

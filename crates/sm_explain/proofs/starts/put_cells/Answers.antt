@@ -1,7 +1,5 @@
 -- Cell by cell.
-use Rattle.std.proofs.Common.{◌++◌, ℤ, pos}
-use Rattle.sm_syntax.specs.claim.Keeps.{Element}
-use Rattle.sm_explain.specs.Starts.{start_line, element_lines}
+use Rattle.sm_explain.proofs.Imports.{◌++◌, ℤ, pos, Element, start_line, element_lines}
 use Rattle.sm_explain.proofs.Pieces.{pieces_more, pieces_all}
 use Rattle.sm_explain.proofs.starts.put_cells.Goals as goal
 

@@ -1,6 +1,5 @@
 -- The lines of the cells so far, and of those that are left.
-use Rattle.std.proofs.Common.{◌≡◌, ◌++◌, drop}
-use Rattle.sm_explain.specs.Starts.{element_lines}
+use Rattle.sm_explain.proofs.Imports.{◌≡◌, ◌++◌, drop, element_lines}
 use Rattle.sm_explain.proofs.starts.put_cells.Given as goal
 
 abbrev pub invariant-loop-c : goal.invariant-loop-c

@@ -1,9 +1,4 @@
-use Rattle.std.proofs.Common.{◌≡◌, ◌++◌, ℤ, to_z, of_z, refl, sym, ap, subst, ◌∙◌, rules}
-use Rattle.std.specs.Int.{w128}
-use Rattle.sm_syntax.specs.claim.Keeps.{Scalar}
-use Rattle.sm_syntax.specs.claim.Stores.{Value}
-use Rattle.sm_explain.specs.Merging.{Grows}
-use Rattle.sm_explain.specs.Starts.{start_line, AreValueLines}
+use Rattle.sm_explain.proofs.Imports.{◌≡◌, ◌++◌, ℤ, to_z, of_z, refl, sym, ap, subst, ◌∙◌, rules, w128, Scalar, Value, Grows, start_line, AreValueLines}
 use Rattle.sm_explain.proofs.starts.put_number_line.Goals as goal
 
 pub returns : goal.returns

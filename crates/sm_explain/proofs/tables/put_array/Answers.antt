@@ -1,8 +1,5 @@
 -- The lines at all indices are those at which the ends differ.
-use Rattle.std.proofs.Common.{sym, subst}
-use Rattle.sm_replay.specs.Runs.{end_in}
-use Rattle.sm_explain.specs.Indices.{Rise}
-use Rattle.sm_explain.specs.Tables.{element_rows}
+use Rattle.sm_explain.proofs.Imports.{sym, subst, end_in, Rise, element_rows}
 use Rattle.sm_explain.proofs.DifferentCells.{Covers, are_rows}
 use Rattle.sm_explain.proofs.tables.put_array.Goals as goal
 

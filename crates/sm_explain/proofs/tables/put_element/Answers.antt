@@ -1,8 +1,4 @@
-use Rattle.std.proofs.Common.{◌≡◌, ◌++◌, ℤ, to_z, of_z, ap, ◌∙◌, rules}
-use Rattle.std.specs.Int.{w128}
-use Rattle.sm_syntax.specs.claim.Keeps.{Element}
-use Rattle.sm_replay.specs.Runs.{end_in}
-use Rattle.sm_explain.specs.Rows.{cell_rows}
+use Rattle.sm_explain.proofs.Imports.{◌≡◌, ◌++◌, ℤ, to_z, of_z, ap, ◌∙◌, rules, w128, Element, end_in, cell_rows}
 use Rattle.sm_explain.proofs.tables.put_element.Goals as goal
 
 pub returns : goal.returns

@@ -1,9 +1,5 @@
 -- Cell by cell.
-use Rattle.std.proofs.Common.{◌++◌, ℤ, pos}
-use Rattle.sm_syntax.specs.claim.Keeps.{Element}
-use Rattle.sm_replay.specs.Runs.{end_in}
-use Rattle.sm_explain.specs.Rows.{cell_rows}
-use Rattle.sm_explain.specs.Tables.{element_rows}
+use Rattle.sm_explain.proofs.Imports.{◌++◌, ℤ, pos, Element, end_in, cell_rows, element_rows}
 use Rattle.sm_explain.proofs.Pieces.{pieces_more, pieces_all}
 use Rattle.sm_explain.proofs.tables.put_elements.Goals as goal
 

@@ -1,7 +1,5 @@
 -- The lines of the cells so far, and of those that are left.
-use Rattle.std.proofs.Common.{◌≡◌, ◌++◌, drop}
-use Rattle.sm_replay.specs.Runs.{end_in}
-use Rattle.sm_explain.specs.Tables.{element_rows}
+use Rattle.sm_explain.proofs.Imports.{◌≡◌, ◌++◌, drop, end_in, element_rows}
 use Rattle.sm_explain.proofs.tables.put_elements.Given as goal
 
 abbrev pub invariant-loop-i : goal.invariant-loop-i

@@ -1,7 +1,4 @@
-use Rattle.std.proofs.Common.{refl}
-use Rattle.sm_syntax.specs.claim.Keeps.{Scalar}
-use Rattle.sm_replay.specs.Runs.{end_in}
-use Rattle.sm_explain.specs.Rows.{cell_rows}
+use Rattle.sm_explain.proofs.Imports.{refl, Scalar, end_in, cell_rows}
 use Rattle.sm_explain.proofs.tables.put_number.Goals as goal
 
 pub returns : goal.returns

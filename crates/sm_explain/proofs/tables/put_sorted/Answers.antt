@@ -1,11 +1,5 @@
 -- A name that isn't declared has no lines.
-use Rattle.std.proofs.Common.{[], Option, sym, subst, append-nil}
-use Rattle.std.specs.Option.{unwrap_or}
-use Rattle.sm_syntax.specs.declared.tree.Sort.{Sort}
-use Rattle.sm_syntax.specs.declared.tree.Sort.TheVariants.{Num}
-use Rattle.sm_replay.specs.Runs.{end_in, HaveSort}
-use Rattle.sm_explain.specs.Merging.{Grows}
-use Rattle.sm_explain.specs.Tables.{AreOutputRows}
+use Rattle.sm_explain.proofs.Imports.{[], Option, sym, subst, append-nil, unwrap_or, Sort, Num, end_in, HaveSort, Grows, AreOutputRows}
 use Rattle.sm_explain.proofs.TableOutputs.{undeclared_rows}
 use Rattle.sm_explain.proofs.tables.put_sorted.Goals as goal
 

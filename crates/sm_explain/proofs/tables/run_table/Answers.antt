@@ -1,18 +1,9 @@
 -- The ends of the filled programs are those of the task's.
-use Rattle.std.proofs.Common.{List, subst, ◌∙◌}
-use Rattle.sm_syntax.specs.declared.tree.Name.{Name}
-use Rattle.sm_syntax.specs.claim.ConflictFree.{Copy, O, program_of}
-use Rattle.sm_syntax.specs.claim.Syntax.{Code}
-use Rattle.sm_syntax.specs.text.Parts.{task_of}
-use Rattle.sm_syntax.specs.text.Sorts.{Sorts}
+use Rattle.sm_explain.proofs.Imports.{List, subst, ◌∙◌, Name, Copy, O, program_of, Code, task_of, Sorts, parts_of, meaning, sorts_of, end_in, AreRows}
 use Rattle.sm_syntax.specs.trees.Programs.{declared_of}
-use Rattle.sm_task.specs.Tasks.{parts_of}
-use Rattle.sm_eval.specs.StoredValues.{meaning, sorts_of}
-use Rattle.sm_replay.specs.Runs.{end_in}
 use Rattle.sm_replay.specs.Violations.{AreEnds}
 use Rattle.sm_replay.proofs.RunnableTasks.{filled_sorted, sorted_runs}
 use Rattle.sm_replay.proofs.RunsSound.{same_sorts}
-use Rattle.sm_explain.specs.Tables.{AreRows}
 use Rattle.sm_explain.proofs.TableOutputs.{sorted, of_filled}
 use Rattle.sm_explain.proofs.tables.run_table.Goals as goal
 

@@ -1,11 +1,6 @@
 -- The filled programs are those of the task.
 use Rattle.std.specs.Result.{IfErr}
-use Rattle.sm_syntax.specs.claim.ConflictFree.{Copy, program_of}
-use Rattle.sm_syntax.specs.claim.Syntax.{Code}
-use Rattle.sm_syntax.specs.text.Parts.{task_of}
-use Rattle.sm_task.specs.Tasks.{parts_of}
-use Rattle.sm_eval.specs.StoredValues.{meaning}
-use Rattle.sm_replay.specs.Runs.{Halts}
+use Rattle.sm_explain.proofs.Imports.{Copy, program_of, Code, task_of, parts_of, meaning, Halts}
 use Rattle.sm_explain.proofs.TableOutputs.{of_filled}
 use Rattle.sm_explain.proofs.tables.table.Goals as goal
 

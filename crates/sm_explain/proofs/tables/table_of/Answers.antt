@@ -1,9 +1,5 @@
 -- Output by output.
-use Rattle.std.proofs.Common.{◌+◌, take, sym, subst}
-use Rattle.sm_syntax.specs.declared.tree.Name.{Name}
-use Rattle.sm_eval.specs.StoredValues.{sorts_of}
-use Rattle.sm_replay.specs.Runs.{end_in}
-use Rattle.sm_explain.specs.Tables.{AreRows}
+use Rattle.sm_explain.proofs.Imports.{◌+◌, take, sym, subst, Name, sorts_of, end_in, AreRows}
 use Rattle.sm_explain.proofs.TableOutputs.{sorted, outputs_more, outputs_all}
 use Rattle.sm_explain.proofs.tables.table_of.Goals as goal
 

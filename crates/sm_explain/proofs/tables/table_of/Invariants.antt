@@ -1,8 +1,5 @@
 -- The lines of the outputs so far.
-use Rattle.std.proofs.Common.{take}
-use Rattle.sm_eval.specs.StoredValues.{sorts_of}
-use Rattle.sm_replay.specs.Runs.{end_in}
-use Rattle.sm_explain.specs.Tables.{AreRows}
+use Rattle.sm_explain.proofs.Imports.{take, sorts_of, end_in, AreRows}
 use Rattle.sm_explain.proofs.TableOutputs.{sorted}
 use Rattle.sm_explain.proofs.tables.table_of.Given as goal
 

@@ -1,17 +1,9 @@
 -- What is printed tells how many lines the file has that was written.
-use Rattle.std.proofs.Common.{◌≡◌, ◌∙◌, ◌⊎◌, ℕ, List, Option, IfOk, IfSome, ap, subst}
+use Rattle.sm_files.proofs.Imports.{◌≡◌, ◌∙◌, ◌⊎◌, ℕ, List, Option, IfOk, IfSome, ap, subst, emptied, longer, Passes, subject_of, HasUsedLines, parts_of, HasVersion, Says, Accepted, WriteFault, line_count, trimmed_line}
 use Rattle.std.specs.Prelude.{Vec, codes}
 use Rattle.std.specs.declared.alloc.Global.{Global}
-use Rattle.sm_io.specs.Files.{emptied, longer}
-use Rattle.sm_proof.specs.Verdicts.{Passes, subject_of}
-use Rattle.sm_prune.specs.UsedLines.{HasUsedLines}
-use Rattle.sm_task.specs.Tasks.{parts_of}
-use Rattle.sm_write.specs.Versions.{HasVersion}
 use Rattle.sm_answers.specs.ProofFile.{IsBegun}
-use Rattle.sm_answers.specs.Status.{Says}
-use Rattle.sm_answers.specs.declared.status.Status.TheVariants.{Accepted, WriteFault}
 use Rattle.sm_files.proofs.TrimmedFiles.{put_told}
-use Rattle.sm_files.specs.Trim.{line_count, trimmed_line}
 use Rattle.sm_files.proofs.trimming.put_lean.Goals as goal
 
 pub returns-in_ok-trimmed_line-in-Some-clause-tells : goal.returns-in_ok-trimmed_line-in-Some-clause-tells

@@ -1,9 +1,7 @@
-use Rattle.std.proofs.Common.{rules, ◌∙◌, ℕ, List, subst}
-use Rattle.sm_task.specs.Tasks.{parts_of}
+use Rattle.sm_files.proofs.Imports.{rules, ◌∙◌, ℕ, List, subst, parts_of, AnswersTrim}
 use Rattle.sm_files.proofs.FilesLemmas.{cut_in, task_told}
 use Rattle.sm_files.proofs.TrimmedFiles.{trimmed_in}
 use Rattle.sm_files.proofs.TrimmedRead.{none_trimmed, trims_by_reads, trims_read_proof}
-use Rattle.sm_files.specs.Trim.{AnswersTrim}
 use Rattle.sm_files.proofs.trimming.trim_in.Goals as goal
 
 pub returns-clause-ok : goal.returns-clause-ok

@@ -1,8 +1,5 @@
 -- The form's place is listed where the form is put after the others.
-use Rattle.std.proofs.Common.{◌≡◌, ℕ, List, length, Result, Ok, Err, sym, ap, subst, ◌∙◌, arith}
-use Rattle.std.specs.Result.{OnOk, OnErr}
-use Rattle.sm_num.specs.Forms.{Linear}
-use Rattle.sm_fm.specs.Firsts.{beginnings, BeginsAt}
+use Rattle.sm_fm.proofs.Imports.{◌≡◌, ℕ, List, length, Result, Ok, Err, sym, ap, subst, ◌∙◌, arith, OnOk, OnErr, Linear, beginnings, BeginsAt}
 use Rattle.sm_fm.proofs.FirstLemmas.{put_listed, put_nothing, put_past, lists_count, listed_grows}
 use Rattle.sm_fm.proofs.entry.enter.Goals as goal
 

@@ -1,6 +1,5 @@
 -- The forms so far are listed.
-use Rattle.std.proofs.Common.{take}
-use Rattle.sm_fm.specs.Firsts.{ListsFirsts}
+use Rattle.sm_fm.proofs.Imports.{take, ListsFirsts}
 use Rattle.sm_fm.proofs.firsts.list_firsts.Given as goal
 
 abbrev pub invariant-loop-place : goal.invariant-loop-place

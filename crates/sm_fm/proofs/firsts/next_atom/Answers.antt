@@ -1,6 +1,4 @@
-use Rattle.std.proofs.Common.{◌≡◌, ◌≢◌, ⊎_elim, [], get_or, ap, ◌∙◌, arith, tests}
-use Rattle.std.proofs.lemmas.Bool.{cases_eq}
-use Rattle.sm_fm.specs.Firsts.{lists_in}
+use Rattle.sm_fm.proofs.Imports.{◌≡◌, ◌≢◌, ⊎_elim, [], get_or, ap, ◌∙◌, arith, tests, cases_eq, lists_in}
 use Rattle.sm_fm.proofs.FirstLemmas.{empty_list}
 use Rattle.sm_fm.proofs.firsts.next_atom.Goals as goal
 

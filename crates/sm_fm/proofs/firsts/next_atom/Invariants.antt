@@ -1,6 +1,5 @@
 -- No form begins with an atom so far.
-use Rattle.std.proofs.Common.{◌≡◌, ◌<◌, ℕ, [], get_or}
-use Rattle.sm_fm.specs.Firsts.{lists_in}
+use Rattle.sm_fm.proofs.Imports.{◌≡◌, ◌<◌, ℕ, [], get_or, lists_in}
 use Rattle.sm_fm.proofs.firsts.next_atom.Given as goal
 
 abbrev pub invariant-loop-next : goal.invariant-loop-next

@@ -1,6 +1,5 @@
 -- So many atoms have a list.
-use Rattle.std.proofs.Common.{[]}
-use Rattle.sm_fm.specs.Firsts.{ListsFirsts}
+use Rattle.sm_fm.proofs.Imports.{[], ListsFirsts}
 use Rattle.sm_fm.proofs.firsts.no_places.Given as goal
 
 abbrev pub invariant-loop-atom : goal.invariant-loop-atom

@@ -1,11 +1,5 @@
 -- The next form is known, too.
-use Rattle.std.proofs.Common.{◌||◌, ◌∷◌, ◌++◌, [], ℕ, Bool, take, sym, ap, ◌∙◌}
-use Rattle.std.specs.List.{list_any}
-use Rattle.std.proofs.lemmas.List.{take_more}
-use Rattle.std.proofs.lemmas.List.Folds.{list_any-append}
-use Rattle.sm_num.specs.Forms.{Linear}
-use Rattle.sm_fm.specs.Elimination.{same_form}
-use Rattle.sm_fm.specs.Known.{knows}
+use Rattle.sm_fm.proofs.Imports.{◌||◌, ◌∷◌, ◌++◌, [], ℕ, Bool, take, sym, ap, ◌∙◌, list_any, take_more, list_any-append, Linear, same_form, knows}
 use Rattle.sm_fm.proofs.KnowingLemmas.{or_turns, same_form-sym}
 use Rattle.sm_fm.proofs.known.know_all.Goals as goal
 

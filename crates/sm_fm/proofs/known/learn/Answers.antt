@@ -1,7 +1,5 @@
 -- The set says of each form whether it has it.
-use Rattle.std.proofs.Common.{◌≡◌, ◌||◌, Bool, true, false, cond, refl, ◌∙◌}
-use Rattle.sm_fm.specs.Elimination.{same_form}
-use Rattle.sm_fm.specs.Known.{knows}
+use Rattle.sm_fm.proofs.Imports.{◌≡◌, ◌||◌, Bool, true, false, cond, refl, ◌∙◌, same_form, knows}
 use Rattle.sm_fm.proofs.known.learn.Goals as goal
 
 chosen : (a b : Bool) → cond a true b ≡ (a || b)

@@ -1,13 +1,9 @@
 -- The part that was found has the coefficient, and past a later atom there is none.
-use Rattle.std.proofs.Common.{pos, get_or, rules, sym, ap, subst, ◌∙◌}
-use Rattle.std.proofs.lemmas.Int.{to_z-of_z}
+use Rattle.sm_fm.proofs.Imports.{pos, get_or, rules, sym, ap, subst, ◌∙◌, to_z-of_z, coefficient, AreParts, same_atom, coefficient_past}
 use Rattle.std.specs.Int.{w128}
 use mir.Val.{SFits}
-use Rattle.sm_num.specs.Forms.{coefficient, AreParts}
-use Rattle.sm_num.specs.FormLaws.{same_atom}
 use Rattle.sm_fm.proofs.roles.coefficient.Goals as goal
 use Rattle.sm_num.proofs.KeptForms.{coefficient_at}
-use Rattle.sm_num.proofs.OneForm.{coefficient_past}
 
 pub returns-then-part-t : goal.returns-then-part-t
 returns-then-part-t c =

@@ -1,7 +1,5 @@
 -- The coefficient is that among the parts from here on.
-use Rattle.std.proofs.Common.{◌≡◌, drop}
-use Rattle.sm_num.specs.Forms.{coefficient}
-use Rattle.sm_num.specs.FormLaws.{same_atom}
+use Rattle.sm_fm.proofs.Imports.{◌≡◌, drop, coefficient, same_atom}
 use Rattle.sm_fm.proofs.roles.coefficient.Given as goal
 
 abbrev pub invariant-loop-part : goal.invariant-loop-part

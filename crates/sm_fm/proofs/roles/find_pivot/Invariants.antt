@@ -1,6 +1,5 @@
 -- The pivot stands among the places from here on.
-use Rattle.std.proofs.Common.{◌≡◌, drop}
-use Rattle.sm_fm.specs.Places.{pivot_place}
+use Rattle.sm_fm.proofs.Imports.{◌≡◌, drop, pivot_place}
 use Rattle.sm_fm.proofs.roles.find_pivot.Given as goal
 
 abbrev pub invariant-loop-place : goal.invariant-loop-place

@@ -1,6 +1,5 @@
 -- The places so far are those chosen so far.
-use Rattle.std.proofs.Common.{◌≡◌, take}
-use Rattle.sm_fm.specs.Places.{places_of}
+use Rattle.sm_fm.proofs.Imports.{◌≡◌, take, places_of}
 use Rattle.sm_fm.proofs.roles.select.Given as goal
 
 abbrev pub invariant-loop-place : goal.invariant-loop-place

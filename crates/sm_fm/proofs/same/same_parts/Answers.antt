@@ -1,7 +1,5 @@
-use Rattle.std.proofs.lemmas.Bool.Decides.{same_from_decides}
+use Rattle.sm_fm.proofs.Imports.{same_from_decides, same_list, pair_decides, same_list-Decides}
 use Rattle.std.proofs.lemmas.Slice.Eq.{slice_eq-Decides}
-use Rattle.sm_fm.specs.Elimination.{same_list}
-use Rattle.sm_fm.specs.KnownLaws.{pair_decides, same_list-Decides}
 use Rattle.sm_fm.proofs.same.same_parts.Goals as goal
 
 pub returns : goal.returns

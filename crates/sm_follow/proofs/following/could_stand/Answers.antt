@@ -1,10 +1,5 @@
 -- What the reading of a text with a sample behind it tells of the kind.
-use Rattle.std.proofs.Common.{sym, subst}
-use Rattle.std.specs.Prelude.{Decides, IfOk}
-use Rattle.sm_follow.specs.Following.{behind_line, CouldStand, IsBegun}
-use Rattle.sm_follow.specs.Kinds.{sample}
-use Rattle.sm_follow.specs.Views.{NestsLast}
-use Rattle.sm_follow.specs.declared.kinds.Kind.{Kind}
+use Rattle.sm_follow.proofs.Imports.{sym, subst, Decides, IfOk, behind_line, CouldStand, IsBegun, sample, NestsLast, Kind}
 use Rattle.sm_follow.proofs.Samples.{mark_nests_last, name_nests_last, number_nests_last, text_nests_nowhere}
 use Rattle.sm_follow.proofs.following.could_stand.Goals as goal
 

@@ -1,9 +1,6 @@
 -- No fault leaves a task.
-use Rattle.std.proofs.Common.{subst}
+use Rattle.sm_follow.proofs.Imports.{subst, AreTasks, IsRefusal, TextError, whole_text}
 use Rattle.sm_text.specs.declared.error.TextError.TheVariants as error
-use Rattle.sm_text.specs.parsing.Places.{AreTasks, IsRefusal}
-use Rattle.sm_text.specs.declared.error.TextError.{TextError}
-use Rattle.sm_text.specs.parsing.Places.Sources.{whole_text}
 use Rattle.sm_follow.proofs.Judged.{falls_short}
 use Rattle.sm_follow.proofs.following.falls_short.Goals as goal
 

@@ -1,8 +1,5 @@
 -- What each fault tells.
-use Rattle.std.proofs.Common.{subst}
-use Rattle.sm_text.specs.parsing.Places.{AreTasks, IsRefusal}
-use Rattle.sm_text.specs.declared.error.TextError.{TextError}
-use Rattle.sm_text.specs.parsing.Places.Sources.{whole_text}
+use Rattle.sm_follow.proofs.Imports.{subst, AreTasks, IsRefusal, TextError, whole_text}
 use Rattle.sm_follow.proofs.Judged.{expected_decides, nested_decides}
 use Rattle.sm_follow.proofs.following.goes_on.Goals as goal
 

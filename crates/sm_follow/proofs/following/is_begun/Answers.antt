@@ -1,9 +1,5 @@
 -- By what the reading gives.
-use Rattle.std.proofs.Common.{Bool, Result, sym, subst}
-use Rattle.std.specs.Prelude.{Decides, IfOk}
-use Rattle.std.specs.declared.alloc.AllocError.{AllocError}
-use Rattle.sm_text.specs.Tasks.{parts_of}
-use Rattle.sm_follow.specs.Following.{IsBegun}
+use Rattle.sm_follow.proofs.Imports.{Bool, Result, sym, subst, Decides, IfOk, AllocError, parts_of, IsBegun}
 use Rattle.sm_follow.proofs.Judged.{begun_decides}
 use Rattle.sm_follow.proofs.following.is_begun.Goals as goal
 use Rattle.sm_follow.proofs.following.is_begun.Goals.{in-Err, in-Ok}

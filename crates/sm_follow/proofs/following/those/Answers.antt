@@ -1,6 +1,5 @@
 -- Kind by kind.
-use Rattle.std.proofs.Common.{◌+◌, [], take, sym, subst}
-use Rattle.sm_follow.specs.Following.{none, AreThose}
+use Rattle.sm_follow.proofs.Imports.{◌+◌, [], take, sym, subst, none, AreThose}
 use Rattle.sm_syntax.specs.declared.symbol.Mark.TheVariants.{Var}
 use Rattle.sm_follow.specs.declared.kinds.Kind.TheVariants.{Mark}
 use Rattle.sm_follow.proofs.Lines.{those_all, those_more}

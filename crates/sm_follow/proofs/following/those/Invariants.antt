@@ -1,6 +1,5 @@
 -- Those of the kinds so far.
-use Rattle.std.proofs.Common.{take}
-use Rattle.sm_follow.specs.Following.{AreThose}
+use Rattle.sm_follow.proofs.Imports.{take, AreThose}
 use Rattle.sm_follow.proofs.following.those.Given as goal
 
 abbrev pub invariant-loop-kind : goal.invariant-loop-kind

@@ -1,7 +1,4 @@
-use Rattle.std.proofs.Common.{ℕ, map, refl, ap, ◌∙◌, arith}
-use Rattle.sm_syntax.specs.declared.tree.Name.{Name}
-use Rattle.sm_syntax.specs.declared.tree.Sort.{Sort}
-use Rattle.sm_syntax.specs.declared.tree.Sort.TheVariants.{Num}
+use Rattle.sm_gen.proofs.Imports.{ℕ, map, refl, ap, ◌∙◌, arith, Name, Sort, Num}
 use Rattle.sm_gen.proofs.Counting.{push_more}
 use Rattle.sm_gen.proofs.building.decls.Goals as goal
 

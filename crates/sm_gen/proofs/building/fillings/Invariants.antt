@@ -1,8 +1,6 @@
-use Rattle.std.proofs.Common.{◌≡◌, map, take}
+use Rattle.sm_gen.proofs.Imports.{◌≡◌, map, take, code_of, filling_of}
 use Rattle.sm_syntax.specs.declared.program.Filling.{Filling}
 use Rattle.sm_syntax.specs.trees.Copies.{copy_named}
-use Rattle.sm_syntax.specs.trees.Views.{code_of}
-use Rattle.sm_gen.specs.Generating.{filling_of}
 use Rattle.sm_gen.proofs.building.fillings.Given as goal
 
 abbrev pub invariant-loop-edit : goal.invariant-loop-edit

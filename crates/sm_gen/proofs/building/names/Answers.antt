@@ -1,8 +1,4 @@
-use Rattle.std.proofs.Common.{map, length, ap, ◌∙◌, arith}
-use Rattle.std.proofs.lemmas.List.FromFn.{length-map-range_with_len}
-use Rattle.std.specs.List.{range_with_len}
-use Rattle.sm_syntax.specs.text.Symbols.{with_text}
-use Rattle.sm_gen.specs.Generating.{name_of}
+use Rattle.sm_gen.proofs.Imports.{map, length, ap, ◌∙◌, arith, length-map-range_with_len, range_with_len, with_text, name_of}
 use Rattle.sm_gen.proofs.NameTexts.{names_more}
 use Rattle.sm_gen.proofs.building.names.Goals as goal
 

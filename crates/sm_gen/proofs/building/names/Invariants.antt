@@ -1,6 +1,4 @@
-use Rattle.std.proofs.Common.{◌≡◌, map}
-use Rattle.std.specs.List.{range_with_len}
-use Rattle.sm_gen.specs.Generating.{name_of}
+use Rattle.sm_gen.proofs.Imports.{◌≡◌, map, range_with_len, name_of}
 use Rattle.sm_gen.proofs.building.names.Given as goal
 
 abbrev pub invariant-loop-number : goal.invariant-loop-number

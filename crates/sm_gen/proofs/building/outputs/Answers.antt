@@ -1,5 +1,4 @@
-use Rattle.std.proofs.Common.{ℕ, ◌+◌, map, ap, ◌∙◌, arith}
-use Rattle.sm_syntax.specs.declared.tree.Name.{Name}
+use Rattle.sm_gen.proofs.Imports.{ℕ, ◌+◌, map, ap, ◌∙◌, arith, Name}
 use Rattle.sm_gen.proofs.Counting.{push_number}
 use Rattle.sm_gen.proofs.building.outputs.Goals as goal
 

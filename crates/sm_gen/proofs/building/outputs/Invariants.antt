@@ -1,6 +1,4 @@
-use Rattle.std.proofs.Common.{◌≡◌, map}
-use Rattle.std.specs.List.{range_with_len}
-use Rattle.sm_syntax.specs.declared.tree.Name.{Name}
+use Rattle.sm_gen.proofs.Imports.{◌≡◌, map, range_with_len, Name}
 use Rattle.sm_gen.proofs.building.outputs.Given as goal
 
 abbrev pub invariant-loop-place : goal.invariant-loop-place

@@ -1,9 +1,6 @@
-use Rattle.std.proofs.Common.{◌≡◌, ℕ, ◌+◌, ap, ◌∙◌, arith}
-use Rattle.std.specs.List.{range_with_len}
-use Rattle.sm_syntax.specs.claim.Syntax.{End, Hole}
+use Rattle.sm_gen.proofs.Imports.{◌≡◌, ℕ, ◌+◌, ap, ◌∙◌, arith, range_with_len, End, Hole, counted, holes}
 use Rattle.sm_syntax.proofs.Appends.{append-End}
 use Rattle.sm_syntax.proofs.Blocks.{block_is}
-use Rattle.sm_gen.specs.Generating.{counted, holes}
 use Rattle.sm_gen.proofs.Counting.{holes_counted}
 use Rattle.sm_gen.proofs.building.shared_block.Goals as goal
 

@@ -1,8 +1,4 @@
-use Rattle.std.proofs.Common.{◌≡◌, map}
-use Rattle.std.specs.List.{range_with_len}
-use Rattle.sm_syntax.specs.claim.Syntax.{Code, append}
-use Rattle.sm_syntax.specs.trees.Views.{sequence, statement_of}
-use Rattle.sm_gen.specs.Generating.{counted, holes}
+use Rattle.sm_gen.proofs.Imports.{◌≡◌, map, range_with_len, Code, append, sequence, statement_of, counted, holes}
 use Rattle.sm_gen.proofs.building.shared_block.Given as goal
 
 abbrev pub invariant-loop-place : goal.invariant-loop-place

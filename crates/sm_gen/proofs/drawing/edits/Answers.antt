@@ -1,7 +1,4 @@
-use Rattle.std.proofs.Common.{◌+◌, List, [], ◌∷◌, ◌++◌, refl, sym, ap₂, ◌∙◌}
-use Rattle.std.proofs.lemmas.List.FromFn.{map-range_with_len_more}
-use Rattle.sm_gen.specs.Drawing.{edit_of}
-use Rattle.sm_gen.specs.declared.drawing.Edit.{Edit}
+use Rattle.sm_gen.proofs.Imports.{◌+◌, List, [], ◌∷◌, ◌++◌, refl, sym, ap₂, ◌∙◌, map-range_with_len_more, edit_of, Edit}
 use Rattle.sm_gen.proofs.Counting.{edit_drawn, drawn_twice}
 use Rattle.sm_gen.proofs.drawing.edits.Goals as goal
 

@@ -1,6 +1,4 @@
-use Rattle.std.proofs.Common.{◌≡◌, ◌<◌, ◌*◌, ◌^◌, map}
-use Rattle.std.specs.List.{range_with_len}
-use Rattle.sm_gen.specs.Drawing.{drawn, edit_of}
+use Rattle.sm_gen.proofs.Imports.{◌≡◌, ◌<◌, ◌*◌, ◌^◌, map, range_with_len, drawn, edit_of}
 use Rattle.sm_gen.proofs.drawing.edits.Given as goal
 
 abbrev pub invariant-loop-place : goal.invariant-loop-place

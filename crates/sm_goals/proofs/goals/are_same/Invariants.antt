@@ -1,6 +1,5 @@
 -- The formulas so far are the same.
-use Rattle.std.proofs.Common.{◌≡◌, take}
-use Rattle.sm_list.specs.Parts.{all_numbered}
+use Rattle.sm_goals.proofs.Imports.{◌≡◌, take, all_numbered}
 use Rattle.sm_goals.proofs.goals.are_same.Given as goal
 
 abbrev pub invariant-loop-n : goal.invariant-loop-n

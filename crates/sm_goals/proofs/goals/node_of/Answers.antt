@@ -1,9 +1,5 @@
 -- The node of the facts is one over the table that has grown.
-use Rattle.std.proofs.Common.{List, length, sym, subst}
-use Rattle.sm_term.specs.declared.formula.Formula.{Formula}
-use Rattle.sm_term.specs.Sorted.{AreFormsSorted}
-use Rattle.sm_term.specs.Tables.{trees_in, sorts_in}
-use Rattle.sm_list.specs.Parts.{all_numbered, assertions_in, AreFormulasWithin}
+use Rattle.sm_goals.proofs.Imports.{List, length, sym, subst, Formula, AreFormsSorted, trees_in, sorts_in, all_numbered, assertions_in, AreFormulasWithin}
 use Rattle.sm_goals.proofs.FormsLemmas.{forms_within, forms_sorted}
 use Rattle.sm_goals.proofs.NodesLemmas.{node_over}
 use Rattle.sm_goals.proofs.goals.node_of.Goals as goal

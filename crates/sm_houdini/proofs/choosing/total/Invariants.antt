@@ -1,7 +1,5 @@
 -- How many are chosen so far.
-use Rattle.std.proofs.Common.{◌≡◌, take}
-use Rattle.sm_houdini.specs.Marks.{rows}
-use Rattle.sm_houdini.specs.Rounds.{total}
+use Rattle.sm_houdini.proofs.Imports.{◌≡◌, take, rows, total}
 use Rattle.sm_houdini.proofs.choosing.total.Given as goal
 
 abbrev pub invariant-loop-numbers : goal.invariant-loop-numbers

@@ -1,15 +1,4 @@
-use Rattle.std.proofs.Common.{List, length, sym, subst, ◌∙◌, ap}
-use Rattle.std.specs.Prelude.{IfSome}
-use Rattle.sm_term.specs.Assertions.{Assertion}
-use Rattle.sm_term.specs.Formulas.{numbered, assertion_in}
-use Rattle.sm_term.specs.declared.formula.Formula.{Formula}
-use Rattle.sm_term.specs.Sorted.{AreFormsSorted}
-use Rattle.sm_term.specs.Tables.{trees_in, sorts_in}
-use Rattle.sm_list.specs.Parts.{all_numbered, assertions_in, AreFormulasWithin}
-use Rattle.sm_solve.specs.Sharing.{IsFactBase}
-use Rattle.sm_solve.specs.Walk.{walk}
-use Rattle.sm_houdini.specs.Closing.{closing}
-use Rattle.sm_goals.proofs.FormsLemmas.{forms_within, forms_same, forms_sorted}
+use Rattle.sm_houdini.proofs.Imports.{List, length, sym, subst, ◌∙◌, ap, IfSome, Assertion, numbered, assertion_in, Formula, AreFormsSorted, trees_in, sorts_in, all_numbered, assertions_in, AreFormulasWithin, IsFactBase, walk, closing, forms_within, forms_same, forms_sorted}
 use Rattle.sm_goals.proofs.NodesLemmas.{node_over}
 use Rattle.sm_houdini.proofs.closing.closes.Goals as goal
 

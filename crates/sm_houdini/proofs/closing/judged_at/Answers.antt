@@ -1,6 +1,4 @@
-use Rattle.std.proofs.Common.{◌+◌, length, zero-add, sym, ap, ◌∙◌}
-use Rattle.std.proofs.lemmas.List.{length-append}
-use Rattle.sm_plan.proofs.TablesWiden.{widens_twice, forms_ready}
+use Rattle.sm_houdini.proofs.Imports.{◌+◌, length, zero-add, sym, ap, ◌∙◌, length-append, widens_twice, forms_ready}
 use Rattle.sm_houdini.proofs.ClosingLemmas.{judged_step}
 use Rattle.sm_houdini.proofs.closing.judged_at.Goals as goal
 

@@ -1,11 +1,5 @@
 -- The marks so far, and the table has no fewer terms; the node is one over it.
-use Rattle.std.proofs.Common.{◌≡◌, length, take}
-use Rattle.sm_term.specs.Tables.{trees_in, sorts_in}
-use Rattle.sm_term.specs.TableLaws.{ExtendsTable}
-use Rattle.sm_expand.specs.Views.{due_in}
-use Rattle.sm_houdini.specs.Closing.{closes_at}
-use Rattle.sm_houdini.specs.Marks.{still_marked}
-use Rattle.sm_goals.specs.Nodes.{IsNodeOf}
+use Rattle.sm_houdini.proofs.Imports.{◌≡◌, length, take, trees_in, sorts_in, ExtendsTable, due_in, closes_at, still_marked, IsNodeOf}
 use Rattle.sm_houdini.proofs.closing.judged_at.Given as goal
 
 abbrev pub invariant-loop-mark : goal.invariant-loop-mark

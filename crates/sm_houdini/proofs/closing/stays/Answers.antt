@@ -1,12 +1,5 @@
-use Rattle.std.proofs.Common.{◌≡◌, Bool, ◌&&◌, Some, List, slice_get, sym, ap, ◌∙◌}
-use Rattle.std.proofs.lemmas.Option.{slice_get-get_or, slice_get_past}
-use Rattle.sm_term.specs.Formulas.{numbered, assertion_in}
-use Rattle.sm_term.specs.declared.formula.Formula.{Formula}
-use Rattle.sm_term.specs.Tables.{trees_in, sorts_in}
-use Rattle.sm_plan.specs.Views.{forms_in}
-use Rattle.sm_expand.specs.Views.{due_in}
-use Rattle.sm_houdini.specs.Closing.{closing, closes_at}
-use Rattle.sm_goals.proofs.FormsLemmas.{ready_found}
+use Rattle.sm_houdini.proofs.Imports.{◌≡◌, Bool, ◌&&◌, List, sym, ap, ◌∙◌, slice_get-get_or, slice_get_past, numbered, assertion_in, Formula, trees_in, sorts_in, forms_in, due_in, closing, closes_at, ready_found}
+use Rattle.std.proofs.Common.{Some, slice_get}
 use Rattle.sm_houdini.proofs.ClosingLemmas.{some_stays, none_stays, ok_map}
 use Rattle.sm_houdini.proofs.closing.stays.Goals as goal
 

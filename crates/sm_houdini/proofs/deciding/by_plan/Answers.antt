@@ -1,8 +1,7 @@
-use Rattle.std.proofs.Common.{subst}
+use Rattle.sm_houdini.proofs.Imports.{subst, sketch_of}
 use Rattle.sm_text.specs.Tasks.{parts_of}
 use Rattle.sm_sketch.specs.Errors.{TellsSketch}
 use Rattle.sm_sketch.specs.declared.error.ProductError.{ProductError}
-use Rattle.sm_product.specs.Products.{sketch_of}
 use Rattle.sm_product.proofs.LargeTasks.{large_task}
 use Rattle.sm_houdini.proofs.EndedLemmas.{too_many}
 use Rattle.sm_houdini.proofs.deciding.by_plan.Goals as goal

@@ -1,15 +1,7 @@
-use Rattle.std.proofs.Common.{List, [], sym, ap, ◌∙◌, subst}
-use Rattle.sm_syntax.specs.text.Parts.{sort_of, task_of}
+use Rattle.sm_houdini.proofs.Imports.{List, [], sym, ap, ◌∙◌, subst, sort_of, task_of, trees_in, sorts_in, obligations, widens_twice, plan_in, AreDuesReady, walk, closing, asked, AreInsideClosed, AreCollected, FinalCloses}
 use Rattle.sm_text.specs.Tasks.{parts_of}
-use Rattle.sm_term.specs.Tables.{trees_in, sorts_in}
-use Rattle.sm_plan.specs.Plans.{obligations}
-use Rattle.sm_plan.proofs.TablesWiden.{widens_twice}
 use Rattle.sm_expand.specs.declared.due.Due as program
-use Rattle.sm_expand.specs.Views.{plan_in, dues_in, AreDuesReady}
-use Rattle.sm_solve.specs.Walk.{walk}
-use Rattle.sm_houdini.specs.Closing.{closing}
-use Rattle.sm_houdini.specs.Certified.{asked}
-use Rattle.sm_houdini.specs.Collected.{AreInsideClosed, AreCollected, FinalCloses}
+use Rattle.sm_expand.specs.Views.{dues_in}
 use Rattle.sm_houdini.proofs.EndedLemmas.{dues_told, inside_closed, ended_stops, ended_accepts, none_collected, final_stop, final_close}
 use Rattle.sm_houdini.proofs.KeptLemmas.{kept_expands}
 use Rattle.sm_houdini.proofs.deciding.certified.Goals as goal

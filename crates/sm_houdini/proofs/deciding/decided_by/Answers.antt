@@ -1,6 +1,5 @@
-use Rattle.std.proofs.Common.{None, ap, ◌∙◌}
-use Rattle.sm_term.specs.Tables.{trees_in, sorts_in}
-use Rattle.sm_houdini.specs.Owners.{owners}
+use Rattle.sm_houdini.proofs.Imports.{ap, ◌∙◌, trees_in, sorts_in, owners}
+use Rattle.std.proofs.Common.{None}
 use Rattle.sm_houdini.proofs.deciding.decided_by.Goals as goal
 
 pub decided_if_small-requires-clause-knows : goal.decided_if_small-requires-clause-knows

@@ -1,13 +1,6 @@
-use Rattle.std.proofs.Common.{◌≡◌, true, false, None}
-use Rattle.std.proofs.lemmas.Option.{MatchOption-at_some}
-use Rattle.sm_syntax.specs.text.Parts.{sort_of}
-use Rattle.sm_syntax.specs.trees.Programs.{declared_of}
+use Rattle.sm_houdini.proofs.Imports.{◌≡◌, true, false, MatchOption-at_some, sort_of, declared_of, TemplateChoice, choice_in, is_small, closing, kept}
+use Rattle.std.proofs.Common.{None}
 use Rattle.sm_text.specs.Tasks.{parts_of}
-use Rattle.sm_sketch.specs.declared.kept.TemplateChoice.{TemplateChoice}
-use Rattle.sm_sketch.specs.ChoiceViews.{choice_in}
-use Rattle.sm_product.specs.Sizes.{is_small}
-use Rattle.sm_houdini.specs.Closing.{closing}
-use Rattle.sm_houdini.specs.Rounds.{kept}
 use Rattle.sm_houdini.proofs.RoundSteps.{knows_stays}
 use Rattle.sm_houdini.proofs.deciding.decided_if_small.Goals as goal
 

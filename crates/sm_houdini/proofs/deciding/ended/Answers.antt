@@ -1,7 +1,4 @@
-use Rattle.std.proofs.Common.{◌∙◌}
-use Rattle.sm_term.specs.Tables.{trees_in, sorts_in}
-use Rattle.sm_sketch.specs.Choices.{kept_by}
-use Rattle.sm_sketch.specs.Sketches.{plan_with}
+use Rattle.sm_houdini.proofs.Imports.{◌∙◌, trees_in, sorts_in, kept_by, plan_with}
 use Rattle.sm_houdini.proofs.deciding.ended.Goals as goal
 
 pub certified-requires-clause-made : goal.certified-requires-clause-made

@@ -1,11 +1,5 @@
-use Rattle.std.proofs.Common.{◌≡◌, sym, ap, ◌∙◌}
-use Rattle.sm_syntax.specs.text.Parts.{sort_of}
-use Rattle.sm_syntax.specs.trees.Programs.{declared_of}
+use Rattle.sm_houdini.proofs.Imports.{◌≡◌, sym, ap, ◌∙◌, sort_of, declared_of, widens_twice, Choice, closing, next_round, settled, total}
 use Rattle.sm_text.specs.Tasks.{parts_of}
-use Rattle.sm_plan.proofs.TablesWiden.{widens_twice}
-use Rattle.sm_sketch.specs.Choices.{Choice}
-use Rattle.sm_houdini.specs.Closing.{closing}
-use Rattle.sm_houdini.specs.Rounds.{next_round, settled, total}
 use Rattle.sm_houdini.proofs.RoundSteps.{knows_stays}
 use Rattle.sm_houdini.proofs.deciding.kept_if_small.Goals as goal
 

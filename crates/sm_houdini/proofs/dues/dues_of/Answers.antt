@@ -1,14 +1,7 @@
-use Rattle.std.proofs.Common.{◌≡◌, ap, ◌∙◌, subst}
-use Rattle.std.specs.Prelude.{IfOk}
-use Rattle.sm_syntax.specs.text.Parts.{task_of}
+use Rattle.sm_houdini.proofs.Imports.{◌≡◌, ap, ◌∙◌, subst, IfOk, task_of, trees_in, sorts_in, obligations, choice_in, kept_by, plan_with}
 use Rattle.sm_text.specs.Tasks.{parts_of}
-use Rattle.sm_term.specs.Tables.{trees_in, sorts_in}
 use Rattle.sm_plan.specs.Plans as plain
-use Rattle.sm_plan.specs.Plans.{obligations}
 use Rattle.sm_expand.specs.Views.{dues_in}
-use Rattle.sm_sketch.specs.ChoiceViews.{choice_in}
-use Rattle.sm_sketch.specs.Choices.{kept_by}
-use Rattle.sm_sketch.specs.Sketches.{plan_with}
 use Rattle.sm_houdini.specs.Rounds as rounds
 use Rattle.sm_houdini.proofs.dues.dues_of.Goals as goal
 

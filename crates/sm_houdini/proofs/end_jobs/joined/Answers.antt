@@ -1,10 +1,5 @@
 -- One run more, and the first goal that stops the search.
-use Rattle.std.proofs.Common.{◌≤◌, length, sym, ◌∙◌, arith}
-use Rattle.sm_term.specs.Tables.{trees_in, sorts_in}
-use Rattle.sm_plan.specs.Views.{forms_in}
-use Rattle.sm_plan.proofs.TablesWiden.{widens_same, widens_twice}
-use Rattle.sm_expand.specs.Views.{due_in}
-use Rattle.sm_goals.proofs.TablesLemmas.{front_within}
+use Rattle.sm_houdini.proofs.Imports.{◌≤◌, length, sym, ◌∙◌, arith, trees_in, sorts_in, forms_in, widens_same, widens_twice, due_in, front_within}
 use Rattle.sm_houdini.proofs.EndJobsLemmas.{rows_sound, runs_none, collected_none, runs_stop, runs_more, runs_left, runs_done}
 use Rattle.sm_houdini.proofs.end_jobs.joined.Goals as goal
 

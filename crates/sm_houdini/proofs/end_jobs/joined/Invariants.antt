@@ -1,18 +1,6 @@
 -- The goals of the runs so far close.
-use Rattle.std.proofs.Common.{◌≡◌, ◌++◌, ◌*◌, ℕ, List, length, drop, take}
-use Rattle.sm_term.specs.declared.formula.Formula.{Formula}
-use Rattle.sm_term.specs.Assertions.{Assertion}
-use Rattle.sm_term.specs.Tables.{TableValue, trees_in, sorts_in}
-use Rattle.sm_term.specs.TableLaws.{ExtendsTable}
-use Rattle.sm_plan.specs.Views.{forms_in}
-use Rattle.sm_expand.specs.Views.{due_in}
+use Rattle.sm_houdini.proofs.Imports.{◌≡◌, ◌++◌, ◌*◌, ℕ, List, length, drop, take, Formula, Assertion, TableValue, trees_in, sorts_in, ExtendsTable, forms_in, due_in, Verdict, walk, Reach, AreCollected, goals_with, AreRunEnds, Outcome, goals_outcome}
 use Rattle.sm_expand.specs.declared.due.Due.{Due}
-use Rattle.sm_replay.specs.declared.verdict.Verdict.{Verdict}
-use Rattle.sm_solve.specs.Walk.{walk}
-use Rattle.sm_solve.specs.declared.reach.Reach.{Reach}
-use Rattle.sm_houdini.specs.Collected.{AreCollected, goals_with}
-use Rattle.sm_houdini.specs.EndJobs.{AreRunEnds}
-use Rattle.sm_houdini.specs.Outcomes.{Outcome, goals_outcome}
 use Rattle.sm_houdini.proofs.end_jobs.joined.Given as goal
 
 abbrev pub invariant-loop-run : goal.invariant-loop-run

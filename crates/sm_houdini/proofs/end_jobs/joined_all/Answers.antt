@@ -1,12 +1,6 @@
 -- The goals of one node more.
-use Rattle.std.proofs.Common.{◌≡◌, ℕ, ◌+◌, ◌-◌, ◌*◌, List, [], length, take, drop, sym, ap, ◌∙◌, arith}
-use Rattle.sm_term.specs.Tables.{trees_in, sorts_in}
-use Rattle.sm_plan.proofs.TablesWiden.{widens_same, widens_twice}
+use Rattle.sm_houdini.proofs.Imports.{◌≡◌, ℕ, ◌+◌, ◌-◌, ◌*◌, List, [], length, take, drop, sym, ap, ◌∙◌, arith, trees_in, sorts_in, widens_same, widens_twice, RunEnd, asked, AreCollected, placed}
 use Rattle.sm_expand.specs.Views.{dues_in}
-use Rattle.sm_houdini.specs.declared.run_ends.RunEnd.{RunEnd}
-use Rattle.sm_houdini.specs.Certified.{asked}
-use Rattle.sm_houdini.specs.Collected.{AreCollected}
-use Rattle.sm_houdini.specs.Dealing.{placed}
 use Rattle.sm_houdini.proofs.EndJobsLemmas.{node_ends, runs_sound}
 use Rattle.sm_houdini.proofs.EndLemmas.{due_passed, due_ended}
 use Rattle.sm_houdini.proofs.LoopLemmas.{at_place, at_place_is}

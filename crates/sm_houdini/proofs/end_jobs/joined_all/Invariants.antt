@@ -1,13 +1,6 @@
 -- The dues so far close.
-use Rattle.std.proofs.Common.{◌≡◌, ℕ, [], drop, take}
-use Rattle.sm_term.specs.Tables.{trees_in, sorts_in}
-use Rattle.sm_term.specs.TableLaws.{ExtendsTable}
+use Rattle.sm_houdini.proofs.Imports.{◌≡◌, ℕ, [], drop, take, trees_in, sorts_in, ExtendsTable, Verdict, walk, asked, AreCollected, Outcome, final_outcome}
 use Rattle.sm_expand.specs.Views.{dues_in}
-use Rattle.sm_replay.specs.declared.verdict.Verdict.{Verdict}
-use Rattle.sm_solve.specs.Walk.{walk}
-use Rattle.sm_houdini.specs.Certified.{asked}
-use Rattle.sm_houdini.specs.Collected.{AreCollected}
-use Rattle.sm_houdini.specs.Outcomes.{Outcome, final_outcome}
 use Rattle.sm_houdini.proofs.end_jobs.joined_all.Given as goal
 
 abbrev pub invariant-loop-at : goal.invariant-loop-at

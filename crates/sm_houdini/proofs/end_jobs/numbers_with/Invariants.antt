@@ -1,6 +1,5 @@
 -- The first numbers are listed.
-use Rattle.std.proofs.Common.{◌≡◌}
-use Rattle.std.specs.List.{range_with_len}
+use Rattle.sm_houdini.proofs.Imports.{◌≡◌, range_with_len}
 use Rattle.sm_terms.specs.Listing.{numbers_of}
 use Rattle.sm_houdini.proofs.end_jobs.numbers_with.Given as goal
 

@@ -1,7 +1,5 @@
-use Rattle.std.proofs.Common.{◌≤◌, List, length, map, ap, ◌∙◌, arith}
-use Rattle.std.proofs.lemmas.List.{take_all}
-use Rattle.sm_cert.specs.Views.{certificate_in}
-use Rattle.sm_cert.specs.declared.tree.CertTree.{CertTree}
+use Rattle.sm_houdini.proofs.Imports.{◌≤◌, List, length, ap, ◌∙◌, arith, take_all, certificate_in, CertTree}
+use Rattle.std.proofs.Common.{map}
 use Rattle.sm_houdini.proofs.EndJobsLemmas.{tree_within, tree_more, within_more}
 use Rattle.sm_houdini.proofs.end_jobs.renumbered_trees.Goals as goal
 

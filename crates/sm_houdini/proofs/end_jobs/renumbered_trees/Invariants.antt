@@ -1,9 +1,6 @@
 -- The certificates so far stand for those that were passed.
-use Rattle.std.proofs.Common.{◌≡◌, List, length, map, take}
-use Rattle.sm_term.specs.Terms.{Tree}
-use Rattle.sm_cert.specs.Views.{certificate_in}
-use Rattle.sm_list.specs.Renumbered.{AreTermsOf}
-use Rattle.sm_write.specs.TreesWithin.{AreTreesWithin}
+use Rattle.sm_houdini.proofs.Imports.{◌≡◌, List, length, take, Tree, certificate_in, AreTermsOf, AreTreesWithin}
+use Rattle.std.proofs.Common.{map}
 use Rattle.sm_houdini.proofs.end_jobs.renumbered_trees.Given as goal
 
 abbrev pub invariant-loop-tree : goal.invariant-loop-tree

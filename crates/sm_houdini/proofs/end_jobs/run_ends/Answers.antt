@@ -1,10 +1,8 @@
 -- What the jobs tell, each of its run.
 use denote.Param.Send.{sendable}
-use Rattle.std.proofs.Crossing.{crosses}
-use Rattle.sm_houdini.specs.EndJobs.{PlanEndsValue}
+use Rattle.sm_houdini.proofs.Imports.{crosses, PlanEndsValue, table_sync, due_sync}
 use Rattle.sm_houdini.proofs.ClosingLemmas.{ok_map}
 use Rattle.sm_houdini.proofs.EndJobsLemmas.{plan_told}
-use Rattle.sm_goals.proofs.SharedLemmas.{table_sync, due_sync}
 use Rattle.sm_houdini.proofs.SharedLemmas.{run_end_send}
 use Rattle.sm_houdini.proofs.end_jobs.run_ends.Goals as goal
 

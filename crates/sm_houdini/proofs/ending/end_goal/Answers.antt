@@ -1,12 +1,4 @@
-use Rattle.std.proofs.Common.{List, length, sym, subst}
-use Rattle.std.specs.Prelude.{IfSome}
-use Rattle.sm_term.specs.declared.formula.Formula.{Formula}
-use Rattle.sm_term.specs.Sorted.{AreFormsSorted}
-use Rattle.sm_term.specs.Tables.{trees_in, sorts_in}
-use Rattle.sm_plan.proofs.TablesWiden.{widens_grown}
-use Rattle.sm_list.specs.Parts.{all_numbered, assertions_in, AreFormulasWithin}
-use Rattle.sm_solve.specs.Sharing.{IsFactBase}
-use Rattle.sm_goals.proofs.FormsLemmas.{forms_within, forms_sorted}
+use Rattle.sm_houdini.proofs.Imports.{List, length, sym, subst, IfSome, Formula, AreFormsSorted, trees_in, sorts_in, widens_grown, all_numbered, assertions_in, AreFormulasWithin, IsFactBase, forms_within, forms_sorted}
 use Rattle.sm_goals.proofs.NodesLemmas.{node_over}
 use Rattle.sm_houdini.proofs.EndLemmas.{goal_ends, goal_stopped}
 use Rattle.sm_houdini.proofs.ending.end_goal.Goals as goal

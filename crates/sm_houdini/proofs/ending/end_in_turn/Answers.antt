@@ -1,11 +1,6 @@
-use Rattle.std.proofs.Common.{[], sym, ◌∙◌}
-use Rattle.sm_term.specs.Tables.{trees_in, sorts_in}
-use Rattle.sm_plan.proofs.TablesWiden.{widens_twice, forms_ready}
-use Rattle.sm_houdini.specs.Collected.{AreCollected}
-use Rattle.sm_goals.proofs.FormsLemmas.{goals_ready}
+use Rattle.sm_houdini.proofs.Imports.{[], sym, ◌∙◌, trees_in, sorts_in, widens_twice, forms_ready, AreCollected, goals_ready, facts_at}
 use Rattle.sm_houdini.proofs.EndJobsLemmas.{due_whole}
 use Rattle.sm_houdini.proofs.EndLemmas.{due_passed, due_ended}
-use Rattle.sm_goals.proofs.NodesLemmas.{facts_at}
 use Rattle.sm_houdini.proofs.ending.end_in_turn.Goals as goal
 
 pub end_run-requires-clause-facts : goal.end_run-requires-clause-facts

@@ -1,11 +1,6 @@
-use Rattle.std.proofs.Common.{◌≡◌, ◌+◌, ◌≤◌, List, length, sym, ◌∙◌, arith}
-use Rattle.sm_term.specs.Assertions.{Assertion}
-use Rattle.sm_houdini.specs.Collected.{AreCollected}
-use Rattle.sm_term.specs.Tables.{trees_in, sorts_in}
-use Rattle.sm_plan.proofs.TablesWiden.{widens_twice, forms_ready, form_ready}
+use Rattle.sm_houdini.proofs.Imports.{◌≡◌, ◌+◌, ◌≤◌, List, length, sym, ◌∙◌, arith, Assertion, AreCollected, trees_in, sorts_in, widens_twice, forms_ready, form_ready, ready_at}
 use Rattle.sm_houdini.proofs.EndLemmas.{goal_passed, goal_ended, goal_left, goals_done}
 use Rattle.sm_houdini.proofs.ending.end_run_at.Goals as goal
-use Rattle.sm_plan.proofs.FillingForms.{ready_at}
 
 pub end_goal-requires-clause-facts : goal.end_goal-requires-clause-facts
 end_goal-requires-clause-facts c =

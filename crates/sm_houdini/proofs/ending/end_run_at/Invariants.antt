@@ -1,15 +1,5 @@
 -- The goals so far close, and the node is one over the table.
-use Rattle.std.proofs.Common.{◌≡◌, ◌+◌, ◌++◌, ℕ, List, drop, take}
-use Rattle.sm_term.specs.Assertions.{Assertion}
-use Rattle.sm_term.specs.Tables.{trees_in, sorts_in}
-use Rattle.sm_term.specs.TableLaws.{ExtendsTable}
-use Rattle.sm_plan.specs.Views.{forms_in}
-use Rattle.sm_expand.specs.Views.{due_in}
-use Rattle.sm_replay.specs.declared.verdict.Verdict.{Verdict}
-use Rattle.sm_solve.specs.Walk.{walk}
-use Rattle.sm_houdini.specs.Collected.{AreCollected, goals_with}
-use Rattle.sm_houdini.specs.Outcomes.{Outcome, goals_outcome}
-use Rattle.sm_goals.specs.Nodes.{IsNodeOf}
+use Rattle.sm_houdini.proofs.Imports.{◌≡◌, ◌+◌, ◌++◌, ℕ, List, drop, take, Assertion, trees_in, sorts_in, ExtendsTable, forms_in, due_in, Verdict, walk, AreCollected, goals_with, Outcome, goals_outcome, IsNodeOf}
 use Rattle.sm_houdini.proofs.ending.end_run_at.Given as goal
 
 abbrev pub invariant-loop-goal : goal.invariant-loop-goal

@@ -1,7 +1,4 @@
-use Rattle.std.proofs.Common.{◌≡◌, ℕ, ◌&&◌, length, add-one, sym, ap, ◌∙◌, arith}
-use Rattle.sm_sketch.specs.ChoiceViews.{choice_in}
-use Rattle.sm_houdini.specs.declared.marks.Marks.{Marks}
-use Rattle.sm_houdini.specs.Marks.{all_marked, in_share, rows}
+use Rattle.sm_houdini.proofs.Imports.{◌≡◌, ℕ, ◌&&◌, length, add-one, sym, ap, ◌∙◌, arith, choice_in, Marks, all_marked, in_share, rows}
 use Rattle.sm_houdini.proofs.ShareLemmas.{among, no_share, one_share, every_share}
 use Rattle.sm_houdini.proofs.goal_jobs.all_shares.Goals as goal
 

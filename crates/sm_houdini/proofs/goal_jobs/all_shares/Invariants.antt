@@ -1,8 +1,5 @@
 -- The marks of the shares so far.
-use Rattle.std.proofs.Common.{◌≡◌, ◌<◌, ℕ, Bool, ◌&&◌, length, get_or}
-use Rattle.sm_sketch.specs.ChoiceViews.{choice_in}
-use Rattle.sm_houdini.specs.declared.marks.Marks.{Marks}
-use Rattle.sm_houdini.specs.Marks.{all_marked, in_share, rows}
+use Rattle.sm_houdini.proofs.Imports.{◌≡◌, ◌<◌, ℕ, Bool, ◌&&◌, length, get_or, choice_in, Marks, all_marked, in_share, rows}
 use Rattle.sm_houdini.proofs.ShareLemmas.{among}
 use Rattle.sm_houdini.proofs.goal_jobs.all_shares.Given as goal
 

@@ -1,10 +1,5 @@
-use Rattle.std.proofs.Common.{ℕ, ◌≤◌, Bool, ◌&&◌, ap, ◌∙◌}
-use Rattle.sm_term.specs.Tables.{trees_in, sorts_in}
+use Rattle.sm_houdini.proofs.Imports.{ℕ, ◌≤◌, Bool, ◌&&◌, ap, ◌∙◌, trees_in, sorts_in, choice_in, closing, owner_in, in_share, holds_at}
 use Rattle.sm_expand.specs.Views.{dues_in}
-use Rattle.sm_sketch.specs.ChoiceViews.{choice_in}
-use Rattle.sm_houdini.specs.Closing.{closing, owner_in}
-use Rattle.sm_houdini.specs.Marks.{in_share}
-use Rattle.sm_houdini.specs.Rounds.{holds_at}
 use Rattle.sm_houdini.proofs.MarkedLemmas.{all_same}
 use Rattle.sm_houdini.proofs.NodeLemmas.{none_out}
 use Rattle.sm_houdini.proofs.ShareLemmas.{one_of_one}

@@ -1,13 +1,7 @@
 -- The marks are those of all shares at the nodes that are shared, after the nodes that are dealt.
 use denote.Param.Send.{sendable}
-use Rattle.std.proofs.Common.{◌≡◌, ◌<◌, ℕ, ◌&&◌, List, length, get_or, sym, subst}
-use Rattle.std.proofs.Crossing.{crosses}
-use Rattle.sm_sketch.specs.ChoiceViews.{choice_in}
-use Rattle.sm_houdini.specs.declared.marks.Marks.{Marks}
-use Rattle.sm_houdini.specs.GoalJobs.{RoundGoalsValue, holds_at_shared}
-use Rattle.sm_houdini.specs.Marks.{all_marked, in_share, rows}
+use Rattle.sm_houdini.proofs.Imports.{◌≡◌, ◌<◌, ℕ, ◌&&◌, List, length, get_or, sym, subst, crosses, choice_in, Marks, RoundGoalsValue, holds_at_shared, all_marked, in_share, rows, table_sync, due_sync}
 use Rattle.sm_houdini.proofs.GoalJobsLemmas.{shares_tell, round_tells}
-use Rattle.sm_goals.proofs.SharedLemmas.{table_sync, due_sync}
 use Rattle.sm_houdini.proofs.goal_jobs.marks_by_jobs.Goals as goal
 
 pub run_jobs-requires-sync-J : goal.run_jobs-requires-sync-J

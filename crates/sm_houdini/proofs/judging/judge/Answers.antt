@@ -1,6 +1,4 @@
-use Rattle.std.proofs.Common.{◌≡◌, ◌<◌, ◌≤◌, length, sym, ap, ◌∙◌, arith}
-use Rattle.sm_term.specs.Tables.{trees_in, sorts_in}
-use Rattle.sm_expand.specs.Views.{due_in}
+use Rattle.sm_houdini.proofs.Imports.{◌≡◌, ◌<◌, ◌≤◌, length, sym, ap, ◌∙◌, arith, trees_in, sorts_in, due_in}
 use Rattle.sm_houdini.proofs.ClosingLemmas.{past_judged, there_judged}
 use Rattle.sm_houdini.proofs.KnownLemmas.{known_judged}
 use Rattle.sm_houdini.proofs.judging.judge.Goals as goal

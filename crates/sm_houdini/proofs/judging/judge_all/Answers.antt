@@ -1,14 +1,6 @@
-use Rattle.std.proofs.Common.{◌≡◌, ℕ, ◌<◌, ◌+◌, ◌-◌, ◌&&◌, List, length, drop, sym, ap, ◌∙◌, subst, arith}
-use Rattle.std.proofs.lemmas.List.{length-map, drop_all}
-use Rattle.sm_plan.proofs.TablesWiden.{widens_twice, widens_same, forms_ready}
-use Rattle.sm_term.specs.Tables.{trees_in, sorts_in}
+use Rattle.sm_houdini.proofs.Imports.{◌≡◌, ℕ, ◌<◌, ◌+◌, ◌-◌, ◌&&◌, List, length, drop, sym, ap, ◌∙◌, subst, arith, length-map, drop_all, widens_twice, widens_same, forms_ready, trees_in, sorts_in, due_in, closing, owner_in, ClosesAll, all_marked, rows, holds_but, leaves_out, facts_at}
 use Rattle.sm_plan.specs.Plans.{Due}
-use Rattle.sm_expand.specs.Views.{due_in, dues_in}
-use Rattle.sm_houdini.specs.Closing.{closing, owner_in}
-use Rattle.sm_houdini.specs.Known.{ClosesAll}
-use Rattle.sm_houdini.specs.Marks.{all_marked, rows}
-use Rattle.sm_houdini.specs.NodeJobs.{holds_but, leaves_out}
-use Rattle.sm_goals.proofs.NodesLemmas.{facts_at}
+use Rattle.sm_expand.specs.Views.{dues_in}
 use Rattle.sm_houdini.proofs.KnownLemmas.{closes_over}
 use Rattle.sm_houdini.proofs.RoundSteps.{none_asked, round_step}
 use Rattle.sm_houdini.proofs.judging.judge_all.Goals as goal

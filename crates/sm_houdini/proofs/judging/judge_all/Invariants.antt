@@ -1,12 +1,6 @@
 -- The marks after what is asked from a place on.
-use Rattle.std.proofs.Common.{◌≡◌, ℕ, ◌≤◌, Bool, ◌&&◌, length, drop}
-use Rattle.sm_term.specs.Tables.{trees_in, sorts_in}
-use Rattle.sm_term.specs.TableLaws.{ExtendsTable}
+use Rattle.sm_houdini.proofs.Imports.{◌≡◌, ℕ, ◌≤◌, Bool, ◌&&◌, length, drop, trees_in, sorts_in, ExtendsTable, Choice, closing, owner_in, all_marked, rows, holds_but, leaves_out}
 use Rattle.sm_expand.specs.Views.{dues_in}
-use Rattle.sm_sketch.specs.Choices.{Choice}
-use Rattle.sm_houdini.specs.Closing.{closing, owner_in}
-use Rattle.sm_houdini.specs.Marks.{all_marked, rows}
-use Rattle.sm_houdini.specs.NodeJobs.{holds_but, leaves_out}
 use Rattle.sm_houdini.proofs.judging.judge_all.Given as goal
 
 abbrev pub invariant-loop-left : goal.invariant-loop-left

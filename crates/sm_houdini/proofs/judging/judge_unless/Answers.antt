@@ -1,9 +1,4 @@
-use Rattle.std.proofs.Common.{◌≡◌, ◌&&◌, ◌||◌, ℕ, Bool, ◌≤◌, sym, ap, ◌∙◌, subst}
-use Rattle.std.specs.Prelude.{OnOk}
-use Rattle.sm_term.specs.Tables.{trees_in, sorts_in}
-use Rattle.sm_expand.specs.Views.{due_in}
-use Rattle.sm_houdini.specs.Closing.{stays_at, owner_in}
-use Rattle.sm_houdini.specs.Marks.{all_marked, rows}
+use Rattle.sm_houdini.proofs.Imports.{◌≡◌, ◌&&◌, ◌||◌, ℕ, Bool, ◌≤◌, sym, ap, ◌∙◌, subst, OnOk, trees_in, sorts_in, due_in, stays_at, owner_in, all_marked, rows}
 use Rattle.sm_houdini.proofs.MarkedLemmas.{all_same}
 use Rattle.sm_houdini.proofs.NodeLemmas.{with_true}
 use Rattle.sm_houdini.proofs.judging.judge_unless.Goals as goal

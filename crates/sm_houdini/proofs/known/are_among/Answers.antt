@@ -1,5 +1,4 @@
-use Rattle.std.proofs.Common.{◌<◌, ◌+◌, arith}
-use Rattle.std.proofs.lemmas.Bool.Decides.{nat_tests}
+use Rattle.sm_houdini.proofs.Imports.{◌<◌, ◌+◌, arith, nat_tests}
 use Rattle.sm_houdini.proofs.KnownLemmas.{found_next, found_inside}
 use Rattle.sm_houdini.proofs.known.are_among.Goals as goal
 use Rattle.sm_houdini.proofs.known.are_among.Goals.{then-is_next, else-is_next}

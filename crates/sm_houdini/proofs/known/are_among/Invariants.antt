@@ -1,8 +1,6 @@
 -- The formulas that are found so far.
-use Rattle.std.proofs.Common.{◌≡◌, ◌≤◌, ◌<◌, ℕ, Bool, true, Some, length, slice_get}
-use Rattle.sm_term.specs.Formulas.{NumberedFormula}
-use Rattle.sm_list.specs.Parts.{all_numbered}
-use Rattle.sm_houdini.specs.Marks.{is_there}
+use Rattle.sm_houdini.proofs.Imports.{◌≡◌, ◌≤◌, ◌<◌, ℕ, Bool, true, length, NumberedFormula, all_numbered, is_there}
+use Rattle.std.proofs.Common.{Some, slice_get}
 use Rattle.sm_houdini.proofs.known.are_among.Given as goal
 
 abbrev pub invariant-loop-at : goal.invariant-loop-at

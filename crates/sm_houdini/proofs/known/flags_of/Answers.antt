@@ -1,5 +1,4 @@
-use Rattle.std.proofs.Common.{◌+◌, ap, ◌∙◌, length}
-use Rattle.std.proofs.lemmas.List.{length-append}
+use Rattle.sm_houdini.proofs.Imports.{◌+◌, ap, ◌∙◌, length, length-append}
 use Rattle.sm_houdini.proofs.KnownLemmas.{flags_put}
 use Rattle.sm_houdini.proofs.known.flags_of.Goals as goal
 

@@ -1,8 +1,5 @@
 -- The flags so far.
-use Rattle.std.proofs.Common.{◌≡◌, length}
-use Rattle.sm_term.specs.Tables.{TableValue}
-use Rattle.sm_solve.specs.declared.reach.Reach.{Reach}
-use Rattle.sm_houdini.specs.Known.{IsAsked, AreKnown}
+use Rattle.sm_houdini.proofs.Imports.{◌≡◌, length, TableValue, Reach, IsAsked, AreKnown}
 use Rattle.sm_houdini.proofs.known.flags_of.Given as goal
 
 abbrev pub invariant-loop-at : goal.invariant-loop-at

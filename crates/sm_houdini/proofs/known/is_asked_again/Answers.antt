@@ -1,7 +1,5 @@
-use Rattle.std.proofs.Common.{List, slice_get, sym, ap, ◌∙◌}
-use Rattle.sm_term.specs.Tables.{trees_in, sorts_in}
-use Rattle.sm_term.specs.declared.formula.Formula.{Formula}
-use Rattle.sm_list.specs.Parts.{all_numbered}
+use Rattle.sm_houdini.proofs.Imports.{List, sym, ap, ◌∙◌, trees_in, sorts_in, Formula, all_numbered}
+use Rattle.std.proofs.Common.{slice_get}
 use Rattle.sm_houdini.proofs.KnownLemmas.{asked_again}
 use Rattle.sm_houdini.proofs.known.is_asked_again.Goals as goal
 

@@ -1,12 +1,6 @@
-use Rattle.std.proofs.Common.{◌≡◌, ℕ, Option, Some, None, List, slice_get, sym, ap, ◌∙◌}
-use Rattle.std.proofs.lemmas.Option.{slice_get-get_or}
-use Rattle.std.specs.Prelude.{Vec, unwrap_or}
-use Rattle.std.specs.declared.alloc.Global.{Global}
-use Rattle.sm_term.specs.Tables.{trees_in, sorts_in}
-use Rattle.sm_expand.specs.Views.{due_in}
+use Rattle.sm_houdini.proofs.Imports.{◌≡◌, ℕ, List, sym, ap, ◌∙◌, slice_get-get_or, Vec, unwrap_or, Global, trees_in, sorts_in, due_in, owner_in, is_there, Marked}
+use Rattle.std.proofs.Common.{Option, Some, None, slice_get}
 use Rattle.sm_expand.specs.declared.due.Due.{Due}
-use Rattle.sm_houdini.specs.Closing.{owner_in}
-use Rattle.sm_houdini.specs.Marks.{is_there, Marked}
 use Rattle.sm_houdini.proofs.KnownLemmas.{asked_closes}
 use Rattle.sm_houdini.proofs.known.is_known.Goals as goal
 

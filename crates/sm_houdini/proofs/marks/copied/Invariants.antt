@@ -1,6 +1,5 @@
 -- The sites so far.
-use Rattle.std.proofs.Common.{◌≡◌, take}
-use Rattle.sm_houdini.specs.Marks.{rows}
+use Rattle.sm_houdini.proofs.Imports.{◌≡◌, take, rows}
 use Rattle.sm_houdini.proofs.marks.copied.Given as goal
 
 abbrev pub invariant-loop-list : goal.invariant-loop-list

@@ -1,6 +1,4 @@
-use Rattle.std.proofs.Common.{◌≡◌, ◌≤◌, ℕ, List, length, ap, ◌∙◌, arith}
-use Rattle.std.proofs.lemmas.List.{take_all}
-use Rattle.sm_houdini.specs.Marks.{marked, joins, Marked}
+use Rattle.sm_houdini.proofs.Imports.{◌≡◌, ◌≤◌, ℕ, List, length, ap, ◌∙◌, arith, take_all, marked, joins, Marked}
 use Rattle.sm_houdini.proofs.ShareLemmas.{length_marked, joined_put}
 use Rattle.sm_houdini.proofs.marks.joined_at.Goals as goal
 

@@ -1,6 +1,5 @@
 -- The marks so far that those of the two become.
-use Rattle.std.proofs.Common.{◌≡◌, ℕ, Bool, List, take}
-use Rattle.sm_houdini.specs.Marks.{marked, joins}
+use Rattle.sm_houdini.proofs.Imports.{◌≡◌, ℕ, Bool, List, take, marked, joins}
 use Rattle.sm_houdini.proofs.marks.joined_at.Given as goal
 
 abbrev pub invariant-loop-at : goal.invariant-loop-at

@@ -1,6 +1,4 @@
-use Rattle.std.proofs.Common.{◌<◌, ◌≤◌, ℕ, [], length, get_or, ap, ◌∙◌, arith}
-use Rattle.std.proofs.lemmas.List.{take_all}
-use Rattle.sm_houdini.specs.Marks.{all_marked, joins}
+use Rattle.sm_houdini.proofs.Imports.{◌<◌, ◌≤◌, ℕ, [], length, get_or, ap, ◌∙◌, arith, take_all, all_marked, joins}
 use Rattle.sm_houdini.proofs.ShareLemmas.{sites_count, site_is, joined_site}
 use Rattle.sm_houdini.proofs.marks.joined_marks.Goals as goal
 

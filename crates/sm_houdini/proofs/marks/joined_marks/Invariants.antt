@@ -1,7 +1,5 @@
 -- The sites so far.
-use Rattle.std.proofs.Common.{◌≡◌, ℕ, Bool, take}
-use Rattle.sm_sketch.specs.Choices.{Choice}
-use Rattle.sm_houdini.specs.Marks.{all_marked, joins, rows}
+use Rattle.sm_houdini.proofs.Imports.{◌≡◌, ℕ, Bool, take, Choice, all_marked, joins, rows}
 use Rattle.sm_houdini.proofs.marks.joined_marks.Given as goal
 
 abbrev pub invariant-loop-site : goal.invariant-loop-site

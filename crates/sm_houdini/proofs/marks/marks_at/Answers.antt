@@ -1,6 +1,4 @@
-use Rattle.std.proofs.Common.{◌≤◌, length, refl, ap, ◌∙◌, arith}
-use Rattle.std.proofs.lemmas.List.{take_all}
-use Rattle.sm_houdini.specs.Marks.{marked, in_share}
+use Rattle.sm_houdini.proofs.Imports.{◌≤◌, length, refl, ap, ◌∙◌, arith, take_all, marked, in_share}
 use Rattle.sm_houdini.proofs.MarkedLemmas.{mark_put}
 use Rattle.sm_houdini.proofs.marks.marks_at.Goals as goal
 

@@ -1,6 +1,5 @@
 -- Each number so far has its mark.
-use Rattle.std.proofs.Common.{◌≡◌, take}
-use Rattle.sm_houdini.specs.Marks.{marked, in_share}
+use Rattle.sm_houdini.proofs.Imports.{◌≡◌, take, marked, in_share}
 use Rattle.sm_houdini.proofs.marks.marks_at.Given as goal
 
 abbrev pub invariant-loop-at : goal.invariant-loop-at

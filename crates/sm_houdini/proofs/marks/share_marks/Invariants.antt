@@ -1,6 +1,5 @@
 -- Each site so far has its marks.
-use Rattle.std.proofs.Common.{◌≡◌, take}
-use Rattle.sm_houdini.specs.Marks.{all_marked, in_share, rows}
+use Rattle.sm_houdini.proofs.Imports.{◌≡◌, take, all_marked, in_share, rows}
 use Rattle.sm_houdini.proofs.marks.share_marks.Given as goal
 
 abbrev pub invariant-loop-numbers : goal.invariant-loop-numbers

@@ -1,7 +1,4 @@
-use Rattle.std.proofs.Common.{◌≡◌, ℕ, ◌≤◌, ◌&&◌, length, add-one, sym, ap, ◌∙◌, arith}
-use Rattle.sm_houdini.specs.declared.marks.Marks.{Marks}
-use Rattle.sm_houdini.specs.Marks.{all_marked, rows}
-use Rattle.sm_houdini.specs.NodeJobs.{all_below}
+use Rattle.sm_houdini.proofs.Imports.{◌≡◌, ℕ, ◌≤◌, ◌&&◌, length, add-one, sym, ap, ◌∙◌, arith, Marks, all_marked, rows, all_below}
 use Rattle.sm_houdini.proofs.MarkedLemmas.{all_same}
 use Rattle.sm_houdini.proofs.NodeLemmas.{and_grouped, with_true}
 use Rattle.sm_houdini.proofs.node_jobs.all_parts.Goals as goal

@@ -1,9 +1,5 @@
 -- The marks that the lists so far have.
-use Rattle.std.proofs.Common.{◌≡◌, ◌<◌, ℕ, Bool, ◌&&◌, length, get_or}
-use Rattle.sm_sketch.specs.Choices.{Choice}
-use Rattle.sm_houdini.specs.declared.marks.Marks.{Marks}
-use Rattle.sm_houdini.specs.Marks.{all_marked, rows}
-use Rattle.sm_houdini.specs.NodeJobs.{all_below}
+use Rattle.sm_houdini.proofs.Imports.{◌≡◌, ◌<◌, ℕ, Bool, ◌&&◌, length, get_or, Choice, Marks, all_marked, rows, all_below}
 use Rattle.sm_houdini.proofs.node_jobs.all_parts.Given as goal
 
 abbrev pub invariant-loop-part : goal.invariant-loop-part

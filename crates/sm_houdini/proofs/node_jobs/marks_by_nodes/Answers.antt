@@ -1,13 +1,9 @@
 -- The marks are those after all jobs.
 use denote.Param.Send.{sendable}
-use Rattle.std.proofs.Common.{◌≡◌, ◌<◌, ℕ, ◌&&◌, Some, List, length, get_or, sym, ap, ◌∙◌, subst}
-use Rattle.std.proofs.Crossing.{crosses}
-use Rattle.sm_houdini.specs.declared.marks.Marks.{Marks}
-use Rattle.sm_houdini.specs.Marks.{all_marked, rows}
-use Rattle.sm_houdini.specs.NodeJobs.{NodeGoalsValue, holds_in_job}
+use Rattle.sm_houdini.proofs.Imports.{◌≡◌, ◌<◌, ℕ, ◌&&◌, List, length, get_or, sym, ap, ◌∙◌, subst, crosses, Marks, all_marked, rows, NodeGoalsValue, holds_in_job, table_sync, due_sync}
+use Rattle.std.proofs.Common.{Some}
 use Rattle.sm_houdini.proofs.ClosingLemmas.{ok_map}
 use Rattle.sm_houdini.proofs.GoalJobsLemmas.{jobs_told, jobs_tell}
-use Rattle.sm_goals.proofs.SharedLemmas.{table_sync, due_sync}
 use Rattle.sm_houdini.proofs.node_jobs.marks_by_nodes.Goals as goal
 
 pub run_jobs-requires-sync-J : goal.run_jobs-requires-sync-J

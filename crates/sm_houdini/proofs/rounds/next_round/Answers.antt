@@ -1,15 +1,8 @@
-use Rattle.std.proofs.Common.{ℕ, Bool, Option, Some, List, ap, sym, ◌∙◌, subst}
-use Rattle.sm_plan.proofs.TablesWiden.{widens_twice}
-use Rattle.sm_term.specs.Tables.{trees_in, sorts_in}
+use Rattle.sm_houdini.proofs.Imports.{ℕ, Bool, List, ap, sym, ◌∙◌, subst, widens_twice, trees_in, sorts_in, choice_in, Asked, closing, owner_in, IsAskedBefore, AreKnown, all_marked, rows, holds_at}
+use Rattle.std.proofs.Common.{Option, Some}
 use Rattle.sm_expand.specs.Views.{dues_in}
 use Rattle.sm_expand.specs.declared.due.Due.{Due}
 use Rattle.sm_text.specs.Tasks.{parts_of}
-use Rattle.sm_sketch.specs.ChoiceViews.{choice_in}
-use Rattle.sm_houdini.specs.declared.asked.Asked.{Asked}
-use Rattle.sm_houdini.specs.Closing.{closing, owner_in}
-use Rattle.sm_houdini.specs.Known.{IsAskedBefore, AreKnown}
-use Rattle.sm_houdini.specs.Marks.{all_marked, rows}
-use Rattle.sm_houdini.specs.Rounds.{holds_at}
 use Rattle.sm_houdini.proofs.KnownLemmas.{asked_stays, left_asked, round_asked}
 use Rattle.sm_houdini.proofs.RoundSteps.{round_is}
 use Rattle.sm_houdini.proofs.rounds.next_round.Goals as goal

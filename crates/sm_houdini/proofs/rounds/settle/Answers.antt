@@ -1,10 +1,5 @@
-use Rattle.std.proofs.Common.{◌≤◌, sym, ◌∙◌, arith}
-use Rattle.sm_syntax.specs.text.Parts.{sort_of}
-use Rattle.sm_syntax.specs.trees.Programs.{declared_of}
+use Rattle.sm_houdini.proofs.Imports.{◌≤◌, sym, ◌∙◌, arith, sort_of, declared_of, widens_twice, choice_in, closing}
 use Rattle.sm_text.specs.Tasks.{parts_of}
-use Rattle.sm_plan.proofs.TablesWiden.{widens_twice}
-use Rattle.sm_sketch.specs.ChoiceViews.{choice_in}
-use Rattle.sm_houdini.specs.Closing.{closing}
 use Rattle.sm_houdini.proofs.RoundSteps.{knows_stays}
 use Rattle.sm_houdini.proofs.TotalsLemmas.{now_settled, later_settled, all_settled}
 use Rattle.sm_houdini.proofs.rounds.settle.Goals as goal

@@ -1,13 +1,6 @@
 -- What is left to be settled.
-use Rattle.std.proofs.Common.{◌≡◌, ◌-◌}
-use Rattle.sm_syntax.specs.text.Parts.{sort_of}
-use Rattle.sm_syntax.specs.trees.Programs.{declared_of}
-use Rattle.sm_term.specs.TableLaws.{ExtendsTable}
+use Rattle.sm_houdini.proofs.Imports.{◌≡◌, ◌-◌, sort_of, declared_of, ExtendsTable, choice_in, closing, IsAskedBefore, next_round, settled, total}
 use Rattle.sm_text.specs.Tasks.{parts_of}
-use Rattle.sm_sketch.specs.ChoiceViews.{choice_in}
-use Rattle.sm_houdini.specs.Closing.{closing}
-use Rattle.sm_houdini.specs.Known.{IsAskedBefore}
-use Rattle.sm_houdini.specs.Rounds.{next_round, settled, total}
 use Rattle.sm_houdini.proofs.rounds.settle.Given as goal
 
 abbrev pub invariant-loop : goal.invariant-loop

@@ -1,8 +1,6 @@
 -- The end of a run of a node's goals.
-use Rattle.std.proofs.Common.{[], sym, subst}
-use Rattle.sm_houdini.specs.Collected.{AreCollected}
+use Rattle.sm_houdini.proofs.Imports.{[], sym, subst, AreCollected, first_within}
 use Rattle.sm_houdini.proofs.EndedLemmas.{none_collected}
-use Rattle.sm_goals.proofs.TablesLemmas.{first_within}
 use Rattle.sm_houdini.proofs.EndJobsLemmas.{run_ended, part_ended, goals_part, facts_over}
 use Rattle.sm_houdini.proofs.run_ends.run_end.Goals as goal
 

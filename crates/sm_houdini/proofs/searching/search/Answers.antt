@@ -1,11 +1,6 @@
-use Rattle.std.proofs.Common.{subst}
-use Rattle.sm_syntax.specs.text.Parts.{sort_of, task_of}
+use Rattle.sm_houdini.proofs.Imports.{subst, sort_of, task_of, IsFirstViolation, Reach, IsOutcome, TellsPlan}
 use Rattle.sm_text.specs.Tasks.{parts_of}
-use Rattle.sm_replay.specs.Trials.{IsFirstViolation}
-use Rattle.sm_solve.specs.declared.reach.Reach.{Reach}
 use Rattle.sm_houdini.specs.declared.outcome.Outcome as program
-use Rattle.sm_houdini.specs.Outcomes.{IsOutcome}
-use Rattle.sm_houdini.specs.Searchable.{TellsPlan}
 use Rattle.sm_houdini.specs.Views.{outcome_in}
 use Rattle.sm_houdini.proofs.ClosingLemmas.{ok_map}
 use Rattle.sm_houdini.proofs.FoundLemmas.{comes_accepted, comes_conflict, comes_planned}

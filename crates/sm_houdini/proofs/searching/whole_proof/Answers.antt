@@ -1,16 +1,8 @@
-use Rattle.std.proofs.Common.{map, ◌∙◌, subst, length}
-use Rattle.sm_syntax.specs.text.Parts.{task_of}
-use Rattle.sm_syntax.specs.text.Sorts.{Sorts}
-use Rattle.sm_term.specs.Tables.{trees_in, sorts_in}
+use Rattle.sm_houdini.proofs.Imports.{◌∙◌, subst, length, task_of, Sorts, trees_in, sorts_in, certificate_in, numbered_plan, plan_in, Copy, of_copy, code_of, IsShown}
+use Rattle.std.proofs.Common.{map}
 use Rattle.sm_text.specs.Tasks.{parts_of}
-use Rattle.sm_cert.specs.Views.{certificate_in}
-use Rattle.sm_expand.specs.Views.{numbered_plan, plan_in}
 use Rattle.sm_houdini.proofs.ReadyWhole.{whole_ready}
-use Rattle.sm_syntax.specs.claim.ConflictFree.{Copy}
-use Rattle.sm_syntax.specs.trees.Copies.{of_copy}
-use Rattle.sm_syntax.specs.trees.Views.{code_of}
 use Rattle.sm_product.proofs.TaskParts.{has_parts}
-use Rattle.sm_sided.specs.WholePlan.{IsShown}
 use Rattle.sm_houdini.proofs.UnnamedLines.{unnamed_within}
 use Rattle.sm_houdini.proofs.WholeProofs.{whole_writable}
 use Rattle.sm_houdini.proofs.searching.whole_proof.Goals as goal

@@ -1,8 +1,5 @@
 -- A certificate is short where its lines are, and those below a split.
-use Rattle.std.proofs.Common.{sym, subst, ◌∙◌}
-use Rattle.sm_cert.specs.Views.{certificate_in}
-use Rattle.sm_cert.specs.declared.tree.CertTree.{CertTree}
-use Rattle.sm_write.specs.Writable.{IsShort}
+use Rattle.sm_houdini.proofs.Imports.{sym, subst, ◌∙◌, certificate_in, CertTree, IsShort}
 use Rattle.sm_houdini.proofs.ShortLemmas.{split_short, not_both}
 use Rattle.sm_houdini.proofs.short.+is_short.Goals as goal
 use Rattle.sm_houdini.proofs.short.+is_short.Goals.{then-is_short_line, else-is_short_line}

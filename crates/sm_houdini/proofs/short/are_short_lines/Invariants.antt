@@ -1,9 +1,5 @@
 -- The lines so far are short.
-use Rattle.std.proofs.Common.{List, take}
-use Rattle.sm_term.specs.Terms.{Tree}
-use Rattle.sm_cert.specs.Certificates.{Certificate}
-use Rattle.sm_cert.specs.Views.{lines_before}
-use Rattle.sm_write.specs.Writable.{IsShort}
+use Rattle.sm_houdini.proofs.Imports.{List, take, Tree, Certificate, lines_before, IsShort}
 use Rattle.sm_houdini.proofs.short.are_short_lines.Given as goal
 
 abbrev pub invariant-loop-line : goal.invariant-loop-line

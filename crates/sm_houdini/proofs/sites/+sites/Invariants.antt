@@ -1,9 +1,6 @@
 -- The owners and the templates of the sketches so far.
-use Rattle.std.proofs.Common.{List, map, take}
-use Rattle.sm_syntax.specs.text.Sorts.{Sorts}
-use Rattle.sm_term.specs.Terms.{Tree}
-use Rattle.sm_sketch.specs.SketchViews.{sketch_in}
-use Rattle.sm_houdini.specs.SitesBelow.{PutsAll}
+use Rattle.sm_houdini.proofs.Imports.{List, take, Sorts, Tree, sketch_in, PutsAll}
+use Rattle.std.proofs.Common.{map}
 use Rattle.sm_houdini.proofs.sites.+sites.Given as goal
 
 abbrev pub invariant-add_all-loop-sketch : goal.invariant-add_all-loop-sketch

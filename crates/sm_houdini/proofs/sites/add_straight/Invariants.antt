@@ -1,6 +1,5 @@
 -- As many owners as nodes so far.
-use Rattle.std.proofs.Common.{◌≡◌, ◌++◌, take}
-use Rattle.sm_houdini.specs.SitesBelow.{targets}
+use Rattle.sm_houdini.proofs.Imports.{◌≡◌, ◌++◌, take, targets}
 use Rattle.sm_houdini.proofs.sites.add_straight.Given as goal
 
 abbrev pub invariant-loop-node : goal.invariant-loop-node

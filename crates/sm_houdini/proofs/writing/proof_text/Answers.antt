@@ -1,11 +1,6 @@
-use Rattle.std.proofs.Common.{sym, subst, List, map}
-use Rattle.sm_syntax.specs.text.Parts.{sort_of}
+use Rattle.sm_houdini.proofs.Imports.{sym, subst, List, sort_of, trees_in, sorts_in, certificate_in, CertTree, plan_in, IsWritable}
+use Rattle.std.proofs.Common.{map}
 use Rattle.sm_text.specs.Tasks.{parts_of}
-use Rattle.sm_term.specs.Tables.{trees_in, sorts_in}
-use Rattle.sm_cert.specs.Views.{certificate_in}
-use Rattle.sm_cert.specs.declared.tree.CertTree.{CertTree}
-use Rattle.sm_expand.specs.Views.{plan_in}
-use Rattle.sm_write.specs.Writable.{IsWritable}
 use Rattle.sm_houdini.proofs.writing.proof_text.Goals as goal
 
 -- src/writing.rt:27:5

@@ -1,10 +1,5 @@
 -- By a fact, else by two terms that are torn.
-use Rattle.std.proofs.Common.{◌≡◌, ◌∙◌, Bool, false, ◌||◌, sym, ap, subst}
-use Rattle.std.specs.List.{list_any}
-use Rattle.sm_term.specs.Tables.{trees_in, sorts_in}
-use Rattle.sm_judge.specs.Holding.{is_refuted}
-use Rattle.sm_judge.specs.Seeing.{seen_in}
-use Rattle.sm_judge.specs.Torn.{IsTornIf, any_torn}
+use Rattle.sm_judge.proofs.Imports.{◌≡◌, ◌∙◌, Bool, false, ◌||◌, sym, ap, subst, list_any, trees_in, sorts_in, is_refuted, seen_in, IsTornIf, any_torn}
 use Rattle.sm_judge.proofs.closing.closed_by.Goals as goal
 
 pub returns-in-Some-2-clause-why : goal.returns-in-Some-2-clause-why

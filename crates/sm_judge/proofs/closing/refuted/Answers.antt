@@ -1,11 +1,7 @@
 -- The first fact that is refuted.
-use Rattle.std.proofs.Common.{◌≡◌, ◌<◌, ◌∙◌, ℕ, false, length, get_or, sym, ap, below_more, arith}
-use Rattle.std.proofs.lemmas.Option.{get_or_from_slice_get}
+use Rattle.sm_judge.proofs.Imports.{◌≡◌, ◌<◌, ◌∙◌, false, length, get_or, sym, ap, below_more, arith, get_or_from_slice_get, numbered, assertion_in, trees_in, sorts_in, is_refuted, seen_in}
+use Rattle.std.proofs.Common.{ℕ}
 use Rattle.sm_term.specs.Assertions.{Yes}
-use Rattle.sm_term.specs.Formulas.{numbered, assertion_in}
-use Rattle.sm_term.specs.Tables.{trees_in, sorts_in}
-use Rattle.sm_judge.specs.Holding.{is_refuted}
-use Rattle.sm_judge.specs.Seeing.{seen_in}
 use Rattle.sm_judge.proofs.ClosingLemmas.{fact_at, facts_count, within_at, some_refuted}
 use Rattle.sm_judge.proofs.TornLemmas.{none_passes}
 use Rattle.sm_judge.proofs.closing.refuted.Goals as goal

@@ -1,9 +1,7 @@
 -- No fact before is refuted.
-use Rattle.std.proofs.Common.{◌≡◌, ℕ, ◌<◌, false, get_or}
+use Rattle.sm_judge.proofs.Imports.{◌≡◌, ◌<◌, false, get_or, trees_in, sorts_in, is_refuted, seen_in}
+use Rattle.std.proofs.Common.{ℕ}
 use Rattle.sm_term.specs.Assertions.{Yes}
-use Rattle.sm_term.specs.Tables.{trees_in, sorts_in}
-use Rattle.sm_judge.specs.Holding.{is_refuted}
-use Rattle.sm_judge.specs.Seeing.{seen_in}
 use Rattle.sm_judge.proofs.closing.refuted.Given as goal
 
 abbrev pub invariant-loop-i : goal.invariant-loop-i

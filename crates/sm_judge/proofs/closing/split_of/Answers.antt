@@ -1,12 +1,5 @@
 -- By elements, else by disjunctions, else by contraries.
-use Rattle.std.proofs.Common.{◌≡◌, ◌∙◌, Some, List, sym, ap, subst}
-use Rattle.sm_term.specs.declared.formula.Formula.{Formula}
-use Rattle.sm_term.specs.Tables.{trees_in, sorts_in}
-use Rattle.sm_theory.specs.Equality.{or_other}
-use Rattle.sm_judge.specs.Holding.{first_of, index_split, part_split, order_split}
-use Rattle.sm_list.specs.Parts.{all_numbered, assertions_in}
-use Rattle.sm_judge.specs.Seeing.{seen_in}
-use Rattle.sm_judge.specs.Splits.{split_told}
+use Rattle.sm_judge.proofs.Imports.{◌≡◌, ◌∙◌, Some, List, sym, ap, subst, Formula, trees_in, sorts_in, or_other, first_of, index_split, part_split, order_split, all_numbered, assertions_in, seen_in, split_told}
 use Rattle.sm_judge.proofs.FirstLemmas.{first_wins, second_wins}
 use Rattle.sm_judge.proofs.closing.split_of.Goals as goal
 

@@ -1,9 +1,6 @@
 -- The forms of the items are those of the branch.
-use Rattle.std.proofs.Common.{◌≡◌, ℕ, List, ap, ◌∙◌, rules}
-use Rattle.sm_num.specs.Forms.{Linear}
-use Rattle.sm_term.specs.Tables.{trees_in, sorts_in}
-use Rattle.sm_judge.specs.Making.{linear_forms, Two, places_of, held}
-use Rattle.sm_judge.specs.Seeing.{seen_in}
+use Rattle.sm_judge.proofs.Imports.{◌≡◌, List, ap, ◌∙◌, rules, Linear, trees_in, sorts_in, linear_forms, Two, places_of, held, seen_in}
+use Rattle.std.proofs.Common.{ℕ}
 use Rattle.sm_judge.proofs.GivenFormsLemmas.{forms_given, classes_explained, facts_explained, error_given}
 use Rattle.sm_judge.proofs.LinearsLemmas.{all_forms_are}
 use Rattle.sm_judge.proofs.forms.forms_by_labels.Goals as goal

@@ -1,11 +1,7 @@
 -- A comparison is held where it is a fact, a conjunction or a disjunction by its parts.
-use Rattle.std.proofs.Common.{◌≡◌, ap, refl}
+use Rattle.sm_judge.proofs.Imports.{◌≡◌, ap, refl, trees_in, sorts_in, Assertion, numbered, assertion_in, Formula, seen_in}
 use Rattle.sm_term.specs.declared.formula.Formula.TheVariants as tree
-use Rattle.sm_term.specs.Tables.{trees_in, sorts_in}
-use Rattle.sm_term.specs.Assertions.{Assertion, And, Or}
-use Rattle.sm_term.specs.Formulas.{numbered, assertion_in}
-use Rattle.sm_term.specs.declared.formula.Formula.{Formula}
-use Rattle.sm_judge.specs.Seeing.{seen_in}
+use Rattle.sm_term.specs.Assertions.{And, Or}
 use Rattle.sm_judge.proofs.HoldingLemmas.{comparison_held, part_is, and_first, and_second, or_first, or_second, fact_first, held_then}
 use Rattle.sm_judge.proofs.holding.+is_held.Goals as goal
 

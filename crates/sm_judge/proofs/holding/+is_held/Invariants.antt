@@ -1,6 +1,5 @@
 -- A part is smaller than the whole.
-use Rattle.std.proofs.Common.{◌+◌, ◌*◌}
-use Rattle.sm_term.specs.declared.formula.Formula.{size-Formula}
+use Rattle.sm_judge.proofs.Imports.{◌+◌, ◌*◌, size-Formula}
 use Rattle.sm_judge.proofs.holding.+is_held.Given as goal
 
 abbrev pub decreases-is_held : goal.decreases-is_held

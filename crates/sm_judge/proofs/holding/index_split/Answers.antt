@@ -1,9 +1,5 @@
 -- An element is read of an array.
-use Rattle.std.proofs.Common.{◌≡◌, subst}
-use Rattle.sm_term.specs.Terms.{Read}
-use Rattle.sm_term.specs.Tables.{trees_in, sorts_in, codes_in, tree_in, tree_at}
-use Rattle.sm_term.specs.declared.term.Term.{Term}
-use Rattle.sm_judge.specs.Seeing.{seen_in, split_in}
+use Rattle.sm_judge.proofs.Imports.{◌≡◌, subst, Read, trees_in, sorts_in, codes_in, tree_in, tree_at, Term, seen_in, split_in}
 use Rattle.sm_judge.proofs.SplitLemmas.{index_of}
 use Rattle.sm_judge.proofs.holding.index_split.Goals as goal
 

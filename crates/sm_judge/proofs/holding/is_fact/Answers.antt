@@ -1,8 +1,5 @@
 -- Formulas are told by their numbers.
-use Rattle.std.proofs.Common.{◌∙◌}
-use Rattle.sm_term.specs.Tables.{trees_in, sorts_in}
-use Rattle.sm_term.specs.Formulas.{numbered}
-use Rattle.sm_list.specs.Parts.{all_numbered}
+use Rattle.sm_judge.proofs.Imports.{◌∙◌, trees_in, sorts_in, numbered, all_numbered}
 use Rattle.sm_judge.proofs.SeeingLemmas.{facts_tell}
 use Rattle.sm_judge.proofs.holding.is_fact.Goals as goal
 

@@ -1,10 +1,6 @@
 -- The formula says that two terms aren't equal.
 use Rattle.sm_term.specs.declared.formula.Formula.TheVariants as tree
-use Rattle.sm_term.specs.Assertions.{Assertion}
-use Rattle.sm_term.specs.Tables.{trees_in, sorts_in}
-use Rattle.sm_term.specs.Formulas.{numbered, assertion_in}
-use Rattle.sm_term.specs.declared.formula.Formula.{Formula}
-use Rattle.sm_judge.specs.Seeing.{seen_in, split_in}
+use Rattle.sm_judge.proofs.Imports.{Assertion, trees_in, sorts_in, numbered, assertion_in, Formula, seen_in, split_in}
 use Rattle.sm_judge.proofs.SplitLemmas.{order_of}
 use Rattle.sm_judge.proofs.holding.order_split.Goals as goal
 

@@ -1,10 +1,6 @@
 -- Neither order is a fact, or one is.
-use Rattle.std.proofs.Common.{◌≡◌, ◌∙◌, ◌||◌, Bool, true, false, Some, sym, ap, refl}
+use Rattle.sm_judge.proofs.Imports.{◌≡◌, ◌∙◌, ◌||◌, Bool, true, false, Some, sym, ap, refl, trees_in, sorts_in, tree_at, is_numeric, is_fact, seen_in}
 use Rattle.sm_term.specs.Assertions.{Lt}
-use Rattle.sm_term.specs.Tables.{trees_in, sorts_in, tree_at}
-use Rattle.sm_theory.specs.Arithmetic.{is_numeric}
-use Rattle.sm_judge.specs.Holding.{is_fact}
-use Rattle.sm_judge.specs.Seeing.{seen_in}
 use Rattle.sm_judge.proofs.SplitLemmas.{known_none, unknown_some}
 use Rattle.sm_judge.proofs.holding.orders.Goals as goal
 use Rattle.sm_judge.proofs.holding.orders.Goals.{then-is_fact-via-then-is_fact, then-is_fact-via-else-is_fact+then-is_fact-2}

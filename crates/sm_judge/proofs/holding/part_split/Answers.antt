@@ -1,8 +1,5 @@
 -- A disjunction that isn't held is split, and nothing else.
-use Rattle.std.proofs.Common.{◌∙◌, sym}
-use Rattle.sm_term.specs.Tables.{trees_in, sorts_in}
-use Rattle.sm_term.specs.Formulas.{numbered}
-use Rattle.sm_judge.specs.Seeing.{seen_in}
+use Rattle.sm_judge.proofs.Imports.{◌∙◌, sym, trees_in, sorts_in, numbered, seen_in}
 use Rattle.sm_judge.proofs.SplitLemmas.{part_of, other_part, held_part}
 use Rattle.sm_judge.proofs.holding.part_split.Goals as goal
 

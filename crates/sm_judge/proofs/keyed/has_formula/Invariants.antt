@@ -1,9 +1,5 @@
 -- None of the formulas before is the same.
-use Rattle.std.proofs.Common.{◌≡◌, drop}
-use Rattle.std.specs.List.{list_any}
-use Rattle.sm_term.specs.Formulas.{numbered}
-use Rattle.sm_list.specs.Parts.{all_numbered}
-use Rattle.sm_pairs.specs.SameFormulas.{same_numbered}
+use Rattle.sm_judge.proofs.Imports.{◌≡◌, drop, list_any, numbered, all_numbered, same_numbered}
 use Rattle.sm_judge.proofs.keyed.has_formula.Given as goal
 
 abbrev pub invariant-loop-g : goal.invariant-loop-g

@@ -1,7 +1,5 @@
 -- By the place of the key, else one by one; without the key there is none.
-use Rattle.std.proofs.Common.{nat_eq, ap, sym, ◌∙◌}
-use Rattle.std.specs.HashMap.{get}
-use Rattle.sm_term.specs.Formulas.{numbered}
+use Rattle.sm_judge.proofs.Imports.{nat_eq, ap, sym, ◌∙◌, get, numbered}
 use Rattle.sm_judge.proofs.KeyedLemmas.{none_keyed}
 use Rattle.sm_judge.proofs.keyed.has_keyed.Goals as goal
 

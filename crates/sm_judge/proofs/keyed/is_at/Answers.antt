@@ -1,6 +1,5 @@
 -- The formula at the place is the same.
-use Rattle.std.proofs.Common.{sym, ◌∙◌}
-use Rattle.sm_term.specs.Formulas.{numbered}
+use Rattle.sm_judge.proofs.Imports.{sym, ◌∙◌, numbered}
 use Rattle.sm_judge.proofs.KeyedLemmas.{there_keyed}
 use Rattle.sm_judge.proofs.keyed.is_at.Goals as goal
 

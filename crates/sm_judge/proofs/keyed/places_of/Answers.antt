@@ -1,6 +1,6 @@
 -- The key of one fact more.
-use Rattle.std.proofs.Common.{ℕ, ◌<◌, nat_eq, length, arith}
-use Rattle.std.specs.HashMap.{get}
+use Rattle.sm_judge.proofs.Imports.{◌<◌, nat_eq, length, arith, get}
+use Rattle.std.proofs.Common.{ℕ}
 use Rattle.sm_judge.proofs.KeyedLemmas.{keys_more}
 use Rattle.sm_judge.proofs.keyed.places_of.Goals as goal
 

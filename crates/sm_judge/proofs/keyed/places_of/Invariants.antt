@@ -1,7 +1,5 @@
 -- The keys of the facts before are there.
-use Rattle.std.proofs.Common.{nat_eq}
-use Rattle.std.specs.HashMap.{get}
-use Rattle.sm_judge.specs.Keyed.{HasKeys}
+use Rattle.sm_judge.proofs.Imports.{nat_eq, get, HasKeys}
 use Rattle.sm_judge.proofs.keyed.places_of.Given as goal
 
 abbrev pub invariant-loop-n : goal.invariant-loop-n

@@ -1,6 +1,5 @@
 -- What is collected of the facts that are left is what is collected of all.
-use Rattle.std.proofs.Common.{◌≡◌, drop}
-use Rattle.sm_judge.specs.Making.{fact_items, collected, held}
+use Rattle.sm_judge.proofs.Imports.{◌≡◌, drop, fact_items, collected, held}
 use Rattle.sm_judge.proofs.linears.add_fact_forms.Given as goal
 
 abbrev pub invariant-loop-i : goal.invariant-loop-i

@@ -1,10 +1,7 @@
 -- Each form goes behind those of the terms before it.
-use Rattle.std.proofs.Common.{◌≡◌, List, ℕ, [], ◌∷◌, ◌++◌, sym, ap, subst, ◌∙◌, length, arith, rules}
-use Rattle.std.proofs.lemmas.List.{append_assoc, length-append, length_push}
-use Rattle.sm_num.specs.Forms.{Linear}
-use Rattle.sm_term.specs.Tables.{trees_in, tree_at}
-use Rattle.sm_theory.specs.LinearTerms.{linear_of}
-use Rattle.sm_theory.specs.Standing.{AreLinearForms, IsKeptFor}
+use Rattle.sm_judge.proofs.Imports.{◌≡◌, List, [], ◌∷◌, ◌++◌, sym, ap, subst, ◌∙◌, length, arith, rules, length-append, length_push, Linear, trees_in, tree_at, linear_of, AreLinearForms, IsKeptFor}
+use Rattle.std.proofs.Common.{ℕ}
+use Rattle.std.proofs.lemmas.List.{append_assoc}
 use Rattle.sm_judge.proofs.LinearsLemmas.{form_added, forms_later}
 use Rattle.sm_judge.proofs.linears.add_linear_forms.Goals as goal
 

@@ -1,8 +1,6 @@
 -- The forms of the terms so far.
-use Rattle.std.proofs.Common.{◌≡◌, ◌≤◌, ◌-◌, ◌++◌, ℕ, List, length}
-use Rattle.sm_num.specs.Forms.{Linear}
-use Rattle.sm_term.specs.Tables.{trees_in}
-use Rattle.sm_theory.specs.Standing.{AreLinearForms}
+use Rattle.sm_judge.proofs.Imports.{◌≡◌, ◌≤◌, ◌-◌, ◌++◌, List, length, Linear, trees_in, AreLinearForms}
+use Rattle.std.proofs.Common.{ℕ}
 use Rattle.sm_judge.proofs.linears.add_linear_forms.Given as goal
 
 abbrev pub invariant-loop-alloc : goal.invariant-loop-alloc

@@ -1,6 +1,5 @@
 -- What is collected of the pairs that are left is what is collected of all.
-use Rattle.std.proofs.Common.{◌≡◌, drop, []}
-use Rattle.sm_judge.specs.Making.{class_items, collected, held}
+use Rattle.sm_judge.proofs.Imports.{◌≡◌, drop, [], class_items, collected, held}
 use Rattle.sm_judge.proofs.linears.class_forms.Given as goal
 
 abbrev pub invariant-loop-pair : goal.invariant-loop-pair

@@ -1,10 +1,6 @@
 -- The form is kept, so the number 1 is added to its constant.
-use Rattle.std.proofs.Common.{ℕ, pos, subst}
-use Rattle.sm_num.specs.Forms.{Linear}
-use Rattle.sm_num.specs.declared.kind.Kind.{Kind}
-use Rattle.sm_num.specs.Combining.{Outcome, combined}
-use Rattle.sm_num.specs.Errors.{Returns}
-use Rattle.sm_theory.specs.LinearTerms.{constant_form}
+use Rattle.sm_judge.proofs.Imports.{pos, subst, Linear, Kind, Outcome, combined, Returns, constant_form}
+use Rattle.std.proofs.Common.{ℕ}
 use Rattle.sm_judge.proofs.linears.one_more.Goals as goal
 use Rattle.sm_theory.proofs.OneMore.{combined_one}
 

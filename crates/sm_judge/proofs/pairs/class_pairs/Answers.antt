@@ -1,10 +1,6 @@
 -- One term more.
-use Rattle.std.proofs.Common.{◌≡◌, refl, ℕ, suc, slice_index, ◌<◌, ◌+◌, ◌++◌, List, Some, nat_eq, length, ap, ◌∙◌, arith}
-use Rattle.std.specs.HashMap.{get}
-use Rattle.sm_term.specs.Tables.{trees_in, sorts_in, tree_at}
-use Rattle.sm_pairs.specs.Pairs.{Pairs}
-use Rattle.sm_judge.specs.Labelled.{TellClasses}
-use Rattle.sm_judge.specs.Making.{places_of, pair_with}
+use Rattle.sm_judge.proofs.Imports.{◌≡◌, refl, suc, slice_index, ◌<◌, ◌+◌, ◌++◌, List, Some, nat_eq, length, ap, ◌∙◌, arith, get, trees_in, sorts_in, tree_at, Pairs, TellClasses, places_of, pair_with}
+use Rattle.std.proofs.Common.{ℕ}
 use Rattle.sm_judge.proofs.LabelledLemmas.{firsts_next, below_next, pairs_next}
 use Rattle.sm_judge.proofs.pairs.class_pairs.Goals as goal
 

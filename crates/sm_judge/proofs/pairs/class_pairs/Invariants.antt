@@ -1,10 +1,6 @@
 -- The pairs so far, before those of the terms that are left, and the first places of labels so far.
-use Rattle.std.proofs.Common.{◌≡◌, ◌<◌, ℕ, ◌++◌, drop, length, Some, nat_eq}
-use Rattle.std.specs.HashMap.{get}
-use Rattle.sm_term.specs.Tables.{trees_in, sorts_in}
-use Rattle.sm_pairs.specs.Pairs.{Pairs}
-use Rattle.sm_judge.specs.Labelled.{TellClasses, first_label, noted_else}
-use Rattle.sm_judge.specs.Making.{pairs_of, places_of, ArePairsWithin}
+use Rattle.sm_judge.proofs.Imports.{◌≡◌, ◌<◌, ◌++◌, drop, length, Some, nat_eq, get, trees_in, sorts_in, Pairs, TellClasses, first_label, noted_else, pairs_of, places_of, ArePairsWithin}
+use Rattle.std.proofs.Common.{ℕ}
 use Rattle.sm_judge.proofs.pairs.class_pairs.Given as goal
 
 abbrev pub invariant-loop-n : goal.invariant-loop-n

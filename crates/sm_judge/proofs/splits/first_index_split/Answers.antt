@@ -1,10 +1,5 @@
 -- The first term that is split.
-use Rattle.std.proofs.Common.{◌<◌, ◌≤◌, ◌∙◌, pos, [], length, arith}
-use Rattle.sm_term.specs.Formulas.{numbered}
-use Rattle.sm_term.specs.Terms.{Lit}
-use Rattle.sm_term.specs.Tables.{trees_in, sorts_in, tree_at}
-use Rattle.sm_judge.specs.Holding.{index_split}
-use Rattle.sm_judge.specs.Seeing.{seen_in}
+use Rattle.sm_judge.proofs.Imports.{◌<◌, ◌≤◌, ◌∙◌, pos, [], length, arith, numbered, Lit, trees_in, sorts_in, tree_at, index_split, seen_in}
 use Rattle.sm_judge.proofs.BranchLineLemmas.{cases_told, cases_within, cases_line}
 use Rattle.sm_judge.proofs.FirstLemmas.{term_here, term_next, terms_end}
 use Rattle.sm_judge.proofs.splits.first_index_split.Goals as goal

@@ -1,9 +1,5 @@
 -- No term before is split.
-use Rattle.std.proofs.Common.{◌≡◌, List, drop}
-use Rattle.sm_term.specs.declared.formula.Formula.{Formula}
-use Rattle.sm_term.specs.Tables.{trees_in, sorts_in}
-use Rattle.sm_judge.specs.Holding.{first_of, index_split}
-use Rattle.sm_judge.specs.Seeing.{seen_in}
+use Rattle.sm_judge.proofs.Imports.{◌≡◌, List, drop, Formula, trees_in, sorts_in, first_of, index_split, seen_in}
 use Rattle.sm_judge.proofs.splits.first_index_split.Given as goal
 
 abbrev pub invariant-loop-n : goal.invariant-loop-n

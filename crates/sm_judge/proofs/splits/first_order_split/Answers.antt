@@ -1,11 +1,5 @@
 -- The first contrary that is split.
-use Rattle.std.proofs.Common.{◌<◌, ◌≤◌, false, length, arith}
-use Rattle.sm_term.specs.Formulas.{numbered, assertion_in}
-use Rattle.sm_term.specs.Terms.{Tree}
-use Rattle.sm_term.specs.Tables.{trees_in, sorts_in}
-use Rattle.sm_judge.specs.Holding.{order_split}
-use Rattle.sm_list.specs.Parts.{all_numbered, assertions_in}
-use Rattle.sm_judge.specs.Seeing.{seen_in}
+use Rattle.sm_judge.proofs.Imports.{◌<◌, ◌≤◌, false, length, arith, numbered, assertion_in, Tree, trees_in, sorts_in, order_split, all_numbered, assertions_in, seen_in}
 use Rattle.sm_judge.proofs.BranchLineLemmas.{order_line}
 use Rattle.sm_judge.proofs.ClosingLemmas.{fact_at, within_at}
 use Rattle.sm_judge.proofs.FirstLemmas.{fact_here, fact_next, facts_end}

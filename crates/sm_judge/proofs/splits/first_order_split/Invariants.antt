@@ -1,10 +1,5 @@
 -- No fact before is split.
-use Rattle.std.proofs.Common.{List}
-use Rattle.sm_term.specs.Terms.{Tree}
-use Rattle.sm_term.specs.Tables.{trees_in, sorts_in}
-use Rattle.sm_pairs.specs.Pairs.{Pairs}
-use Rattle.sm_judge.specs.Holding.{order_split}
-use Rattle.sm_judge.specs.Seeing.{seen_in}
+use Rattle.sm_judge.proofs.Imports.{List, Tree, trees_in, sorts_in, Pairs, order_split, seen_in}
 use Rattle.sm_judge.proofs.FirstLemmas.{GiveAsAll}
 use Rattle.sm_judge.proofs.splits.first_order_split.Given as goal
 

@@ -1,10 +1,5 @@
 -- The first disjunction that is split.
-use Rattle.std.proofs.Common.{◌<◌, ◌≤◌, ◌∙◌, length, sym, ap, arith}
-use Rattle.sm_term.specs.Formulas.{numbered, assertion_in}
-use Rattle.sm_term.specs.Tables.{trees_in, sorts_in}
-use Rattle.sm_judge.specs.Holding.{part_split}
-use Rattle.sm_list.specs.Parts.{all_numbered, assertions_in}
-use Rattle.sm_judge.specs.Seeing.{seen_in, split_in}
+use Rattle.sm_judge.proofs.Imports.{◌<◌, ◌≤◌, ◌∙◌, length, sym, ap, arith, numbered, assertion_in, trees_in, sorts_in, part_split, all_numbered, assertions_in, seen_in, split_in}
 use Rattle.sm_judge.proofs.BranchLineLemmas.{part_line}
 use Rattle.sm_judge.proofs.ClosingLemmas.{fact_at, within_at}
 use Rattle.sm_judge.proofs.FirstLemmas.{fact_here, fact_next, facts_end}

@@ -1,11 +1,6 @@
 -- The elimination begins with the forms and so many atoms.
-use Rattle.std.proofs.Common.{◌≡◌, List, IfOk, sym, ap, subst, ◌∙◌}
-use Rattle.sm_num.specs.Forms.{Linear}
+use Rattle.sm_judge.proofs.Imports.{◌≡◌, List, IfOk, sym, ap, subst, ◌∙◌, Linear, Event, events, Taking, eliminated_by, AreNumbered, TellsSums, ShowsSums}
 use Rattle.std.specs.Prelude.{ℕ}
-use Rattle.sm_fm.specs.Elimination.{Event, events}
-use Rattle.sm_fm.specs.Taking.{Taking}
-use Rattle.sm_judge.specs.Forms.{eliminated_by}
-use Rattle.sm_judge.specs.Summing.{AreNumbered, TellsSums, ShowsSums}
 use Rattle.sm_judge.proofs.summing.end_of_sums.Goals as goal
 
 pub take_sums-requires-clause-numbered : goal.take_sums-requires-clause-numbered

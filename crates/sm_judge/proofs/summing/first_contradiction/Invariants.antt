@@ -1,7 +1,5 @@
 -- None of the forms before is a contradiction.
-use Rattle.std.proofs.Common.{◌≡◌, drop}
-use Rattle.std.specs.List.{list_any}
-use Rattle.sm_num.specs.Tightening.{is_contradictory}
+use Rattle.sm_judge.proofs.Imports.{◌≡◌, drop, list_any, is_contradictory}
 use Rattle.sm_judge.proofs.summing.first_contradiction.Given as goal
 
 abbrev pub invariant-loop-i : goal.invariant-loop-i

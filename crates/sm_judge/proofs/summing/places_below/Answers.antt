@@ -1,8 +1,5 @@
 -- The next atom's number is its place.
-use Rattle.std.proofs.Common.{◌≡◌, ◌+◌, length, sym, ap, subst, ◌++◌, ◌∷◌, [], arith}
-use Rattle.std.proofs.lemmas.List.{length-append}
-use Rattle.sm_term.specs.declared.term.TermId.{TermId}
-use Rattle.sm_judge.specs.Summing.{AreNumbered}
+use Rattle.sm_judge.proofs.Imports.{◌≡◌, ◌+◌, length, sym, ap, subst, ◌++◌, ◌∷◌, [], arith, length-append, TermId, AreNumbered}
 use Rattle.sm_judge.proofs.SummingLemmas.{numbered_more}
 use Rattle.sm_judge.proofs.summing.places_below.Goals as goal
 

@@ -1,6 +1,5 @@
 -- As many atoms as were put.
-use Rattle.std.proofs.Common.{◌≡◌, length}
-use Rattle.sm_judge.specs.Summing.{AreNumbered}
+use Rattle.sm_judge.proofs.Imports.{◌≡◌, length, AreNumbered}
 use Rattle.sm_judge.proofs.summing.places_below.Given as goal
 
 abbrev pub invariant-loop-n : goal.invariant-loop-n

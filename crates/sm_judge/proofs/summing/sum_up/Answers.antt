@@ -1,9 +1,7 @@
 -- The last sum stands behind the forms and the sums before it.
-use Rattle.std.proofs.Common.{◌+◌, ◌-◌, ℕ, subst, arith}
-use Rattle.sm_fm.specs.Elimination.{events}
+use Rattle.sm_judge.proofs.Imports.{◌+◌, ◌-◌, subst, arith, events, Walked, TooFar, eliminated_by, TellsSums, ShowsSums}
+use Rattle.std.proofs.Common.{ℕ}
 use Rattle.sm_judge.specs.declared.summing.SumsEnd.{SumsEnd}
-use Rattle.sm_judge.specs.Forms.{Walked, TooFar, eliminated_by}
-use Rattle.sm_judge.specs.Summing.{TellsSums, ShowsSums}
 use Rattle.sm_judge.proofs.MakingLemmas.{sources_many}
 use Rattle.sm_judge.proofs.summing.sum_up.Goals as goal
 

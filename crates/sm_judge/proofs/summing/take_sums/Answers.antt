@@ -1,10 +1,7 @@
 -- A sum is counted, and listed where it is kept or can't hold.
-use Rattle.std.proofs.Common.{◌<◌, ℕ, Ok, sym, subst, ◌∙◌, arith}
+use Rattle.sm_judge.proofs.Imports.{◌<◌, Ok, sym, subst, ◌∙◌, arith, Gives, TakesSum, ElimLine, AreNumbered, Walked}
+use Rattle.std.proofs.Common.{ℕ}
 use Rattle.sm_fm.specs.declared.step.ElimStep.{ElimStep}
-use Rattle.sm_fm.specs.Taking.{Gives, TakesSum}
-use Rattle.sm_judge.specs.declared.eliminating.ElimLine.{ElimLine}
-use Rattle.sm_judge.specs.Summing.{AreNumbered}
-use Rattle.sm_judge.specs.Forms.{Walked}
 use Rattle.sm_judge.proofs.CountedLemmas.{walked_on, walked_last, recorded, contradicted}
 use Rattle.sm_judge.proofs.summing.take_sums.Goals as goal
 

@@ -1,7 +1,6 @@
 -- What is left to happen after the count so far is what is counted of all.
-use Rattle.std.proofs.Common.{◌≡◌, ◌≤◌, ◌-◌, ℕ}
-use Rattle.sm_judge.specs.Forms.{Walked, eliminated_by}
-use Rattle.sm_judge.specs.Summing.{AreSums, AreNumbered}
+use Rattle.sm_judge.proofs.Imports.{◌≡◌, ◌≤◌, ◌-◌, Walked, eliminated_by, AreSums, AreNumbered}
+use Rattle.std.proofs.Common.{ℕ}
 use Rattle.sm_judge.proofs.summing.take_sums.Given as goal
 
 abbrev pub invariant-sums : goal.invariant-sums

@@ -1,5 +1,4 @@
-use Rattle.std.proofs.Common.{length, arith}
-use Rattle.sm_term.specs.Tables.{trees_in, sorts_in, codes_in}
+use Rattle.sm_judge.proofs.Imports.{length, arith, trees_in, sorts_in, codes_in}
 use Rattle.sm_judge.proofs.TermPlacesLemmas.{places_more}
 use Rattle.sm_judge.proofs.term_places.terms_have_places.Goals as goal
 

@@ -1,6 +1,5 @@
 -- The terms that were passed have places.
-use Rattle.sm_term.specs.Tables.{trees_in}
-use Rattle.sm_judge.specs.Places.{HavePlacesBelow}
+use Rattle.sm_judge.proofs.Imports.{trees_in, HavePlacesBelow}
 use Rattle.sm_judge.proofs.term_places.terms_have_places.Given as goal
 
 abbrev pub invariant-loop-n : goal.invariant-loop-n

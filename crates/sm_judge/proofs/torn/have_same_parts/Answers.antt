@@ -1,8 +1,8 @@
 -- What `==` of two lists of parts tells.
-use Rattle.std.proofs.Common.{◌≡◌, ◌↔◌, ℕ, ℤ, true, List, subst}
+use Rattle.sm_judge.proofs.Imports.{◌≡◌, ◌↔◌, true, List, subst, pair_decides}
+use Rattle.std.proofs.Common.{ℕ, ℤ}
 use Rattle.std.proofs.lemmas.Slice.Eq.{slice_eq-Decides}
 use Rattle.sm_judge.proofs.torn.have_same_parts.Goals as goal
-use Rattle.sm_lemmas.proofs.Tests.{pair_decides}
 
 pub returns : goal.returns
 returns c =

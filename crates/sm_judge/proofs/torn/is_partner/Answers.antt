@@ -1,7 +1,5 @@
 -- By the forms, then by the sort.
-use Rattle.std.proofs.Common.{◌∙◌}
-use Rattle.sm_term.specs.Tables.{trees_in, sorts_in, tree_at}
-use Rattle.sm_theory.specs.LinearTerms.{linear_of}
+use Rattle.sm_judge.proofs.Imports.{◌∙◌, trees_in, sorts_in, tree_at, linear_of}
 use Rattle.sm_judge.proofs.TornLemmas.{sort_decides, forms_decide, form_at}
 use Rattle.sm_judge.proofs.torn.is_partner.Goals as goal
 

@@ -1,7 +1,6 @@
 -- Back along the chain.
-use Rattle.std.proofs.Common.{◌≡◌, ◌<◌, ◌∙◌, ℕ, Option, None, IfSome, List, length, get_or, sym, subst, arith}
-use Rattle.sm_term.specs.Tables.{trees_in, sorts_in}
-use Rattle.sm_judge.specs.Torn.{AreLinked}
+use Rattle.sm_judge.proofs.Imports.{◌≡◌, ◌<◌, ◌∙◌, Option, None, IfSome, List, length, get_or, sym, subst, arith, trees_in, sorts_in, AreLinked}
+use Rattle.std.proofs.Common.{ℕ}
 use Rattle.sm_judge.proofs.TornLemmas.{IsSearched, below_later, searched_next}
 use Rattle.sm_judge.proofs.torn.partner.Goals as goal
 

@@ -1,7 +1,6 @@
 -- The places behind the next one are searched.
-use Rattle.std.proofs.Common.{◌≡◌, ℕ, ◌<◌, IfSome, List, length}
-use Rattle.sm_term.specs.Tables.{trees_in, sorts_in}
-use Rattle.sm_judge.specs.Torn.{behind, AreLinked}
+use Rattle.sm_judge.proofs.Imports.{◌≡◌, ◌<◌, IfSome, List, length, trees_in, sorts_in, behind, AreLinked}
+use Rattle.std.proofs.Common.{ℕ}
 use Rattle.sm_judge.proofs.TornLemmas.{IsSearched}
 use Rattle.sm_judge.proofs.torn.partner.Given as goal
 

@@ -1,6 +1,5 @@
 -- By the form of the term.
-use Rattle.std.proofs.Common.{sym, ◌∙◌}
-use Rattle.sm_term.specs.Tables.{trees_in, sorts_in, tree_at}
+use Rattle.sm_judge.proofs.Imports.{sym, ◌∙◌, trees_in, sorts_in, tree_at}
 use Rattle.sm_judge.proofs.TornLemmas.{form_at, no_number}
 use Rattle.sm_judge.proofs.torn.partner_of.Goals as goal
 

@@ -1,7 +1,6 @@
 -- The last places of labels so far, and the links of the places so far.
-use Rattle.std.proofs.Common.{◌≡◌, ℕ, ◌<◌, None, nat_eq, length, get_or, slice_index}
-use Rattle.std.specs.HashMap.{get}
-use Rattle.sm_judge.specs.Torn.{IsLastWith}
+use Rattle.sm_judge.proofs.Imports.{◌≡◌, ◌<◌, None, nat_eq, length, get_or, slice_index, get, IsLastWith}
+use Rattle.std.proofs.Common.{ℕ}
 use Rattle.sm_judge.proofs.torn.places_before.Given as goal
 
 abbrev pub invariant-loop-n : goal.invariant-loop-n

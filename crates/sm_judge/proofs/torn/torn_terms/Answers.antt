@@ -1,9 +1,6 @@
 -- The first term that has a partner.
-use Rattle.std.proofs.Common.{◌≡◌, ◌<◌, ◌∙◌, ℕ, None, length, ap, sym, subst, below_more, arith}
-use Rattle.sm_term.specs.Tables.{trees_in, sorts_in}
-use Rattle.sm_pairs.specs.Pairs.{Pairs}
-use Rattle.sm_judge.specs.Labelled.{TellClasses}
-use Rattle.sm_judge.specs.Torn.{AreLinked, IsPartnerIf}
+use Rattle.sm_judge.proofs.Imports.{◌≡◌, ◌<◌, ◌∙◌, None, length, ap, sym, subst, below_more, arith, trees_in, sorts_in, Pairs, TellClasses, AreLinked, IsPartnerIf}
+use Rattle.std.proofs.Common.{ℕ}
 use Rattle.sm_judge.proofs.TornLemmas.{torn_found, none_torn}
 use Rattle.sm_judge.proofs.torn.torn_terms.Goals as goal
 

@@ -1,7 +1,6 @@
 -- No term before has a partner.
-use Rattle.std.proofs.Common.{ℕ, ◌<◌, None}
-use Rattle.sm_term.specs.Tables.{trees_in, sorts_in}
-use Rattle.sm_judge.specs.Torn.{IsPartnerIf}
+use Rattle.sm_judge.proofs.Imports.{◌<◌, None, trees_in, sorts_in, IsPartnerIf}
+use Rattle.std.proofs.Common.{ℕ}
 use Rattle.sm_judge.proofs.torn.torn_terms.Given as goal
 
 abbrev pub invariant-loop-n : goal.invariant-loop-n

@@ -1,13 +1,7 @@
 -- The atom cancels where the term does.
-use Rattle.std.proofs.Common.{◌≡◌, Bool, true, None, if◌then◌else◌, sym, subst, ◌∙◌}
-use Rattle.std.specs.Result.{IfOk}
+use Rattle.sm_lia.proofs.Imports.{◌≡◌, Bool, true, None, if◌then◌else◌, sym, subst, ◌∙◌, IfOk, trees_in, sorts_in, tree_at, form_fact, StandsIf, can_cancel_stands, eliminated_stands, stands_at, one_place}
 use Rattle.sm_num.specs.Eliminating.{eliminated, elimination, can_cancel}
 use Rattle.sm_term.specs.SameTerms.{same_tree}
-use Rattle.sm_term.specs.Tables.{trees_in, sorts_in, tree_at}
-use Rattle.sm_theory.specs.Arithmetic.{form_fact}
-use Rattle.sm_theory.specs.Views.{StandsIf}
-use Rattle.sm_theory.proofs.LinearStanding.{can_cancel_stands, eliminated_stands}
-use Rattle.sm_theory.proofs.FormsOfTermsLemmas.{stands_at, one_place}
 use Rattle.sm_lia.proofs.ComputingLemmas.{returned_for}
 use Rattle.sm_lia.proofs.cancelling.cancel.Goals as goal
 

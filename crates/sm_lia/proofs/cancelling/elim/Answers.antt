@@ -1,13 +1,5 @@
 -- Both facts are forms.
-use Rattle.std.proofs.Common.{Option}
-use Rattle.std.specs.Result.{IfOk}
-use Rattle.sm_num.specs.Forms.{Linear}
-use Rattle.sm_term.specs.Terms.{Tree}
-use Rattle.sm_term.specs.Tables.{trees_in, sorts_in, tree_at}
-use Rattle.sm_theory.specs.Facts.{BranchFact}
-use Rattle.sm_theory.specs.Lines.{followed, form_at}
-use Rattle.sm_theory.specs.Arithmetic.{cancelled}
-use Rattle.sm_theory.specs.Views.{StandsIf}
+use Rattle.sm_lia.proofs.Imports.{Option, IfOk, Linear, Tree, trees_in, sorts_in, tree_at, BranchFact, followed, form_at, cancelled, StandsIf}
 use Rattle.sm_lia.proofs.ComputingLemmas.{followed_form}
 use Rattle.sm_lia.proofs.cancelling.elim.Goals as goal
 

@@ -1,16 +1,6 @@
 -- The fact is a form.
-use Rattle.std.proofs.Common.{Option, Some}
-use Rattle.std.specs.Result.{IfOk}
-use Rattle.sm_num.specs.Forms.{Linear}
-use Rattle.sm_num.specs.Combining.{Fits}
+use Rattle.sm_lia.proofs.Imports.{Option, Some, IfOk, Linear, Fits, Tree, trees_in, sorts_in, BranchFact, Sum, form_at, StandsIf, tightened_stands, one_place}
 use Rattle.sm_num.specs.Tightening.{tightened}
-use Rattle.sm_term.specs.Terms.{Tree}
-use Rattle.sm_term.specs.Tables.{trees_in, sorts_in}
-use Rattle.sm_theory.specs.Facts.{BranchFact, Sum}
-use Rattle.sm_theory.specs.Lines.{form_at}
-use Rattle.sm_theory.specs.Views.{StandsIf}
-use Rattle.sm_theory.proofs.LinearStanding.{tightened_stands}
-use Rattle.sm_theory.proofs.FormsOfTermsLemmas.{one_place}
 use Rattle.sm_lia.proofs.ComputingLemmas.{followed_form, returned_for}
 use Rattle.sm_lia.proofs.cancelling.tight.Goals as goal
 

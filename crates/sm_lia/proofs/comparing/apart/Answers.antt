@@ -1,6 +1,5 @@
 -- By the comparison.
-use Rattle.std.proofs.Common.{sym, ◌∙◌}
-use Rattle.sm_term.specs.Tables.{trees_in, sorts_in}
+use Rattle.sm_lia.proofs.Imports.{sym, ◌∙◌, trees_in, sorts_in}
 use Rattle.sm_lia.proofs.ComparingLemmas.{unequal_made, unequal_none}
 use Rattle.sm_lia.proofs.comparing.apart.Goals as goal
 

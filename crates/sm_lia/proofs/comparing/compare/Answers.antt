@@ -1,7 +1,5 @@
 -- Both are numbers.
-use Rattle.std.proofs.Common.{sym, ◌∙◌}
-use Rattle.sm_term.specs.Tables.{trees_in, sorts_in, tree_at}
-use Rattle.sm_theory.specs.LinearTerms.{linear_of}
+use Rattle.sm_lia.proofs.Imports.{sym, ◌∙◌, trees_in, sorts_in, tree_at, linear_of}
 use Rattle.sm_lia.proofs.ComparingLemmas.{both_numbers}
 use Rattle.sm_lia.proofs.comparing.compare.Goals as goal
 

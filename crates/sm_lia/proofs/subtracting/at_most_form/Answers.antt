@@ -1,7 +1,6 @@
 -- Both sides are in the table.
 use Rattle.sm_num.specs.declared.kind.Kind.TheVariants as kind
-use Rattle.sm_term.specs.Tables.{trees_in, sorts_in, tree_at}
-use Rattle.sm_theory.specs.Arithmetic.{difference}
+use Rattle.sm_lia.proofs.Imports.{trees_in, sorts_in, tree_at, difference}
 use Rattle.sm_lia.proofs.subtracting.at_most_form.Goals as goal
 
 pub returns : goal.returns

@@ -1,8 +1,6 @@
 -- Both sides are in the table.
 use Rattle.sm_num.specs.declared.kind.Kind.TheVariants as kind
-use Rattle.sm_num.specs.Combining.{then_with}
-use Rattle.sm_term.specs.Tables.{trees_in, sorts_in, tree_at}
-use Rattle.sm_theory.specs.Arithmetic.{difference, one_more}
+use Rattle.sm_lia.proofs.Imports.{then_with, trees_in, sorts_in, tree_at, difference, one_more}
 use Rattle.sm_lia.proofs.subtracting.below_form.Goals as goal
 
 pub returns : goal.returns

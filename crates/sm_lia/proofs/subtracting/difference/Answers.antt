@@ -1,11 +1,5 @@
 -- The sum of the forms, of which one is taken away.
-use Rattle.std.proofs.Common.{pos, negsuc}
-use Rattle.sm_num.specs.Combining.{combined}
-use Rattle.sm_term.specs.Tables.{trees_in, tree_at}
-use Rattle.sm_theory.specs.LinearTerms.{linear_of}
-use Rattle.sm_theory.specs.Arithmetic.{difference}
-use Rattle.sm_theory.proofs.LinearStanding.{combined_stands}
-use Rattle.sm_theory.proofs.FormsOfTermsLemmas.{one_place}
+use Rattle.sm_lia.proofs.Imports.{pos, negsuc, combined, trees_in, tree_at, linear_of, difference, combined_stands, one_place}
 use Rattle.sm_lia.proofs.ComputingLemmas.{returned_for}
 use Rattle.sm_lia.proofs.subtracting.difference.Goals as goal
 

@@ -1,10 +1,6 @@
 -- The left side is a number.
-use Rattle.std.proofs.Common.{◌≡◌, Bool, true, None, if◌then◌else◌, sym, subst, ◌∙◌}
-use Rattle.std.specs.Result.{IfOk}
+use Rattle.sm_lia.proofs.Imports.{◌≡◌, Bool, true, None, if◌then◌else◌, sym, subst, ◌∙◌, IfOk, trees_in, sorts_in, tree_at, is_numeric, form_fact, difference, StandsIf}
 use Rattle.sm_num.specs.declared.kind.Kind.TheVariants as kind
-use Rattle.sm_term.specs.Tables.{trees_in, sorts_in, tree_at}
-use Rattle.sm_theory.specs.Arithmetic.{is_numeric, form_fact, difference}
-use Rattle.sm_theory.specs.Views.{StandsIf}
 use Rattle.sm_lia.proofs.subtracting.equal_form.Goals as goal
 
 pub returns : goal.returns

@@ -1,10 +1,6 @@
 -- The sum with the number 1.
-use Rattle.std.proofs.Common.{ℕ, pos, subst}
-use Rattle.sm_num.specs.Forms.{Linear, IsKept}
+use Rattle.sm_lia.proofs.Imports.{ℕ, pos, subst, Linear, IsKept, Outcome, combined, Returns, constant_form}
 use Rattle.sm_num.specs.declared.kind.Kind.{Kind}
-use Rattle.sm_num.specs.Combining.{Outcome, combined}
-use Rattle.sm_num.specs.Errors.{Returns}
-use Rattle.sm_theory.specs.LinearTerms.{constant_form}
 use Rattle.sm_lia.proofs.subtracting.one_more.Goals as goal
 use Rattle.sm_theory.proofs.OneMore.{combined_one}
 

@@ -1,11 +1,6 @@
 -- 1 more of the difference.
-use Rattle.std.proofs.Common.{ℕ, Result, subst}
-use Rattle.sm_num.specs.declared.error.NumError.{NumError}
-use Rattle.sm_num.specs.Forms.{Linear}
+use Rattle.sm_lia.proofs.Imports.{ℕ, Result, subst, NumError, Linear, trees_in, tree_at, difference, ReturnsFor}
 use Rattle.sm_num.specs.declared.kind.Kind.TheVariants.{Le}
-use Rattle.sm_term.specs.Tables.{trees_in, tree_at}
-use Rattle.sm_theory.specs.Arithmetic.{difference}
-use Rattle.sm_lia.specs.Computing.{ReturnsFor}
 use Rattle.sm_lia.proofs.ComputingLemmas.{then_one_more}
 use Rattle.sm_lia.proofs.subtracting.strict_difference.Goals as goal
 

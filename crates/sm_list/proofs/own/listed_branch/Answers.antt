@@ -1,7 +1,5 @@
 -- The facts are the same over the table that has grown.
-use Rattle.std.proofs.Common.{sym, ap, ◌∙◌}
-use Rattle.sm_list.specs.Branches.{terms_of}
-use Rattle.sm_list.specs.Parts.{all_numbered}
+use Rattle.sm_list.proofs.Imports.{sym, ap, ◌∙◌, terms_of, all_numbered}
 use Rattle.sm_list.proofs.OwnLemmas.{facts_grown, facts_within_grown}
 use Rattle.sm_list.proofs.own.listed_branch.Goals as goal
 

@@ -1,14 +1,5 @@
 -- The terms of the facts are the table's, so each fact is the same there.
-use Rattle.std.proofs.Common.{◌≡◌, List, [], length, sym, ap, ◌∙◌, subst}
-use Rattle.sm_syntax.specs.text.Sorts.{Sorts}
-use Rattle.sm_term.specs.Terms.{Tree}
-use Rattle.sm_term.specs.Tables.{trees_in, sorts_in}
-use Rattle.sm_term.specs.declared.term.TermId.{TermId}
-use Rattle.sm_theory.specs.Views.{number_under}
-use Rattle.sm_list.specs.Branches.{terms_of}
-use Rattle.sm_terms.specs.Listing.{trees_at, numbers_of}
-use Rattle.sm_list.specs.Own.{AreBuilt, ArePlaced}
-use Rattle.sm_list.specs.Parts.{all_numbered, assertions_in, AreFormulasWithin}
+use Rattle.sm_list.proofs.Imports.{◌≡◌, List, [], length, sym, ap, ◌∙◌, subst, Sorts, Tree, trees_in, sorts_in, TermId, number_under, terms_of, trees_at, numbers_of, AreBuilt, ArePlaced, all_numbered, assertions_in, AreFormulasWithin}
 use Rattle.sm_list.proofs.BuiltLemmas.{terms_built, terms_among, FormulasAmong}
 use Rattle.sm_list.proofs.RenumberLemmas.{formulas_same, formulas_there}
 use Rattle.sm_list.proofs.OwnLemmas.{formulas_placed}

@@ -1,11 +1,5 @@
 -- The term's arguments are in the other table, so it fits there, and has the same tree.
-use Rattle.std.proofs.Common.{◌≡◌, ℕ, Some, slice_get, List, refl, ap, ◌∙◌, subst}
-use Rattle.sm_term.specs.Moves.{moved_contents}
-use Rattle.sm_term.specs.RowLaws.{contents_of}
-use Rattle.sm_term.specs.Tables.{trees_in, sorts_in, codes_in, tree_at}
-use Rattle.sm_term.specs.declared.term.TermId.{TermId}
-use Rattle.sm_term.specs.TableLaws.{with_tree}
-use Rattle.sm_theory.specs.Views.{number_under}
+use Rattle.sm_list.proofs.Imports.{◌≡◌, ℕ, Some, slice_get, List, refl, ap, ◌∙◌, subst, moved_contents, contents_of, trees_in, sorts_in, codes_in, tree_at, TermId, with_tree, number_under}
 use Rattle.sm_list.proofs.OwnLemmas.{row_stands, placed_put}
 use Rattle.sm_list.proofs.own.put_term.Goals as goal
 

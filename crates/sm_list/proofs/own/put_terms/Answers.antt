@@ -1,10 +1,5 @@
 -- The next term's arguments are there, and it isn't there itself.
-use Rattle.std.proofs.Common.{List, get_or, sym, ap, ◌∙◌, subst}
-use Rattle.sm_term.specs.Terms.{Tree}
-use Rattle.sm_term.specs.Heads.{arguments_of}
-use Rattle.sm_term.specs.Tables.{trees_in, tree_at}
-use Rattle.sm_term.specs.TableLaws.{with_tree}
-use Rattle.sm_terms.specs.Listing.{AllAmong}
+use Rattle.sm_list.proofs.Imports.{List, get_or, sym, ap, ◌∙◌, subst, Tree, arguments_of, trees_in, tree_at, with_tree, AllAmong}
 use Rattle.sm_list.proofs.OwnLemmas.{next_term}
 use Rattle.sm_list.proofs.own.put_terms.Goals as goal
 

@@ -1,9 +1,5 @@
 -- Each turn puts the parts of one more formula last.
-use Rattle.std.proofs.Common.{◌≡◌, ◌<◌, ◌≤◌, ◌+◌, ◌++◌, List, length, drop, sym, ap, subst, ◌∙◌, arith}
-use Rattle.std.proofs.lemmas.List.{length-map}
-use Rattle.sm_term.specs.Formulas.{NumberedFormula, numbered, assertion_in}
-use Rattle.sm_pairs.proofs.LongerLemmas.{longer_twice}
-use Rattle.sm_list.specs.Parts.{all_numbered, assertions_in, AreFormulasWithin, numbered_parts, numbered_at}
+use Rattle.sm_list.proofs.Imports.{◌≡◌, ◌<◌, ◌≤◌, ◌+◌, ◌++◌, List, length, drop, sym, ap, subst, ◌∙◌, arith, length-map, NumberedFormula, numbered, assertion_in, longer_twice, all_numbered, assertions_in, AreFormulasWithin, numbered_parts, numbered_at}
 use Rattle.sm_list.proofs.PartsLemmas.{queue_from, queue_step, queue_end, weight_of_all, weight_step, within_step, longer}
 use Rattle.sm_list.proofs.parts.add_parts.Goals as goal
 

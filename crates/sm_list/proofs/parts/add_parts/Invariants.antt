@@ -1,9 +1,6 @@
 -- What stands behind the formulas so far, with their parts, is what is wanted; the formulas stay.
-use Rattle.std.proofs.Common.{◌≡◌, ◌≤◌, ℕ, List, length, drop}
-use Rattle.sm_syntax.specs.text.Sorts.{Sorts}
-use Rattle.sm_term.specs.Terms.{Tree}
+use Rattle.sm_list.proofs.Imports.{◌≡◌, ◌≤◌, ℕ, List, length, drop, Sorts, Tree, all_numbered, assertions_in, AreFormulasWithin}
 use Rattle.sm_pairs.specs.Longer.{IsLonger}
-use Rattle.sm_list.specs.Parts.{all_numbered, assertions_in, AreFormulasWithin}
 use Rattle.sm_list.proofs.PartsLemmas.{queue_from, weight_of_all}
 use Rattle.sm_list.proofs.parts.add_parts.Given as goal
 

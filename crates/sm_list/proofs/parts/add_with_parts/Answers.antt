@@ -1,12 +1,5 @@
 -- The formula stands behind the others, and its parts behind it.
-use Rattle.std.proofs.Common.{◌≡◌, ◌++◌, ◌∷◌, [], ℕ, List, OnOk, length, sym, ap, subst, ◌∙◌, arith}
-use Rattle.std.proofs.lemmas.List.{length-map, map-append}
-use Rattle.std.proofs.lemmas.Result.{on_ok_weaker}
-use Rattle.sm_term.specs.Assertions.{Assertion}
-use Rattle.sm_term.specs.Formulas.{numbered, assertion_in}
-use Rattle.sm_pairs.proofs.LongerLemmas.{longer_twice}
-use Rattle.sm_list.specs.Branches.{with_parts}
-use Rattle.sm_list.specs.Parts.{all_numbered, assertions_in, AreFormulasWithin}
+use Rattle.sm_list.proofs.Imports.{◌≡◌, ◌++◌, ◌∷◌, [], ℕ, List, OnOk, length, sym, ap, subst, ◌∙◌, arith, length-map, map-append, on_ok_weaker, Assertion, numbered, assertion_in, longer_twice, with_parts, all_numbered, assertions_in, AreFormulasWithin}
 use Rattle.sm_list.proofs.PartsLemmas.{queue_from, queue_last, within-append}
 use Rattle.sm_list.proofs.parts.add_with_parts.Goals as goal
 

@@ -1,11 +1,5 @@
 -- The element has a number in the table, which is listed.
-use Rattle.std.proofs.Common.{◌≡◌, length, sym, ap, subst, ◌∙◌, pos}
-use Rattle.std.proofs.lemmas.Option.{slice_get_within, get_or_from_slice_get}
-use Rattle.sm_term.specs.Terms.{Tree, Read, Lit}
-use Rattle.sm_term.specs.Tables.{trees_in, tree_at}
-use Rattle.sm_theory.specs.TermsOfFormulas.{put}
-use Rattle.sm_terms.specs.Listing.{trees_at, AreBelow}
-use Rattle.sm_terms.proofs.ListingLemmas.{listed_put, below_put, below_grown, same_grown}
+use Rattle.sm_list.proofs.Imports.{◌≡◌, length, sym, ap, subst, ◌∙◌, pos, slice_get_within, get_or_from_slice_get, Tree, Read, Lit, trees_in, tree_at, put, trees_at, AreBelow, listed_put, below_put, below_grown, same_grown}
 use Rattle.sm_list.proofs.reads.list_read.Goals as goal
 
 pub returns-clause-terms : goal.returns-clause-terms

@@ -1,11 +1,5 @@
 -- One round more, until none brings anything.
-use Rattle.std.proofs.Common.{◌≡◌, ◌<◌, ◌≤◌, ℕ, suc, List, length, take, drop, sym, ap, subst, ◌∙◌, arith}
-use Rattle.std.proofs.lemmas.List.{length-map}
-use Rattle.sm_term.specs.Terms.{Tree}
-use Rattle.sm_term.specs.Tables.{trees_in, tree_at}
-use Rattle.sm_term.proofs.TablesLemmas.{grows-twice}
-use Rattle.sm_list.specs.Branches.{with_reads, with_all_reads}
-use Rattle.sm_terms.specs.Listing.{trees_at}
+use Rattle.sm_list.proofs.Imports.{◌≡◌, ◌<◌, ◌≤◌, ℕ, suc, List, length, take, drop, sym, ap, subst, ◌∙◌, arith, length-map, Tree, trees_in, tree_at, grows-twice, with_reads, with_all_reads, trees_at}
 use Rattle.sm_list.proofs.ReadsLemmas.{AllRead, IsSettled, rank_of, round_from, rounds_next, rounds_end, settled_past}
 use Rattle.sm_list.proofs.reads.list_reads.Goals as goal
 

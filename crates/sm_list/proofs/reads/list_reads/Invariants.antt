@@ -1,9 +1,5 @@
 -- Rounds have been made, the last terms of which are to be read yet.
-use Rattle.std.proofs.Common.{◌≡◌, ◌≤◌, ℕ, length, take, drop}
-use Rattle.sm_term.specs.Tables.{trees_in}
-use Rattle.sm_term.specs.TableLaws.{AddsTerms}
-use Rattle.sm_list.specs.Branches.{with_all_reads}
-use Rattle.sm_terms.specs.Listing.{trees_at, AreBelow}
+use Rattle.sm_list.proofs.Imports.{◌≡◌, ◌≤◌, ℕ, length, take, drop, trees_in, AddsTerms, with_all_reads, trees_at, AreBelow}
 use Rattle.sm_list.proofs.ReadsLemmas.{AllRead, rank_of}
 use Rattle.sm_list.proofs.reads.list_reads.Given as goal
 

@@ -1,13 +1,5 @@
 -- One term more is read.
-use Rattle.std.proofs.Common.{◌≡◌, ◌<◌, ◌+◌, ◌++◌, ◌∷◌, ℕ, suc, List, length, drop, get_or, sym, ap, subst, ◌∙◌, arith}
-use Rattle.std.proofs.lemmas.List.{length-map, append_assoc, drop_more, get_or_append_left}
-use Rattle.std.proofs.lemmas.Option.{get_or_from_slice_get, slice_get_within}
-use Rattle.sm_term.specs.Terms.{Tree}
-use Rattle.sm_term.specs.Tables.{trees_in, tree_at}
-use Rattle.sm_term.proofs.TablesLemmas.{grows-twice}
-use Rattle.sm_list.specs.Branches.{put_if, read_before, with_reads}
-use Rattle.sm_terms.specs.Listing.{trees_at}
-use Rattle.sm_terms.proofs.ListingLemmas.{below_at, tree_of_place}
+use Rattle.sm_list.proofs.Imports.{◌≡◌, ◌<◌, ◌+◌, ◌++◌, ◌∷◌, ℕ, suc, List, length, drop, get_or, sym, ap, subst, ◌∙◌, arith, length-map, append_assoc, drop_more, get_or_append_left, get_or_from_slice_get, slice_get_within, Tree, trees_in, tree_at, grows-twice, put_if, read_before, with_reads, trees_at, below_at, tree_of_place}
 use Rattle.sm_list.proofs.ReadsLemmas.{reads_on, grown_put_if}
 use Rattle.sm_list.proofs.reads.list_round.Goals as goal
 

@@ -1,10 +1,5 @@
 -- What is left to read of the terms makes what all make.
-use Rattle.std.proofs.Common.{◌≡◌, ◌++◌, List, length, drop}
-use Rattle.sm_term.specs.Terms.{Tree}
-use Rattle.sm_term.specs.Tables.{trees_in}
-use Rattle.sm_term.specs.TableLaws.{AddsTerms}
-use Rattle.sm_list.specs.Branches.{with_reads}
-use Rattle.sm_terms.specs.Listing.{trees_at, AreBelow}
+use Rattle.sm_list.proofs.Imports.{◌≡◌, ◌++◌, List, length, drop, Tree, trees_in, AddsTerms, with_reads, trees_at, AreBelow}
 use Rattle.sm_list.proofs.reads.list_round.Given as goal
 
 abbrev pub invariant-loop-k : goal.invariant-loop-k

@@ -1,6 +1,4 @@
-use Rattle.std.proofs.Common.{◌≡◌, map, take}
-use Rattle.sm_term.specs.Rows.{parts_in_list}
-use Rattle.sm_theory.specs.Views.{number_under}
+use Rattle.sm_list.proofs.Imports.{◌≡◌, map, take, parts_in_list, number_under}
 use Rattle.sm_list.proofs.renumber.new_numbers.Given as goal
 
 abbrev pub invariant-loop-t : goal.invariant-loop-t

@@ -1,7 +1,5 @@
 -- The terms of the formula are those of the other table under their numbers.
-use Rattle.std.proofs.Common.{length, sym, ap, ◌∙◌, subst}
-use Rattle.sm_term.specs.Formulas.{numbered, assertion_in, IsFormulaWithin}
-use Rattle.sm_theory.specs.Views.{number_under}
+use Rattle.sm_list.proofs.Imports.{length, sym, ap, ◌∙◌, subst, numbered, assertion_in, IsFormulaWithin, number_under}
 use Rattle.sm_list.proofs.RenumberLemmas.{terms_stand, formula_stands, formula_same, formula_there}
 use Rattle.sm_list.proofs.renumber.renumbered.Goals as goal
 

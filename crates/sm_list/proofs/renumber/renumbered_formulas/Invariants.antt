@@ -1,7 +1,4 @@
-use Rattle.std.proofs.Common.{◌≡◌, map, take}
-use Rattle.sm_theory.specs.Views.{number_under}
-use Rattle.sm_list.specs.Parts.{all_numbered}
-use Rattle.sm_list.specs.Renumber.{formula_under}
+use Rattle.sm_list.proofs.Imports.{◌≡◌, map, take, number_under, all_numbered, formula_under}
 use Rattle.sm_list.proofs.renumber.renumbered_formulas.Given as goal
 
 abbrev pub invariant-loop-f : goal.invariant-loop-f

@@ -1,12 +1,6 @@
 -- A tree has its lines and those under its end under the other numbers.
-use Rattle.std.proofs.Common.{◌≡◌, List, length, refl, sym, subst}
-use Rattle.sm_theory.specs.declared.line.CertLine.{CertLine}
+use Rattle.sm_list.proofs.Imports.{◌≡◌, List, length, refl, sym, subst, CertLine, EachTerm, certificate_in, lines_of, AreLinesWithin, CertTree, roll-CertTree, IsOneOf, AreLinesUnder}
 use Rattle.sm_cert.specs.declared.tree.CertEnd.TheVariants as ends
-use Rattle.sm_cert.specs.NamedTerms.{EachTerm}
-use Rattle.sm_cert.specs.Views.{certificate_in, lines_of, AreLinesWithin}
-use Rattle.sm_cert.specs.declared.tree.CertTree.{CertTree, roll-CertTree}
-use Rattle.sm_list.specs.Branches.{IsOneOf}
-use Rattle.sm_list.specs.Renumber.{AreLinesUnder}
 use Rattle.sm_list.proofs.RenumberTreeLemmas.{TreeStands, closed_stands, split_stands}
 use Rattle.sm_list.proofs.renumber_lines.+renumber_tree.Goals as goal
 

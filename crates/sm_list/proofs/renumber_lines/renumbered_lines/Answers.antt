@@ -1,8 +1,5 @@
 -- Each turn adds one line under the other numbers.
-use Rattle.std.proofs.Common.{List, subst}
-use Rattle.std.proofs.lemmas.List.{take_all}
-use Rattle.sm_theory.specs.declared.line.CertLine.{CertLine}
-use Rattle.sm_list.specs.Renumber.{AreLinesUnder}
+use Rattle.sm_list.proofs.Imports.{List, subst, take_all, CertLine, AreLinesUnder}
 use Rattle.sm_list.proofs.RenumberLemmas.{lines_next}
 use Rattle.sm_list.proofs.renumber_lines.renumbered_lines.Goals as goal
 

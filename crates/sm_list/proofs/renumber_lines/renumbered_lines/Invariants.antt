@@ -1,5 +1,4 @@
-use Rattle.std.proofs.Common.{take}
-use Rattle.sm_list.specs.Renumber.{AreLinesUnder}
+use Rattle.sm_list.proofs.Imports.{take, AreLinesUnder}
 use Rattle.sm_list.proofs.renumber_lines.renumbered_lines.Given as goal
 
 abbrev pub invariant-loop-line : goal.invariant-loop-line

@@ -1,6 +1,5 @@
 -- Each number that is new stands for itself.
-use Rattle.std.proofs.Common.{◌≡◌, ◌≤◌, ◌-◌, ℕ, length}
-use Rattle.sm_theory.specs.Views.{number_under}
+use Rattle.sm_list.proofs.Imports.{◌≡◌, ◌≤◌, ◌-◌, ℕ, length, number_under}
 use Rattle.sm_list.proofs.shared.lengthen.Given as goal
 
 abbrev pub invariant-loop-numbers : goal.invariant-loop-numbers

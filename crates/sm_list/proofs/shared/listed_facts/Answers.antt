@@ -1,13 +1,5 @@
 -- The terms of the facts are the table's, which has grown, so each fact is the same there.
-use Rattle.std.proofs.Common.{◌≡◌, ◌++◌, ◌≤◌, true, false, List, [], length, sym, ap, ◌∙◌, subst, arith}
-use Rattle.sm_syntax.specs.text.Sorts.{Sorts}
-use Rattle.sm_term.specs.Terms.{Tree}
-use Rattle.sm_term.specs.Tables.{trees_in, sorts_in}
-use Rattle.sm_term.specs.declared.term.TermId.{TermId}
-use Rattle.sm_list.specs.Branches.{terms_of}
-use Rattle.sm_terms.specs.Listing.{trees_at}
-use Rattle.sm_list.specs.Own.{AreBuilt, ArePlaced}
-use Rattle.sm_list.specs.Parts.{all_numbered, assertions_in}
+use Rattle.sm_list.proofs.Imports.{◌≡◌, ◌++◌, ◌≤◌, true, false, List, [], length, sym, ap, ◌∙◌, subst, arith, Sorts, Tree, trees_in, sorts_in, TermId, terms_of, trees_at, AreBuilt, ArePlaced, all_numbered, assertions_in}
 use Rattle.sm_list.proofs.OwnLemmas.{facts_grown, facts_within_grown}
 use Rattle.sm_list.proofs.SharedLemmas.{all_moved, all_behind}
 use Rattle.sm_list.proofs.shared.listed_facts.Goals as goal

@@ -1,8 +1,5 @@
 -- The first terms are there, under their places, which are noted.
-use Rattle.std.proofs.Common.{◌≡◌, length, take}
-use Rattle.sm_term.specs.Tables.{trees_in, sorts_in, codes_in}
-use Rattle.sm_terms.specs.Listing.{trees_at}
-use Rattle.sm_list.specs.Own.{ArePlaced}
+use Rattle.sm_list.proofs.Imports.{◌≡◌, length, take, trees_in, sorts_in, codes_in, trees_at, ArePlaced}
 use Rattle.sm_list.proofs.shared.put_rest.Given as goal
 
 abbrev pub invariant-loop-k : goal.invariant-loop-k

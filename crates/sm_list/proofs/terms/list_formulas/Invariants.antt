@@ -1,9 +1,5 @@
 -- The terms of the formulas that are left go behind those that are listed.
-use Rattle.std.proofs.Common.{◌≡◌, length, drop}
-use Rattle.sm_term.specs.Tables.{trees_in, sorts_in}
-use Rattle.sm_theory.specs.TermsOfFormulas.{with_formulas}
-use Rattle.sm_list.specs.Parts.{all_numbered, assertions_in, AreFormulasWithin}
-use Rattle.sm_terms.specs.Listing.{trees_at, AreBelow, IsClosed}
+use Rattle.sm_list.proofs.Imports.{◌≡◌, length, drop, trees_in, sorts_in, with_formulas, all_numbered, assertions_in, AreFormulasWithin, trees_at, AreBelow, IsClosed}
 use Rattle.sm_list.proofs.terms.list_formulas.Given as goal
 
 abbrev pub invariant-loop-f : goal.invariant-loop-f

@@ -1,10 +1,5 @@
 -- The terms of the formulas, and behind them what is read before.
-use Rattle.std.proofs.Common.{◌≡◌, ℕ, true, false, List, length, sym, ap, subst, ◌∙◌}
-use Rattle.sm_term.specs.Tables.{trees_in, sorts_in}
-use Rattle.sm_theory.specs.TermsOfFormulas.{with_formulas}
-use Rattle.sm_list.specs.Parts.{all_numbered, assertions_in}
-use Rattle.sm_list.specs.Shared.{with_those_before}
-use Rattle.sm_terms.specs.Listing.{trees_at, AreBelow, IsClosed}
+use Rattle.sm_list.proofs.Imports.{◌≡◌, ℕ, true, false, List, length, sym, ap, subst, ◌∙◌, trees_in, sorts_in, with_formulas, all_numbered, assertions_in, with_those_before, trees_at, AreBelow, IsClosed}
 use Rattle.sm_list.proofs.terms.list_terms.Goals as goal
 
 pub list_formulas-requires-clause-listed : goal.list_formulas-requires-clause-listed

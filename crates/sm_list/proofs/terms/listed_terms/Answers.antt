@@ -1,9 +1,4 @@
-use Rattle.std.proofs.Common.{◌≡◌, ap, ◌∙◌}
-use Rattle.std.proofs.lemmas.Result.{IfOk-weaker}
-use Rattle.sm_term.specs.Tables.{trees_in, sorts_in}
-use Rattle.sm_list.specs.Branches.{terms_of}
-use Rattle.sm_list.specs.Parts.{all_numbered, assertions_in}
-use Rattle.sm_terms.specs.Listing.{trees_at, numbers_of}
+use Rattle.sm_list.proofs.Imports.{◌≡◌, ap, ◌∙◌, IfOk-weaker, trees_in, sorts_in, terms_of, all_numbered, assertions_in, trees_at, numbers_of}
 use Rattle.sm_list.proofs.terms.listed_terms.Goals as goal
 
 pub returns-clause-terms : goal.returns-clause-terms

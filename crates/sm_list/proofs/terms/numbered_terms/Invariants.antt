@@ -1,5 +1,4 @@
-use Rattle.std.proofs.Common.{◌≡◌, take}
-use Rattle.sm_terms.specs.Listing.{numbers_of}
+use Rattle.sm_list.proofs.Imports.{◌≡◌, take, numbers_of}
 use Rattle.sm_list.proofs.terms.numbered_terms.Given as goal
 
 abbrev pub invariant-loop-n : goal.invariant-loop-n

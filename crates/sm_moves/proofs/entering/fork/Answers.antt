@@ -1,9 +1,5 @@
 -- The copy's code alone goes on.
-use Rattle.std.proofs.Common.{if◌then◌else◌}
-use Rattle.sm_syntax.specs.claim.Syntax.{Code}
-use Rattle.sm_syntax.specs.claim.ConflictFree.{Copy}
-use Rattle.sm_syntax.specs.trees.Copies.{copy_named}
-use Rattle.sm_moves.specs.CodeShapes.{by_first_block, by_second_block}
+use Rattle.sm_moves.proofs.Imports.{if◌then◌else◌, Code, Copy, copy_named, by_first_block, by_second_block}
 use Rattle.sm_moves.specs.Rests.{codes_in}
 use Rattle.sm_moves.proofs.CopiesLemmas.{forked_at}
 use Rattle.sm_moves.proofs.entering.fork.Goals as goal

@@ -1,9 +1,5 @@
 -- The statements of the last shared one are as many as it is filled with.
-use Rattle.std.proofs.Common.{sym, ap, ◌∙◌}
-use Rattle.sm_syntax.specs.claim.Syntax.{End}
-use Rattle.sm_syntax.specs.trees.Programs.{fillings_of}
-use Rattle.sm_syntax.specs.trees.Views.{statement_of}
-use Rattle.sm_plan.specs.Views.{code_before}
+use Rattle.sm_moves.proofs.Imports.{sym, ap, ◌∙◌, End, fillings_of, statement_of, code_before}
 use Rattle.sm_moves.proofs.PiecesLemmas.{cut_filled}
 use Rattle.sm_moves.proofs.filled.cut_one.Goals as goal
 

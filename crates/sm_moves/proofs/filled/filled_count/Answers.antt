@@ -1,11 +1,5 @@
 -- A hole counts as its filling does.
-use Rattle.std.proofs.Common.{sym, ap, ◌∙◌}
-use Rattle.sm_syntax.specs.claim.Fill.{fill}
-use Rattle.sm_syntax.specs.claim.Syntax.{End}
-use Rattle.sm_syntax.specs.trees.Programs.{fillings_of}
-use Rattle.sm_syntax.specs.trees.Views.{statement_of}
-use Rattle.sm_syntax.specs.declared.tree.Stmt.{Stmt}
-use Rattle.sm_moves.specs.CodeShapes.{own_statements}
+use Rattle.sm_moves.proofs.Imports.{sym, ap, ◌∙◌, fill, End, fillings_of, statement_of, Stmt, own_statements}
 use Rattle.sm_moves.proofs.PiecesLemmas.{own-Hole}
 use Rattle.sm_moves.proofs.filled.filled_count.Goals as goal
 

@@ -1,6 +1,5 @@
 -- The statements of the filling's block are counted.
-use Rattle.std.proofs.Common.{ap, ◌∙◌}
-use Rattle.sm_moves.specs.CodeShapes.{own_statements}
+use Rattle.sm_moves.proofs.Imports.{ap, ◌∙◌, own_statements}
 use Rattle.sm_moves.proofs.PiecesLemmas.{counted}
 use Rattle.sm_moves.proofs.filled.filling_count.Goals as goal
 

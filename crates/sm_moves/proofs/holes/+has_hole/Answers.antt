@@ -1,7 +1,5 @@
 -- A block has a hole where one of its statements has.
-use Rattle.std.proofs.Common.{refl, sym, ◌∙◌}
-use Rattle.sm_syntax.specs.trees.Views.{code_of}
-use Rattle.sm_moves.specs.CodeShapes.{has_hole}
+use Rattle.sm_moves.proofs.Imports.{refl, sym, ◌∙◌, code_of, has_hole}
 use Rattle.sm_moves.proofs.WalksLemmas.{hole-append, found_here, not_here, nowhere, whole_block}
 use Rattle.sm_moves.proofs.holes.+has_hole.Goals as goal
 

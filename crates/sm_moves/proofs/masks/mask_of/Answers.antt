@@ -1,8 +1,6 @@
 -- The sum of the bits is the mask of the set.
-use Rattle.std.proofs.Common.{◌+◌, ◌∙◌}
-use Rattle.sm_syntax.specs.trees.Copies.{of_copy}
+use Rattle.sm_moves.proofs.Imports.{◌+◌, ◌∙◌, of_copy, set_of}
 use Rattle.sm_plan.specs.Copies as sets
-use Rattle.sm_plan.specs.Masks.{set_of}
 use Rattle.sm_plan.proofs.MasksExact.{mask_exact}
 use Rattle.sm_moves.proofs.masks.mask_of.Goals as goal
 

@@ -1,9 +1,5 @@
 -- The first statement is the same, or it isn't.
-use Rattle.std.proofs.Common.{ap, sym, ◌∙◌}
-use Rattle.sm_syntax.specs.claim.Syntax.{End}
-use Rattle.sm_syntax.specs.trees.Views.{statement_of}
-use Rattle.sm_term.specs.SameTerms.{same_code}
-use Rattle.sm_plan.specs.Views.{rest_code}
+use Rattle.sm_moves.proofs.Imports.{ap, sym, ◌∙◌, End, statement_of, same_code, rest_code}
 use Rattle.sm_moves.proofs.MovesMade.{decided, front_is}
 use Rattle.sm_moves.proofs.moves.begins_with.Goals as goal
 

@@ -1,14 +1,5 @@
 -- Each begins with the statement of the least copy.
-use Rattle.std.proofs.Common.{◌≡◌, not, ◌||◌, ap, sym, ◌∙◌}
-use Rattle.sm_syntax.specs.claim.Syntax.{Code, End}
-use Rattle.sm_syntax.specs.claim.ConflictFree.{Copy}
-use Rattle.sm_syntax.specs.trees.Copies.{copy_named, of_copy}
-use Rattle.sm_syntax.specs.trees.Views.{statement_of}
-use Rattle.sm_term.specs.SameTerms.{same_code}
-use Rattle.sm_plan.specs.Copies.{each, has}
-use Rattle.sm_plan.specs.Masks.{set_of}
-use Rattle.sm_plan.specs.Statements.{front}
-use Rattle.sm_plan.specs.Views.{rest_code}
+use Rattle.sm_moves.proofs.Imports.{◌≡◌, not, ◌||◌, ap, sym, ◌∙◌, Code, End, Copy, copy_named, of_copy, statement_of, same_code, each, has, set_of, front, rest_code}
 use Rattle.sm_plan.specs.declared.rest.Continuation.{Continuation}
 use Rattle.sm_moves.proofs.MovesMade.{shared_by, front_is}
 use Rattle.sm_moves.proofs.moves.is_shared.Goals as goal

@@ -1,10 +1,6 @@
 -- The sum ascends and keeps to the range.
-use Rattle.std.proofs.Common.{sym, subst, rules}
-use Rattle.std.proofs.lemmas.Int.{to_z-of_z}
-use Rattle.std.specs.Int.{w128}
+use Rattle.sm_num.proofs.Imports.{sym, subst, rules, to_z-of_z, w128, AreParts, combined_number, merged}
 use mir.Val.{SFits}
-use Rattle.sm_num.specs.Forms.{AreParts}
-use Rattle.sm_num.specs.Combining.{combined_number, merged}
 use Rattle.sm_num.proofs.KeptLemmas.{merged_parts}
 use Rattle.sm_num.proofs.OutcomeLemmas.{IsSum, gives_fits, combined_number_gives}
 use Rattle.sm_num.proofs.combining.combine.Goals as goal

@@ -1,6 +1,5 @@
 -- The divisor of what is left is that of the numbers.
-use Rattle.std.proofs.Common.{◌≡◌}
-use Rattle.sm_num.specs.Eliminating.{gcd}
+use Rattle.sm_num.proofs.Imports.{◌≡◌, gcd}
 use Rattle.sm_num.proofs.dividing.common_divisor.Given as goal
 
 abbrev pub invariant-loop-y : goal.invariant-loop-y

@@ -1,6 +1,5 @@
 -- The parts so far are divided.
-use Rattle.std.proofs.Common.{◌≡◌, take}
-use Rattle.sm_num.specs.Eliminating.{divided_parts}
+use Rattle.sm_num.proofs.Imports.{◌≡◌, take, divided_parts}
 use Rattle.sm_num.proofs.dividing.divide_parts.Given as goal
 
 abbrev pub invariant-loop-part : goal.invariant-loop-part

@@ -1,6 +1,5 @@
 -- The divisor so far is that of the parts from here on.
-use Rattle.std.proofs.Common.{◌≡◌, ◌≤◌, length, drop}
-use Rattle.sm_num.specs.Eliminating.{divisor_of_parts}
+use Rattle.sm_num.proofs.Imports.{◌≡◌, ◌≤◌, length, drop, divisor_of_parts}
 use Rattle.sm_num.proofs.dividing.parts_divisor.Given as goal
 
 abbrev pub invariant-loop-i : goal.invariant-loop-i

@@ -1,10 +1,6 @@
 -- The divisor of all numbers divides each, so the quotients ascend and keep to the range.
-use Rattle.std.proofs.Common.{◌≡◌, ◌<◌, ◌^◌, ℕ, ℤ, nat_abs, IsTrue, rules, sym, ap, subst, ◌∙◌}
-use Rattle.std.proofs.lemmas.Int.{to_z-of_z}
-use Rattle.std.specs.Int.{w128, ◌∣◌}
+use Rattle.sm_num.proofs.Imports.{◌≡◌, ◌<◌, ◌^◌, ℕ, ℤ, nat_abs, IsTrue, rules, sym, ap, subst, ◌∙◌, to_z-of_z, w128, ◌∣◌, fits_form, gcd, divisor_of_parts}
 use mir.Val.{SFits}
-use Rattle.sm_num.specs.Range.{fits_form}
-use Rattle.sm_num.specs.Eliminating.{gcd, divisor_of_parts}
 use Rattle.sm_num.proofs.KeptForms.{divided_items, divisor_of_all_below}
 use Rattle.sm_num.proofs.DivisionLemmas.{gcd_is, divisor_divides}
 use Rattle.sm_num.proofs.ResultsReduced.{floor_fits}

@@ -1,10 +1,6 @@
 -- Where the sum leaves the range, so does what is divided.
-use Rattle.std.proofs.Common.{ℕ, rules, ap}
-use Rattle.std.proofs.lemmas.Int.{to_z-of_z}
-use Rattle.std.proofs.lemmas.Result.{err_from_is_err_and}
-use Rattle.std.specs.Int.{w128}
+use Rattle.sm_num.proofs.Imports.{ℕ, rules, ap, to_z-of_z, err_from_is_err_and, w128, Linear}
 use mir.Val.{SFits}
-use Rattle.sm_num.specs.Forms.{Linear}
 use Rattle.sm_num.proofs.Eliminated.{eliminated_is, elim_fails}
 use Rattle.sm_num.proofs.eliminating.elim.Goals as goal
 

@@ -1,6 +1,5 @@
 -- The divisor isn't 0, since the first coefficient isn't.
-use Rattle.std.proofs.Common.{◌<◌, ℕ, nat_abs, sym, subst, ◌∙◌, ap}
-use Rattle.sm_num.specs.Eliminating.{gcd}
+use Rattle.sm_num.proofs.Imports.{◌<◌, ℕ, nat_abs, sym, subst, ◌∙◌, ap, gcd}
 use Rattle.sm_num.proofs.Divisors.{gcd_is_some}
 use Rattle.sm_num.proofs.KeptForms.{size_is_some}
 use Rattle.sm_num.proofs.eliminating.find_multipliers.Goals as goal

@@ -1,10 +1,6 @@
 -- Where one list has ended, the other is put after.
-use Rattle.std.proofs.Common.{◌≡◌, ◌⊎◌, inl, inr, List, ℕ, ℤ, [], drop, subst}
+use Rattle.sm_num.proofs.Imports.{◌≡◌, ◌⊎◌, inl, inr, List, ℕ, ℤ, [], drop, subst, err_from_is_err_and, Fits, scaled, Explains, behind}
 use Rattle.std.proofs.Math.ListN.{drop_of_length-le}
-use Rattle.std.proofs.lemmas.Result.{err_from_is_err_and}
-use Rattle.sm_num.specs.Combining.{Fits, scaled}
-use Rattle.sm_num.specs.Errors.{Explains}
-use Rattle.sm_num.specs.Merging.{behind}
 use Rattle.sm_num.proofs.Merges.{ends, first_fails, rest_from}
 use Rattle.sm_num.proofs.merging.merge.Goals as goal
 use Rattle.sm_num.proofs.merging.merge.Goals.{then-loop-i-test+else-j-g, else-loop-i-test}

@@ -1,7 +1,5 @@
 -- What is put so far, and then the sum of the parts from here on, are all of it.
-use Rattle.std.proofs.Common.{◌≡◌, ◌+◌, ◌-◌, ◌≤◌, length, drop}
-use Rattle.sm_num.specs.Combining.{merged}
-use Rattle.sm_num.specs.Merging.{behind}
+use Rattle.sm_num.proofs.Imports.{◌≡◌, ◌+◌, ◌-◌, ◌≤◌, length, drop, merged, behind}
 use Rattle.sm_num.proofs.merging.merge.Given as goal
 
 abbrev pub invariant-loop-i : goal.invariant-loop-i

@@ -1,7 +1,5 @@
 -- What is put so far, and then the parts from here on, are all of them.
-use Rattle.std.proofs.Common.{◌≡◌, drop}
-use Rattle.sm_num.specs.Combining.{scaled}
-use Rattle.sm_num.specs.Merging.{behind}
+use Rattle.sm_num.proofs.Imports.{◌≡◌, drop, scaled, behind}
 use Rattle.sm_num.proofs.merging.put_products.Given as goal
 
 abbrev pub invariant-loop-part : goal.invariant-loop-part

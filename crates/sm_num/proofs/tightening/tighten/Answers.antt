@@ -1,6 +1,5 @@
 -- The divisor of some parts isn't 0.
-use Rattle.std.proofs.Common.{◌≡◌, ◌<◌, ℕ, ℤ, List, length, arith, sym, ap, subst, ◌∙◌}
-use Rattle.sm_num.specs.Eliminating.{divisor_of_parts}
+use Rattle.sm_num.proofs.Imports.{◌≡◌, ◌<◌, ℕ, ℤ, List, length, arith, sym, ap, subst, ◌∙◌, divisor_of_parts}
 use Rattle.sm_num.proofs.KeptForms.{some_by_test, divisor_is_some}
 use Rattle.sm_num.proofs.tightening.tighten.Goals as goal
 

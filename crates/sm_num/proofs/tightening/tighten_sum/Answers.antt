@@ -1,15 +1,9 @@
 -- The divisor of the parts divides each, so the quotients ascend and keep to the range.
-use Rattle.std.proofs.Common.{◌≡◌, ◌<◌, ◌^◌, ℕ, ℤ, IsTrue, rules, sym, ap, subst, ◌∙◌}
-use Rattle.std.proofs.lemmas.Int.{to_z-of_z}
-use Rattle.std.specs.Int.{w128, ◌∣◌}
+use Rattle.sm_num.proofs.Imports.{◌≡◌, ◌<◌, ◌^◌, ℕ, ℤ, IsTrue, rules, sym, ap, subst, ◌∙◌, to_z-of_z, w128, ◌∣◌, fits_form, Linear, divisor_of_parts, dvd_refl}
 use mir.Val.{SFits}
-use Rattle.sm_num.specs.Range.{fits_form}
-use Rattle.sm_num.specs.Forms.{Linear}
-use Rattle.sm_num.specs.Eliminating.{divisor_of_parts}
 use Rattle.sm_num.proofs.KeptForms.{divided_items, divisor_below}
 use Rattle.sm_num.proofs.DivisionLemmas.{divisor_divides}
 use Rattle.sm_num.proofs.ResultsReduced.{ceiling_fits}
-use Rattle.std.proofs.lemmas.Nat.Gcd.{dvd_refl}
 use Rattle.sm_num.proofs.tightening.tighten_sum.Goals as goal
 
 pub divide_parts-requires : goal.divide_parts-requires

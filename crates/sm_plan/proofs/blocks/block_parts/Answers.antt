@@ -1,14 +1,5 @@
 -- What is kept stands over the table with new values, and all of it over the last one.
-use Rattle.std.proofs.Common.{◌∙◌, sym, ap, subst}
-use Rattle.sm_syntax.specs.claim.ConflictFree.{Copy}
-use Rattle.sm_syntax.specs.text.Sorts.{IsWellSorted}
-use Rattle.sm_syntax.specs.trees.Copies.{of_copy}
-use Rattle.sm_term.specs.Assertions.{conj}
-use Rattle.sm_term.specs.Formulas.{numbered}
-use Rattle.sm_term.specs.declared.formula.Formula.{Formula}
-use Rattle.sm_term.specs.Slots.{all_at_stores}
-use Rattle.sm_term.specs.Tables.{trees_in, sorts_in}
-use Rattle.sm_plan.specs.Views.{rest_code}
+use Rattle.sm_plan.proofs.Imports.{◌∙◌, sym, ap, subst, Copy, IsWellSorted, of_copy, conj, numbered, Formula, all_at_stores, trees_in, sorts_in, rest_code}
 use Rattle.sm_plan.proofs.SortedCode.{front_well}
 use Rattle.sm_plan.proofs.TablesWiden.{widens_grown, widens_twice, stores_stay, stores_ready, stores_full, assertion_stays, form_ready}
 use Rattle.sm_plan.proofs.blocks.block_parts.Goals as goal

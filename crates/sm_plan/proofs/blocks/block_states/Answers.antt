@@ -1,11 +1,6 @@
 -- Both states are ready.
-use Rattle.std.proofs.Common.{◌≡◌, [], ◌∷◌, sym, subst, ◌∙◌}
-use Rattle.sm_syntax.specs.declared.copies.PerCopy.{PerCopy}
-use Rattle.sm_term.specs.declared.symbolic.SymStore.{SymStore}
-use Rattle.sm_plan.specs.declared.blocks.BlockParts.{BlockParts}
+use Rattle.sm_plan.proofs.Imports.{◌≡◌, [], ◌∷◌, sym, subst, ◌∙◌, PerCopy, SymStore, BlockParts, block_alone, AreFormsReady, AreSuccessorsReady, IsStateReady, Successor}
 use Rattle.sm_plan.specs.declared.state.SymState.{SymState}
-use Rattle.sm_plan.specs.BlockParts.{block_alone}
-use Rattle.sm_plan.specs.ReadyStates.{AreFormsReady, AreSuccessorsReady, IsStateReady, Successor}
 use Rattle.sm_plan.proofs.blocks.block_states.Goals as goal
 
 -- a state with other stores

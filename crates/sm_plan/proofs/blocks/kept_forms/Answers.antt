@@ -1,12 +1,5 @@
 -- The parts stand over the stores.
-use Rattle.std.proofs.Common.{List, ◌∙◌, sym, ap, subst}
-use Rattle.sm_syntax.specs.text.Sorts.{Sorts}
-use Rattle.sm_term.specs.Slots.{all_at_stores}
-use Rattle.sm_term.specs.Tables.{trees_in, sorts_in}
-use Rattle.sm_term.specs.Terms.{Tree}
-use Rattle.sm_plan.specs.declared.state.Formulas.{Formulas}
-use Rattle.sm_plan.specs.ReadyStates.{AreFormsReady}
-use Rattle.sm_plan.specs.Views.{forms_in, stores_in}
+use Rattle.sm_plan.proofs.Imports.{List, ◌∙◌, sym, ap, subst, Sorts, all_at_stores, trees_in, sorts_in, Tree, Formulas, AreFormsReady, forms_in, stores_in}
 use Rattle.sm_plan.proofs.blocks.kept_forms.Goals as goal
 
 pub shared_at-requires-clause-forms : goal.shared_at-requires-clause-forms

@@ -1,15 +1,7 @@
 -- The states are those that the node opens.
-use Rattle.std.proofs.Common.{◌≡◌, Bool, true, List, [], ◌∷◌, Some, sym, ap, ◌∙◌}
-use Rattle.sm_syntax.specs.trees.Copies.{of_copy}
-use Rattle.sm_term.specs.Assertions.{Assertion}
-use Rattle.sm_term.specs.Formulas.{numbered, assertion_in}
-use Rattle.sm_term.specs.declared.formula.Formula.{Formula}
-use Rattle.sm_term.specs.Tables.{trees_in, sorts_in}
-use Rattle.sm_plan.specs.declared.blocks.BlockParts.{BlockParts}
+use Rattle.sm_plan.proofs.Imports.{◌≡◌, Bool, true, List, [], ◌∷◌, Some, sym, ap, ◌∙◌, of_copy, Assertion, numbered, assertion_in, Formula, trees_in, sorts_in, BlockParts, State, inner_state, after_block_state, state_in}
 use Rattle.sm_plan.specs.Nodes as plan
-use Rattle.sm_plan.specs.States.{State}
-use Rattle.sm_plan.specs.Successors.{inner_state, after_block_state}
-use Rattle.sm_plan.specs.Views.{state_in, SymState}
+use Rattle.sm_plan.specs.Views.{SymState}
 use Rattle.sm_plan.proofs.BlocksOpened.{inner_is, after_is, inner_ready, after_ready}
 use Rattle.sm_plan.proofs.OpeningsMade.{opening_states}
 use Rattle.sm_plan.proofs.blocks.open_block.Goals as goal

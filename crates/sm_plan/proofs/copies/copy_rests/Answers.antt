@@ -1,8 +1,5 @@
 -- By what was made for each copy.
-use Rattle.std.proofs.Common.{◌≡◌}
-use Rattle.sm_syntax.specs.claim.ConflictFree.{Copy}
-use Rattle.sm_syntax.specs.trees.Copies.{of_copy}
-use Rattle.sm_plan.specs.Views.{rest_code, Continuation}
+use Rattle.sm_plan.proofs.Imports.{◌≡◌, Copy, of_copy, rest_code, Continuation}
 use Rattle.sm_plan.proofs.EachMade.{each_made}
 use Rattle.sm_plan.proofs.copies.copy_rests.Goals as goal
 

@@ -1,16 +1,7 @@
 -- The target over the stores of the state.
-use Rattle.std.proofs.Common.{◌≡◌, Bool, true, List, [], Some, map, inr, sym, ap, subst, ◌∙◌}
-use Rattle.sm_syntax.specs.claim.ConflictFree.{Copy}
-use Rattle.sm_syntax.specs.trees.Copies.{of_copy}
-use Rattle.sm_term.specs.declared.formula.Formula.{Formula}
-use Rattle.sm_term.specs.Assertions.{Assertion}
-use Rattle.sm_term.specs.Slots.{all_at_stores}
-use Rattle.sm_term.specs.Tables.{trees_in, sorts_in}
-use Rattle.sm_plan.specs.Copies.{each}
+use Rattle.sm_plan.proofs.Imports.{◌≡◌, Bool, true, List, [], Some, map, inr, sym, ap, subst, ◌∙◌, Copy, of_copy, Formula, Assertion, all_at_stores, trees_in, sorts_in, each, AreStoresReady, AreSuccessorsReady, is_over, rest_code, forms_in, stores_in, successor_in}
 use Rattle.sm_plan.specs.Nodes as plan
-use Rattle.sm_plan.specs.ReadyStates.{AreStoresReady, AreSuccessorsReady}
-use Rattle.sm_plan.specs.Statements.{is_over}
-use Rattle.sm_plan.specs.Views.{rest_code, forms_in, stores_in, successor_in, SymState}
+use Rattle.sm_plan.specs.Views.{SymState}
 use Rattle.sm_plan.proofs.TablesWiden.{stores_stay, stores_ready}
 use Rattle.sm_plan.proofs.ends.open_end.Goals as goal
 

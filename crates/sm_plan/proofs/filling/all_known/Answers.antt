@@ -1,7 +1,5 @@
 -- A part that isn't known stands among the parts.
-use Rattle.std.proofs.Common.{rules, ℕ, sym, nat_eq}
-use Rattle.std.specs.HashMap.{get}
-use Rattle.sm_term.specs.Tables.{AreBefore}
+use Rattle.sm_plan.proofs.Imports.{rules, ℕ, sym, nat_eq, get, AreBefore}
 use Rattle.sm_plan.proofs.FillingLemmas.{arg_before, known_push}
 use Rattle.sm_plan.proofs.filling.all_known.Goals as goal
 

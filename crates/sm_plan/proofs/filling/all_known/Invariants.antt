@@ -1,7 +1,5 @@
 -- The first parts are known.
-use Rattle.std.proofs.Common.{◌≡◌, Some, nat_eq, map, take}
-use Rattle.std.specs.HashMap.{get}
-use Rattle.sm_term.specs.declared.term.TermId.{TermId}
+use Rattle.sm_plan.proofs.Imports.{◌≡◌, Some, nat_eq, map, take, get, TermId}
 use Rattle.sm_plan.proofs.filling.all_known.Given as goal
 
 abbrev pub invariant-loop-part : goal.invariant-loop-part

@@ -1,13 +1,6 @@
 -- By the kind of the term.
-use Rattle.std.proofs.Common.{rules, refl, sym, subst, nat_eq}
-use Rattle.std.proofs.lemmas.Result.{IfOk-weaker}
-use Rattle.std.specs.HashMap.{get}
-use Rattle.sm_syntax.specs.claim.ConflictFree.{Copy}
+use Rattle.sm_plan.proofs.Imports.{rules, refl, sym, subst, nat_eq, IfOk-weaker, get, Copy, trees_in, Filling, IsFilling, IsSummary, stores_in}
 use Rattle.sm_term.specs.declared.term.Term.TheVariants as row
-use Rattle.sm_term.specs.Tables.{trees_in}
-use Rattle.sm_plan.specs.declared.filling.Filling.{Filling}
-use Rattle.sm_plan.specs.Filling.{IsFilling, IsSummary}
-use Rattle.sm_plan.specs.Views.{stores_in}
 use Rattle.sm_plan.proofs.FillingLemmas.{stands_as, slot_filled, read_filled, write_filled, neg_filled, add_filled, sub_filled, mul_filled, summary_filled}
 use Rattle.sm_plan.proofs.filling.filling_of.Goals as goal
 

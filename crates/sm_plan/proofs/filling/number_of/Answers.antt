@@ -1,10 +1,5 @@
 -- A term that is put in has the tree.
-use Rattle.std.proofs.Common.{subst, Some, ap, ◌∙◌, nat_eq}
-use Rattle.std.specs.HashMap.{get}
-use Rattle.sm_term.specs.Terms.{Tree}
-use Rattle.sm_term.specs.Tables.{trees_in}
-use Rattle.sm_plan.specs.Filling.{IsFilling}
-use Rattle.sm_plan.specs.Views.{stores_in}
+use Rattle.sm_plan.proofs.Imports.{subst, Some, ap, ◌∙◌, nat_eq, get, Tree, trees_in, IsFilling, stores_in}
 use Rattle.sm_plan.proofs.FillingGrows.{filled_by}
 use Rattle.sm_plan.proofs.filling.number_of.Goals as goal
 

@@ -1,9 +1,6 @@
 -- The arguments are known, or one isn't.
-use Rattle.std.proofs.Common.{List, refl, subst, nat_eq}
-use Rattle.std.specs.HashMap.{get}
-use Rattle.sm_term.specs.declared.term.TermId.{TermId}
+use Rattle.sm_plan.proofs.Imports.{List, refl, subst, nat_eq, get, TermId, ArePartsKnown}
 use Rattle.sm_plan.specs.declared.filling.Parts.TheVariants.{Known, Unknown}
-use Rattle.sm_plan.specs.Filling.{ArePartsKnown}
 use Rattle.sm_plan.proofs.filling.summary.Goals as goal
 
 pub returns-in_ok-from-in-Known : goal.returns-in_ok-from-in-Known

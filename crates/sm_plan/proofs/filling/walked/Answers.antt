@@ -1,12 +1,5 @@
 -- The walk goes down to a part that isn't known, or up with one number more that is.
-use Rattle.std.proofs.Common.{◌≡◌, ◌+◌, ℕ, List, [], ◌∷◌, ◌++◌, slice_get, nat_eq, Some, sym, subst, arith}
-use Rattle.std.proofs.lemmas.Grind.{common_steps}
-use Rattle.std.specs.HashMap.{get}
-use Rattle.sm_term.specs.Slots.{fill_term}
-use Rattle.sm_term.specs.Tables.{trees_in, tree_at}
-use Rattle.sm_term.proofs.TablesLemmas.{grows-twice}
-use Rattle.sm_plan.specs.Filling.{IsFound, IsWay, AreOpen, unknown_below}
-use Rattle.sm_plan.specs.Views.{stores_in}
+use Rattle.sm_plan.proofs.Imports.{◌≡◌, ◌+◌, ℕ, List, [], ◌∷◌, ◌++◌, slice_get, nat_eq, Some, sym, subst, arith, common_steps, get, fill_term, trees_in, tree_at, grows-twice, IsFound, IsWay, AreOpen, unknown_below, stores_in}
 use Rattle.sm_plan.proofs.FillingGrows.{longer, stores_ready, known_more, filled_from}
 use Rattle.sm_plan.proofs.FillingWalk.{way_below, way_pushed, way_popped, open_pushed, open_popped, way_open, known_gains, unknown_less, way_start}
 use Rattle.sm_plan.proofs.filling.walked.Goals as goal

@@ -1,10 +1,5 @@
 -- The way down from the term, and what is known.
-use Rattle.std.proofs.Common.{◌≡◌, ◌+◌, ◌*◌, None, nat_eq}
-use Rattle.std.specs.HashMap.{get}
-use Rattle.sm_term.specs.Tables.{trees_in}
-use Rattle.sm_term.specs.TableLaws.{AddsTerms}
-use Rattle.sm_plan.specs.Filling.{AreKnown, IsWay, AreOpen, unknown_below}
-use Rattle.sm_plan.specs.Views.{stores_in}
+use Rattle.sm_plan.proofs.Imports.{◌≡◌, ◌+◌, ◌*◌, None, nat_eq, get, trees_in, AddsTerms, AreKnown, IsWay, AreOpen, unknown_below, stores_in}
 use Rattle.sm_plan.proofs.filling.walked.Given as goal
 
 abbrev pub invariant-walk : goal.invariant-walk

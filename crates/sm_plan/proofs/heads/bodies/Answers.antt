@@ -1,12 +1,5 @@
 -- By what was made for each copy.
-use Rattle.std.proofs.Common.{◌≡◌, if◌then◌else◌}
-use Rattle.sm_syntax.specs.claim.ConflictFree.{Copy}
-use Rattle.sm_syntax.specs.claim.Syntax.{End}
-use Rattle.sm_syntax.specs.trees.Copies.{of_copy}
-use Rattle.sm_plan.specs.Copies.{has}
-use Rattle.sm_plan.specs.Masks.{set_of}
-use Rattle.sm_plan.specs.Statements.{loop_body}
-use Rattle.sm_plan.specs.Views.{rest_code, Continuation}
+use Rattle.sm_plan.proofs.Imports.{◌≡◌, if◌then◌else◌, Copy, End, of_copy, has, set_of, loop_body, rest_code, Continuation}
 use Rattle.sm_plan.proofs.EachMade.{each_made}
 use Rattle.sm_plan.proofs.heads.bodies.Goals as goal
 

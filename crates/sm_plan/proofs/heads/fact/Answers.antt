@@ -1,12 +1,6 @@
 -- The contrary of a formula.
-use Rattle.std.proofs.Common.{◌≡◌, Bool, if◌then◌else◌, List, sym, ap, ◌∙◌}
-use Rattle.std.proofs.lemmas.Result.{IfOk-weaker}
-use Rattle.sm_syntax.specs.text.Sorts.{Sorts}
-use Rattle.sm_term.specs.Assertions.{Assertion, negate}
-use Rattle.sm_term.specs.Formulas.{contrary, numbered, assertion_in}
-use Rattle.sm_term.specs.declared.formula.Formula.{Formula}
-use Rattle.sm_term.specs.Terms.{Tree}
-use Rattle.sm_plan.specs.ReadyStates.{IsFormReady}
+use Rattle.sm_plan.proofs.Imports.{◌≡◌, Bool, if◌then◌else◌, List, sym, ap, ◌∙◌, IfOk-weaker, Sorts, Assertion, negate, numbered, assertion_in, Formula, Tree, IsFormReady}
+use Rattle.sm_term.specs.Formulas.{contrary}
 use Rattle.sm_plan.proofs.TurnedLemmas.{contrary_made, contrary_ready}
 use Rattle.sm_plan.proofs.heads.fact.Goals as goal
 

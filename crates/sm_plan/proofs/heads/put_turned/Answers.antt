@@ -1,9 +1,6 @@
 -- One formula more is ready.
-use Rattle.std.proofs.Common.{◌≡◌, Option, IfSome, List, sym, subst}
-use Rattle.sm_syntax.specs.text.Sorts.{Sorts}
-use Rattle.sm_term.specs.declared.formula.Formula.{Formula}
-use Rattle.sm_term.specs.Terms.{Tree}
-use Rattle.sm_plan.specs.ReadyStates.{IsFormReady, AreFormsReady}
+use Rattle.sm_plan.proofs.Imports.{◌≡◌, Option, List, sym, subst, Sorts, Formula, Tree, IsFormReady, AreFormsReady}
+use Rattle.std.proofs.Common.{IfSome}
 use Rattle.sm_plan.proofs.TurnedLemmas.{ready_push}
 use Rattle.sm_plan.proofs.heads.put_turned.Goals as goal
 

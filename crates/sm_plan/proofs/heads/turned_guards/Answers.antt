@@ -1,9 +1,5 @@
 -- Each guard that is there is ready.
-use Rattle.std.proofs.Common.{◌≡◌, List, [], sym, subst}
-use Rattle.sm_syntax.specs.claim.ConflictFree.{O, A, B, M}
-use Rattle.sm_syntax.specs.text.Sorts.{Sorts}
-use Rattle.sm_term.specs.Terms.{Tree}
-use Rattle.sm_plan.specs.ReadyStates.{AreFormsReady}
+use Rattle.sm_plan.proofs.Imports.{◌≡◌, List, [], sym, subst, O, A, B, M, Sorts, Tree, AreFormsReady}
 use Rattle.sm_plan.proofs.heads.turned_guards.Goals as goal
 
 pub returns-clause-ready : goal.returns-clause-ready

@@ -1,6 +1,5 @@
 -- Each formula has a node.
-use Rattle.sm_term.specs.Formulas.{numbered}
-use Rattle.sm_plan.specs.Kept.{nodes_in, depth_in}
+use Rattle.sm_plan.proofs.Imports.{numbered, nodes_in, depth_in}
 use Rattle.sm_plan.proofs.KeptLemmas.{some_nodes, some_depth, none_left}
 use Rattle.sm_plan.proofs.kept.+count.Goals as goal
 

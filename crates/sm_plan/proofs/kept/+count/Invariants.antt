@@ -1,5 +1,4 @@
-use Rattle.std.proofs.Common.{◌+◌, ◌*◌, max}
-use Rattle.sm_term.specs.declared.formula.Formula.{size-Formula}
+use Rattle.sm_plan.proofs.Imports.{◌+◌, ◌*◌, max, size-Formula}
 use Rattle.sm_plan.proofs.kept.+count.Given as goal
 
 abbrev pub decreases-nodes_left : goal.decreases-nodes_left

@@ -1,8 +1,5 @@
 -- The parts are those over numbers.
-use Rattle.std.proofs.Common.{◌∙◌, ◌++◌, List, map, ap}
-use Rattle.sm_term.specs.Formulas.{numbered}
-use Rattle.sm_term.specs.declared.formula.Formula.{Formula}
-use Rattle.sm_plan.specs.Kept.{parts_in}
+use Rattle.sm_plan.proofs.Imports.{◌∙◌, ◌++◌, List, map, ap, numbered, Formula, parts_in}
 use Rattle.sm_plan.proofs.KeptLemmas.{conj_made, conj_ready}
 use Rattle.sm_plan.proofs.kept.conjuncts.Goals as goal
 

@@ -1,6 +1,5 @@
 -- The nodes are counted within the limits.
-use Rattle.std.proofs.Common.{◌∙◌}
-use Rattle.sm_term.specs.Formulas.{numbered}
+use Rattle.sm_plan.proofs.Imports.{◌∙◌, numbered}
 use Rattle.sm_plan.proofs.KeptLemmas.{kept_counted}
 use Rattle.sm_plan.proofs.kept.is_kept.Goals as goal
 

@@ -1,20 +1,5 @@
 -- One table after the other.
-use Rattle.std.proofs.Common.{◌≡◌, List, ◌∙◌, sym, ap, subst}
-use Rattle.std.proofs.Math.Path.{fun_ext}
-use Rattle.sm_syntax.specs.claim.Syntax.{Code}
-use Rattle.sm_syntax.specs.claim.ConflictFree.{Copy}
-use Rattle.sm_syntax.specs.text.Sorts.{Sorts, IsWellSorted}
-use Rattle.sm_syntax.specs.trees.Copies.{of_copy}
-use Rattle.sm_term.specs.declared.formula.Formula.{Formula}
-use Rattle.sm_term.specs.Slots.{all_at_stores}
-use Rattle.sm_term.specs.Symbolic.{SymbolicStore}
-use Rattle.sm_term.specs.Tables.{trees_in, sorts_in}
-use Rattle.sm_plan.specs.Copies.{has}
-use Rattle.sm_plan.specs.Heads.{guards_at}
-use Rattle.sm_plan.specs.LoopHeads.{stores_at}
-use Rattle.sm_plan.specs.Masks.{set_of}
-use Rattle.sm_plan.specs.Successors.{renewed}
-use Rattle.sm_plan.specs.Views.{rest_code, forms_in, stores_in}
+use Rattle.sm_plan.proofs.Imports.{◌≡◌, List, ◌∙◌, sym, ap, subst, fun_ext, Code, Copy, Sorts, IsWellSorted, of_copy, Formula, all_at_stores, SymbolicStore, trees_in, sorts_in, has, guards_at, stores_at, set_of, renewed, rest_code, forms_in, stores_in}
 use Rattle.sm_plan.proofs.TurnsMade.{bodies_ready}
 use Rattle.sm_plan.proofs.TablesWiden.{widens_grown, widens_twice, stores_stay, stores_ready, stores_full, forms_stay, forms_ready}
 use Rattle.sm_plan.proofs.loops.head_of.Goals as goal

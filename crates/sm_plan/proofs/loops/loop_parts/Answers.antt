@@ -1,26 +1,7 @@
 -- Goals, head and turns stand over the last table.
-use Rattle.std.proofs.Common.{◌≡◌, List, map, ap, sym, subst, ◌∙◌}
-use Rattle.std.proofs.Math.Path.{fun_ext}
-use Rattle.std.proofs.lemmas.Bool.{leb-true}
-use Rattle.sm_syntax.specs.claim.Syntax.{Code}
-use Rattle.sm_syntax.specs.claim.ConflictFree.{Copy}
-use Rattle.sm_syntax.specs.text.Sorts.{Sorts, IsWellSorted}
-use Rattle.sm_syntax.specs.trees.Copies.{of_copy}
-use Rattle.sm_term.specs.Assertions.{Assertion, conj}
-use Rattle.sm_term.specs.Formulas.{numbered, assertion_in}
-use Rattle.sm_term.specs.declared.formula.Formula.{Formula}
-use Rattle.sm_term.specs.Slots.{all_at_stores}
-use Rattle.sm_term.specs.Symbolic.{SymbolicStore}
-use Rattle.sm_term.specs.Tables.{trees_in, sorts_in}
-use Rattle.sm_plan.specs.declared.state.Formulas.{Formulas}
-use Rattle.sm_plan.specs.Copies.{Copies, subsets}
+use Rattle.sm_plan.proofs.Imports.{◌≡◌, List, map, ap, sym, subst, ◌∙◌, fun_ext, leb-true, Code, Copy, Sorts, IsWellSorted, of_copy, Assertion, conj, numbered, assertion_in, Formula, all_at_stores, SymbolicStore, trees_in, sorts_in, Formulas, Copies, subsets, stores_at, set_of, AreFormsReady, State, renewed, turn_state, rest_code, forms_in, stores_in, state_in}
 use Rattle.sm_plan.specs.Heads as heads
-use Rattle.sm_plan.specs.LoopHeads.{stores_at}
-use Rattle.sm_plan.specs.Masks.{set_of}
-use Rattle.sm_plan.specs.ReadyStates.{AreFormsReady}
-use Rattle.sm_plan.specs.States.{State}
-use Rattle.sm_plan.specs.Successors.{renewed, turn_state}
-use Rattle.sm_plan.specs.Views.{rest_code, forms_in, stores_in, state_in, SymState}
+use Rattle.sm_plan.specs.Views.{SymState}
 use Rattle.sm_plan.proofs.LoopsOpened.{turn_same}
 use Rattle.sm_plan.proofs.TablesWiden.{widens_twice, stores_stay, assertion_stays, form_ready, forms_stay, forms_ready, state_ready}
 use Rattle.sm_plan.proofs.TurnsMade.{masked}

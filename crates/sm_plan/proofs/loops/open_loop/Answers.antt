@@ -1,25 +1,10 @@
 -- The goals and the states are those of the node.
-use Rattle.std.proofs.Common.{◌≡◌, ◌&&◌, ◌||◌, not, nat_le, Bool, if◌then◌else◌, List, [], ◌∷◌, ◌++◌, map, Some, inr, sym, ap, ◌∙◌, subst}
-use Rattle.std.proofs.lemmas.Bool.{and_parts}
-use Rattle.sm_syntax.specs.claim.Syntax.{Code}
-use Rattle.sm_syntax.specs.claim.ConflictFree.{Copy}
-use Rattle.sm_syntax.specs.trees.Copies.{of_copy}
-use Rattle.sm_term.specs.Assertions.{Assertion, conj}
-use Rattle.sm_term.specs.Formulas.{numbered, assertion_in}
-use Rattle.sm_term.specs.declared.formula.Formula.{Formula}
-use Rattle.sm_term.specs.Slots.{all_at_stores}
-use Rattle.sm_term.specs.Tables.{trees_in, sorts_in}
+use Rattle.sm_plan.proofs.Imports.{◌≡◌, ◌&&◌, ◌||◌, not, nat_le, Bool, if◌then◌else◌, List, [], ◌∷◌, ◌++◌, map, Some, inr, sym, ap, ◌∙◌, subst, and_parts, Code, Copy, of_copy, Assertion, conj, numbered, assertion_in, Formula, all_at_stores, trees_in, sorts_in, subsets, set_of, AreFormsReady, AreStoresReady, State, is_loop, turn_state, after_loops_state, rest_code, forms_in, stores_in, state_in, successor_in}
 use Rattle.sm_plan.specs.Copies as sets
-use Rattle.sm_plan.specs.Copies.{subsets}
 use Rattle.sm_plan.specs.Heads as heads
 use Rattle.sm_plan.specs.Limits as limits
-use Rattle.sm_plan.specs.Masks.{set_of}
 use Rattle.sm_plan.specs.Nodes as plan
-use Rattle.sm_plan.specs.ReadyStates.{AreFormsReady, AreStoresReady}
-use Rattle.sm_plan.specs.States.{State}
-use Rattle.sm_plan.specs.Statements.{is_loop}
-use Rattle.sm_plan.specs.Successors.{turn_state, after_loops_state}
-use Rattle.sm_plan.specs.Views.{rest_code, forms_in, stores_in, state_in, successor_in, SymState}
+use Rattle.sm_plan.specs.Views.{SymState}
 use Rattle.sm_plan.proofs.LoopsOpened.{after_same}
 use Rattle.sm_plan.proofs.TablesWiden.{stores_stay, stores_ready, forms_stay, state_ready}
 use Rattle.sm_plan.proofs.loops.open_loop.Goals as goal

@@ -1,21 +1,9 @@
 -- One copy after the other, each over the table with those before it.
-use Rattle.std.proofs.Common.{◌≡◌, Option, IfSome, refl}
-use Rattle.sm_syntax.specs.claim.ConflictFree.{Copy, O, A, B, M}
-use Rattle.sm_syntax.specs.trees.Copies.{of_copy}
-use Rattle.sm_syntax.specs.declared.copies.PerCopy.{PerCopy}
-use Rattle.sm_term.specs.declared.formula.Formula.{Formula}
-use Rattle.sm_term.specs.SymStores.{store_in}
-use Rattle.sm_term.specs.Tables.{trees_in, sorts_in}
-use Rattle.sm_term.proofs.TablesLemmas.{grows-not, grows-twice}
-use Rattle.sm_plan.specs.Copies.{has}
-use Rattle.sm_plan.specs.Heads.{guard_forms, guards_at}
-use Rattle.sm_plan.specs.Masks.{set_of}
-use Rattle.sm_plan.specs.ReadyStates.{IsFormReady}
-use Rattle.sm_plan.specs.Views.{rest_code, stores_in}
+use Rattle.sm_plan.proofs.Imports.{◌≡◌, Option, refl, Copy, O, A, B, M, of_copy, PerCopy, Formula, store_in, trees_in, sorts_in, grows-not, grows-twice, has, guard_forms, guards_at, set_of, IsFormReady, rest_code, stores_in, each_copy}
+use Rattle.std.proofs.Common.{IfSome}
 use Rattle.sm_plan.proofs.HeadsLemmas.{guard_more, guard_ready}
 use Rattle.sm_plan.proofs.RenewedStores.{well_more, ready_more}
 use Rattle.sm_plan.proofs.loops.put_guards.Goals as goal
-use Rattle.sm_syntax.proofs.EachCopy.{each_copy}
 
 pub put_guard-requires-clause-rest : goal.put_guard-requires-clause-rest
 put_guard-requires-clause-rest c = c.requires.rests O

@@ -1,12 +1,5 @@
 -- The condition's formula, and its contrary.
-use Rattle.std.proofs.Common.{◌≡◌, [], ◌∷◌, sym, ap, subst, ◌∙◌}
-use Rattle.sm_syntax.specs.trees.Views.{condition_of}
-use Rattle.sm_term.specs.declared.formula.Formula.{Formula}
-use Rattle.sm_term.specs.Assertions.{Assertion}
-use Rattle.sm_term.specs.SymStores.{store_in}
-use Rattle.sm_term.specs.Tables.{trees_in, sorts_in}
-use Rattle.sm_plan.specs.ReadyStates.{AreFormsReady}
-use Rattle.sm_plan.specs.Views.{forms_in}
+use Rattle.sm_plan.proofs.Imports.{◌≡◌, [], ◌∷◌, sym, ap, subst, ◌∙◌, condition_of, Formula, Assertion, store_in, trees_in, sorts_in, AreFormsReady, forms_in}
 use Rattle.sm_plan.proofs.ForksOpened.{fact_ready, contrary_made, contrary_ready}
 use Rattle.sm_plan.proofs.SortedTerms.{form_sorted}
 use Rattle.sm_plan.proofs.TablesWiden.{widens_grown}

@@ -1,12 +1,5 @@
 -- The copy's rest has the block in the place of its first statement.
-use Rattle.std.proofs.Common.{◌≡◌, ap, ◌∙◌}
-use Rattle.sm_syntax.specs.claim.Syntax.{Code, append}
-use Rattle.sm_syntax.specs.claim.ConflictFree.{Copy}
-use Rattle.sm_syntax.specs.trees.Copies.{copy_named, of_copy}
-use Rattle.sm_syntax.specs.trees.Views.{code_of}
-use Rattle.sm_plan.specs.Copies.{with_copy}
-use Rattle.sm_plan.specs.Statements.{rest_after}
-use Rattle.sm_plan.specs.Views.{rest_code, Continuation}
+use Rattle.sm_plan.proofs.Imports.{◌≡◌, ap, ◌∙◌, Code, append, Copy, copy_named, of_copy, code_of, with_copy, rest_after, rest_code, Continuation}
 use Rattle.sm_plan.proofs.PartsMoved.{exchanged}
 use Rattle.sm_plan.proofs.moves.enter.Goals as goal
 

@@ -1,12 +1,5 @@
 -- What the state's copy has is the state's.
-use Rattle.std.proofs.Common.{refl, ap, ◌∙◌}
-use Rattle.std.proofs.Math.Path.{fun_ext}
-use Rattle.sm_syntax.specs.claim.ConflictFree.{Copy}
-use Rattle.sm_syntax.specs.claim.Syntax.{Code, append}
-use Rattle.sm_syntax.specs.trees.Copies.{copy_named}
-use Rattle.sm_syntax.specs.trees.Views.{code_of}
-use Rattle.sm_plan.specs.Copies.{with_copy}
-use Rattle.sm_plan.specs.Statements.{rest_after}
+use Rattle.sm_plan.proofs.Imports.{refl, ap, ◌∙◌, fun_ext, Copy, Code, append, copy_named, code_of, with_copy, rest_after}
 use Rattle.sm_plan.proofs.moves.enter_both.Goals as goal
 
 pub returns-clause-first : goal.returns-clause-first

@@ -1,21 +1,8 @@
 -- Each branch has its statements before what follows the choice.
-use Rattle.std.proofs.Common.{◌≡◌, List, [], ◌∷◌, Some, sym, ap, ◌∙◌, subst}
-use Rattle.sm_syntax.specs.claim.Syntax.{If, append}
-use Rattle.sm_syntax.specs.text.Sorts.{IsWellSorted}
-use Rattle.sm_syntax.specs.trees.Copies.{copy_named, of_copy}
-use Rattle.sm_syntax.specs.trees.Views.{condition_of, code_of}
-use Rattle.sm_term.specs.declared.formula.Formula.{Formula}
-use Rattle.sm_term.specs.Assertions.{negate}
-use Rattle.sm_term.specs.Symbolic.{form_of}
-use Rattle.sm_term.specs.SymStores.{store_in}
-use Rattle.sm_term.specs.declared.symbolic.SymStore.{SymStore}
-use Rattle.sm_term.specs.Tables.{trees_in, sorts_in}
+use Rattle.sm_plan.proofs.Imports.{◌≡◌, List, [], ◌∷◌, Some, sym, ap, ◌∙◌, subst, append, IsWellSorted, copy_named, of_copy, condition_of, code_of, Formula, negate, form_of, store_in, SymStore, trees_in, sorts_in, IsBranch, IsStoreReady, State, rest_after, rest_code, forms_in, state_in, Continuation}
+use Rattle.sm_syntax.specs.claim.Syntax.{If}
 use Rattle.sm_plan.specs.Nodes as plan
-use Rattle.sm_plan.specs.Openings.{IsBranch}
-use Rattle.sm_plan.specs.ReadyStates.{IsStoreReady}
-use Rattle.sm_plan.specs.States.{State}
-use Rattle.sm_plan.specs.Statements.{rest_after}
-use Rattle.sm_plan.specs.Views.{rest_code, forms_in, state_in, SymState, Continuation}
+use Rattle.sm_plan.specs.Views.{SymState}
 use Rattle.sm_plan.proofs.ForksOpened.{branch_is, branch_ready, fork_is}
 use Rattle.sm_plan.proofs.OpeningsMade.{opening_states}
 use Rattle.sm_plan.proofs.SortedCode.{append_well}

@@ -1,16 +1,7 @@
 -- The state with another rest and another store of the copy.
-use Rattle.std.proofs.Common.{◌≡◌, Bool, true, List, [], ◌∷◌, ◌++◌, Some, sym, ap, ◌∙◌, subst, refl}
-use Rattle.sm_syntax.specs.trees.Copies.{copy_named, of_copy}
-use Rattle.sm_term.specs.SymStores.{store_in}
-use Rattle.sm_term.specs.declared.symbolic.SymStore.{SymStore}
-use Rattle.sm_term.specs.Tables.{trees_in, sorts_in}
+use Rattle.sm_plan.proofs.Imports.{◌≡◌, Bool, true, List, [], ◌∷◌, ◌++◌, Some, sym, ap, ◌∙◌, subst, refl, copy_named, of_copy, store_in, SymStore, trees_in, sorts_in, done_if, stepped, rest_code, forms_in, state_in, Continuation, with_copy, AreFormsReady, Formula}
 use Rattle.sm_plan.specs.Nodes as plan
-use Rattle.sm_plan.specs.Openings.{done_if}
-use Rattle.sm_plan.specs.Successors.{stepped}
-use Rattle.sm_plan.specs.Views.{rest_code, forms_in, state_in, SymState, Continuation}
-use Rattle.sm_plan.specs.Copies.{with_copy}
-use Rattle.sm_plan.specs.ReadyStates.{AreFormsReady}
-use Rattle.sm_term.specs.declared.formula.Formula.{Formula}
+use Rattle.sm_plan.specs.Views.{SymState}
 use Rattle.sm_plan.proofs.OpeningsMade.{opening_states}
 use Rattle.sm_plan.proofs.PartsMoved.{numbers_of, exchanged}
 use Rattle.sm_plan.proofs.StepsOpened.{IsExchanged, step_ready, step_is}

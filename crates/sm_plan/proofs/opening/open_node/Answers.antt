@@ -1,9 +1,7 @@
 -- What a block opens is what its node opens.
-use Rattle.std.proofs.Common.{◌≡◌, IfOk, option_map, sym, subst}
-use Rattle.std.proofs.lemmas.Result.{IfOk-weaker}
-use Rattle.sm_term.specs.Tables.{trees_in, sorts_in}
+use Rattle.sm_plan.proofs.Imports.{◌≡◌, option_map, sym, subst, IfOk-weaker, trees_in, sorts_in, state_in, node_in, opened_in, NodeRow}
+use Rattle.std.proofs.Common.{IfOk}
 use Rattle.sm_plan.specs.Nodes as plan
-use Rattle.sm_plan.specs.Views.{state_in, node_in, opened_in, NodeRow}
 use Rattle.sm_plan.proofs.opening.open_node.Goals as goal
 
 pub returns-in-Block-clause-opened : goal.returns-in-Block-clause-opened

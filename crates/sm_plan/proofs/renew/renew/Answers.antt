@@ -1,15 +1,6 @@
 -- One name more has its new value.
-use Rattle.std.proofs.Common.{◌<◌, ◌∙◌, ℕ, Some, sym, subst, ap, length, get_or, arith}
+use Rattle.sm_plan.proofs.Imports.{◌<◌, ◌∙◌, ℕ, Some, sym, subst, ap, length, get_or, arith, Copy, copy_of, Sorts, copy_named, IsDeclaredIn, Havoc, SymbolicStore, with_term, store_in, trees_in, sorts_in, grows-twice}
 use Rattle.std.proofs.lemmas.List.{length-set}
-use Rattle.sm_syntax.specs.claim.ConflictFree.{Copy, copy_of}
-use Rattle.sm_syntax.specs.text.Sorts.{Sorts}
-use Rattle.sm_syntax.specs.trees.Copies.{copy_named}
-use Rattle.sm_term.specs.Sorted.{IsDeclaredIn}
-use Rattle.sm_term.specs.Terms.{Havoc}
-use Rattle.sm_term.specs.Symbolic.{SymbolicStore, with_term}
-use Rattle.sm_term.specs.SymStores.{store_in}
-use Rattle.sm_term.specs.Tables.{trees_in, sorts_in}
-use Rattle.sm_term.proofs.TablesLemmas.{grows-twice}
 use Rattle.sm_plan.proofs.RenewedStores.{number_below, name_among, place_inside, new_push}
 use Rattle.sm_plan.proofs.StoresSet.{store_written, within_written}
 use Rattle.sm_plan.proofs.renew.renew.Goals as goal

@@ -1,12 +1,5 @@
 -- The first names have new values.
-use Rattle.std.proofs.Common.{◌≡◌, length, take}
-use Rattle.sm_syntax.specs.text.Conditions.{is_in}
-use Rattle.sm_syntax.specs.trees.Copies.{copy_named}
-use Rattle.sm_term.specs.Rows.{names_in_list}
-use Rattle.sm_term.specs.SymStores.{store_in, IsStoreWithin}
-use Rattle.sm_term.specs.Tables.{trees_in}
-use Rattle.sm_term.specs.TableLaws.{AddsTerms}
-use Rattle.sm_plan.specs.Heads.{with_new}
+use Rattle.sm_plan.proofs.Imports.{◌≡◌, length, take, is_in, copy_named, names_in_list, store_in, IsStoreWithin, trees_in, AddsTerms, with_new}
 use Rattle.sm_plan.proofs.renew.renew.Given as goal
 
 abbrev pub invariant-loop-name : goal.invariant-loop-name

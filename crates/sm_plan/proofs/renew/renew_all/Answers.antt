@@ -1,19 +1,7 @@
 -- One copy after the other, each over the table with those before it.
-use Rattle.std.proofs.Common.{◌≡◌, refl}
-use Rattle.std.proofs.Math.Path.{fun_ext}
-use Rattle.sm_syntax.specs.claim.ConflictFree.{Copy, O, A, B, M}
-use Rattle.sm_syntax.specs.Assigns.{assigns}
-use Rattle.sm_syntax.specs.trees.Copies.{of_copy}
-use Rattle.sm_syntax.specs.declared.copies.PerCopy.{PerCopy}
-use Rattle.sm_term.specs.declared.symbolic.SymStore.{SymStore}
-use Rattle.sm_term.specs.Tables.{trees_in, sorts_in}
-use Rattle.sm_term.proofs.TablesLemmas.{grows-not, grows-twice}
-use Rattle.sm_plan.specs.ReadyStates.{IsStoreReady, IsStoreFull}
-use Rattle.sm_plan.specs.Successors.{renewed}
-use Rattle.sm_plan.specs.Views.{rest_code, stores_in}
+use Rattle.sm_plan.proofs.Imports.{◌≡◌, refl, fun_ext, Copy, O, A, B, M, assigns, of_copy, PerCopy, SymStore, trees_in, sorts_in, grows-not, grows-twice, IsStoreReady, IsStoreFull, renewed, rest_code, stores_in, each_copy}
 use Rattle.sm_plan.proofs.RenewedStores.{well_more, ready_more, full_more, renewed_more}
 use Rattle.sm_plan.proofs.renew.renew_all.Goals as goal
-use Rattle.sm_syntax.proofs.EachCopy.{each_copy}
 
 pub renew_written-requires-clause-done : goal.renew_written-requires-clause-done
 renew_written-requires-clause-done c = c.requires.done O

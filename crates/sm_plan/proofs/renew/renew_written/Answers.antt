@@ -1,17 +1,5 @@
 -- The names that code assigns have new values.
-use Rattle.std.proofs.Common.{◌≡◌, ◌∙◌, ℕ, true, List, length, sym, subst, ap, arith}
-use Rattle.sm_syntax.specs.declared.tree.Name.{Name}
-use Rattle.sm_syntax.specs.Assigns.{assigns}
-use Rattle.sm_syntax.specs.text.Conditions.{is_in}
-use Rattle.sm_syntax.specs.text.Sorts.{Sorts}
-use Rattle.sm_syntax.specs.trees.Copies.{copy_named}
-use Rattle.sm_deps.proofs.InputsDeclared.{assigned_declared}
-use Rattle.sm_term.specs.Rows.{names_in_list}
-use Rattle.sm_term.specs.Sorted.{IsDeclaredIn, IsStoreSorted}
-use Rattle.sm_term.specs.SymStores.{store_in}
-use Rattle.sm_term.specs.Tables.{trees_in, sorts_in}
-use Rattle.sm_plan.specs.Heads.{with_new}
-use Rattle.sm_plan.specs.Views.{rest_code}
+use Rattle.sm_plan.proofs.Imports.{◌≡◌, ◌∙◌, ℕ, true, List, length, sym, subst, ap, arith, Name, assigns, is_in, Sorts, copy_named, assigned_declared, names_in_list, IsDeclaredIn, IsStoreSorted, store_in, trees_in, sorts_in, with_new, rest_code}
 use Rattle.sm_plan.proofs.RenewedStores.{new_same, new_sorted}
 use Rattle.sm_plan.proofs.renew.renew_written.Goals as goal
 

@@ -1,11 +1,5 @@
 -- The copies of the stores are those that are given.
-use Rattle.std.proofs.Common.{◌≡◌, ◌∙◌, ap}
-use Rattle.std.proofs.Math.Path.{fun_ext}
-use Rattle.sm_syntax.specs.claim.ConflictFree.{Copy}
-use Rattle.sm_syntax.specs.trees.Copies.{of_copy}
-use Rattle.sm_term.specs.Tables.{trees_in, sorts_in}
-use Rattle.sm_plan.specs.Successors.{renewed}
-use Rattle.sm_plan.specs.Views.{rest_code, stores_in}
+use Rattle.sm_plan.proofs.Imports.{◌≡◌, ◌∙◌, ap, fun_ext, Copy, of_copy, trees_in, sorts_in, renewed, rest_code, stores_in}
 use Rattle.sm_plan.proofs.RenewedStores.{store_alike}
 use Rattle.sm_plan.proofs.TurnsMade.{same_store_ready, same_store_full}
 use Rattle.sm_plan.proofs.renew.renewed_stores.Goals as goal

@@ -1,8 +1,5 @@
 -- All statements are copied.
-use Rattle.std.proofs.Common.{map, ap, ◌∙◌, ◌++◌}
-use Rattle.std.proofs.lemmas.List.{take_all}
-use Rattle.sm_syntax.specs.claim.Syntax.{Code}
-use Rattle.sm_syntax.specs.trees.Views.{sequence, statement_of}
+use Rattle.sm_plan.proofs.Imports.{map, ap, ◌∙◌, ◌++◌, take_all, Code, sequence, statement_of}
 use Rattle.sm_plan.proofs.RestsLemmas.{sequence_append}
 use Rattle.sm_plan.proofs.rest.copy_behind.Goals as goal
 

@@ -1,6 +1,5 @@
 -- The copies so far stand for the statements so far.
-use Rattle.std.proofs.Common.{◌≡◌, ◌++◌, map, take}
-use Rattle.sm_syntax.specs.trees.Views.{statement_of}
+use Rattle.sm_plan.proofs.Imports.{◌≡◌, ◌++◌, map, take, statement_of}
 use Rattle.sm_plan.proofs.rest.copy_behind.Given as goal
 
 abbrev pub invariant-loop-s : goal.invariant-loop-s

@@ -1,13 +1,5 @@
 -- By the kind of the formula, and the second of two over the table with the first.
-use Rattle.std.proofs.Common.{rules, length, sym, ap, subst, ◌∙◌}
-use Rattle.sm_term.specs.Formulas.{numbered, assertion_in, IsFormulaWithin}
-use Rattle.sm_term.specs.declared.formula.Formula.{Formula}
-use Rattle.sm_term.specs.Slots.{at_stores}
-use Rattle.sm_term.specs.Tables.{trees_in, sorts_in}
-use Rattle.sm_term.proofs.FormsLemmas.{assertion-more, form_kept}
-use Rattle.sm_term.proofs.TablesLemmas.{grows-twice}
-use Rattle.sm_plan.specs.ReadyStates.{IsFormReady}
-use Rattle.sm_plan.specs.Views.{stores_in}
+use Rattle.sm_plan.proofs.Imports.{rules, length, sym, ap, subst, ◌∙◌, numbered, assertion_in, IsFormulaWithin, Formula, at_stores, trees_in, sorts_in, assertion-more, form_kept, grows-twice, IsFormReady, stores_in}
 use Rattle.sm_plan.proofs.FillingGrows.{stores_ready}
 use Rattle.sm_plan.proofs.FillingForms.{form_ready, at_more, both_there, eq_made, ne_made, le_made, lt_made}
 use Rattle.sm_plan.proofs.slots.+filled.Goals as goal

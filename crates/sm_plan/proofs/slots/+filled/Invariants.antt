@@ -1,5 +1,4 @@
-use Rattle.std.proofs.Common.{◌+◌, ◌*◌, max}
-use Rattle.sm_term.specs.declared.formula.Formula.{size-Formula}
+use Rattle.sm_plan.proofs.Imports.{◌+◌, ◌*◌, max, size-Formula}
 use Rattle.sm_plan.proofs.slots.+filled.Given as goal
 
 abbrev pub decreases-filled_form : goal.decreases-filled_form

@@ -1,16 +1,5 @@
 -- Each formula over the table with those before it.
-use Rattle.std.proofs.Common.{◌∙◌, ℕ, List, take, length, refl, sym, ap, subst, nat_eq}
-use Rattle.std.specs.HashMap.{get}
-use Rattle.std.specs.Map.{lookup}
-use Rattle.std.proofs.lemmas.List.{take_all}
-use Rattle.sm_syntax.specs.claim.ConflictFree.{Copy}
-use Rattle.sm_syntax.specs.text.Sorts.{Sorts}
-use Rattle.sm_term.specs.declared.formula.Formula.{Formula}
-use Rattle.sm_term.specs.Slots.{all_at_stores}
-use Rattle.sm_term.specs.Sorted.{AreFormsSorted}
-use Rattle.sm_term.specs.Tables.{trees_in, sorts_in}
-use Rattle.sm_term.proofs.TablesLemmas.{grows-not, grows-twice}
-use Rattle.sm_plan.specs.Views.{forms_in, stores_in}
+use Rattle.sm_plan.proofs.Imports.{◌∙◌, ℕ, List, take, length, refl, sym, ap, subst, nat_eq, get, lookup, take_all, Copy, Sorts, Formula, all_at_stores, AreFormsSorted, trees_in, sorts_in, grows-not, grows-twice, forms_in, stores_in}
 use Rattle.sm_plan.proofs.FillingGrows.{stores_ready, known_none}
 use Rattle.sm_plan.proofs.FillingForms.{AreFormsWithin, form_ready, ready_at, ready_sorted, ready_from, within_push, within_later, forms_more, at_more, made_push}
 use Rattle.sm_plan.proofs.SortedTerms.{all_at_stores_sorted}

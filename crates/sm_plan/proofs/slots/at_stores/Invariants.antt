@@ -1,11 +1,5 @@
 -- The first formulas are made.
-use Rattle.std.proofs.Common.{◌≡◌, length, nat_eq, take}
-use Rattle.std.specs.HashMap.{get}
-use Rattle.sm_term.specs.Slots.{all_at_stores}
-use Rattle.sm_term.specs.Tables.{trees_in, sorts_in}
-use Rattle.sm_term.specs.TableLaws.{AddsTerms}
-use Rattle.sm_plan.specs.Filling.{AreKnown}
-use Rattle.sm_plan.specs.Views.{forms_in, stores_in}
+use Rattle.sm_plan.proofs.Imports.{◌≡◌, length, nat_eq, take, get, all_at_stores, trees_in, sorts_in, AddsTerms, AreKnown, forms_in, stores_in}
 use Rattle.sm_plan.proofs.FillingForms.{AreFormsWithin}
 use Rattle.sm_plan.proofs.slots.at_stores.Given as goal
 

@@ -1,8 +1,5 @@
 -- The second term over the table with the first.
-use Rattle.std.proofs.Common.{Some, ◌∙◌, ap, arith}
-use Rattle.sm_term.specs.Terms.{Tree}
-use Rattle.sm_term.proofs.ExpressionLemmas.{stays_got}
-use Rattle.sm_term.proofs.TablesLemmas.{grows-twice}
+use Rattle.sm_plan.proofs.Imports.{Some, ◌∙◌, ap, arith, Tree, stays_got, grows-twice}
 use Rattle.sm_plan.proofs.FillingGrows.{longer, stores_ready, fill_more}
 use Rattle.sm_plan.proofs.slots.filled_terms.Goals as goal
 

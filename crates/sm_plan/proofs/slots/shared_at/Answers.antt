@@ -1,11 +1,5 @@
 -- What is shared is what is filled.
-use Rattle.std.proofs.Common.{List, sym, ap, subst, ◌∙◌}
-use Rattle.sm_term.specs.declared.formula.Formula.{Formula}
-use Rattle.sm_term.specs.Slots.{all_at_stores}
-use Rattle.sm_term.specs.Tables.{trees_in, sorts_in}
-use Rattle.sm_plan.specs.declared.state.Formulas.{Formulas}
-use Rattle.sm_plan.specs.ReadyStates.{AreFormsReady}
-use Rattle.sm_plan.specs.Views.{forms_in, stores_in}
+use Rattle.sm_plan.proofs.Imports.{List, sym, ap, subst, ◌∙◌, Formula, all_at_stores, trees_in, sorts_in, Formulas, AreFormsReady, forms_in, stores_in}
 use Rattle.sm_plan.proofs.slots.shared_at.Goals as goal
 
 pub at_stores-requires-clause-forms : goal.at_stores-requires-clause-forms

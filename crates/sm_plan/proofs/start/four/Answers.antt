@@ -1,7 +1,5 @@
 -- By what was made for each copy.
-use Rattle.std.proofs.Common.{◌≡◌, Ok, refl}
-use Rattle.sm_syntax.specs.claim.ConflictFree.{Copy}
-use Rattle.sm_term.specs.declared.symbolic.SymStore.{SymStore}
+use Rattle.sm_plan.proofs.Imports.{◌≡◌, Ok, refl, Copy, SymStore}
 use Rattle.sm_plan.proofs.EachMade.{each_made}
 use Rattle.sm_plan.proofs.start.four.Goals as goal
 

@@ -1,23 +1,7 @@
 -- The whole programs, the start values, the assumption's facts and the goals of all outputs.
-use Rattle.std.proofs.Common.{◌≡◌, ℕ, true, List, length, sym, ap, subst, ◌∙◌, arith, is_some}
-use Rattle.std.specs.List.{flat_map}
-use Rattle.std.proofs.Math.Path.{fun_ext}
-use Rattle.sm_syntax.specs.claim.ConflictFree.{Copy}
-use Rattle.sm_syntax.specs.text.Parts.{sort_of, sorted_outputs}
-use Rattle.sm_syntax.specs.text.Sorts.{Sorts, IsWellSorted}
-use Rattle.sm_syntax.specs.declared.tree.Sort.{Sort}
-use Rattle.sm_syntax.specs.trees.Copies.{of_copy}
-use Rattle.sm_syntax.specs.trees.Programs.{declared_of, outputs_of}
-use Rattle.sm_term.specs.declared.symbolic.SymStore.{SymStore}
-use Rattle.sm_term.specs.Assertions.{Assertion}
-use Rattle.sm_term.specs.Sorted.{IsStoreSorted, IsDeclaredIn}
-use Rattle.sm_term.specs.Tables.{trees_in, sorts_in}
-use Rattle.sm_term.proofs.TablesLemmas.{grows-twice}
-use Rattle.sm_plan.specs.ReadyStates.{IsStoreReady, AreFormsReady}
-use Rattle.sm_plan.specs.SortedStates.{AreOutputsDeclared}
-use Rattle.sm_plan.specs.Starts.{with_sorts}
-use Rattle.sm_plan.specs.States.{place, keeps_goals}
-use Rattle.sm_plan.specs.Views.{rest_code, forms_in, SymState}
+use Rattle.sm_plan.proofs.Imports.{◌≡◌, ℕ, true, List, length, sym, ap, subst, ◌∙◌, arith, flat_map, fun_ext, Copy, sort_of, sorted_outputs, Sorts, IsWellSorted, Sort, of_copy, declared_of, outputs_of, SymStore, Assertion, IsStoreSorted, IsDeclaredIn, trees_in, sorts_in, grows-twice, IsStoreReady, AreFormsReady, AreOutputsDeclared, with_sorts, place, keeps_goals, rest_code, forms_in}
+use Rattle.std.proofs.Common.{is_some}
+use Rattle.sm_plan.specs.Views.{SymState}
 use Rattle.sm_plan.proofs.PartsMoved.{listed, AreListed}
 use Rattle.sm_plan.proofs.SortedStates.{start_store_sorted}
 use Rattle.sm_plan.proofs.StartsMade.{declared_below}

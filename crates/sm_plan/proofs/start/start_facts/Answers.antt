@@ -1,10 +1,6 @@
 -- The parts of the assumption's formula.
-use Rattle.std.proofs.Common.{subst}
+use Rattle.sm_plan.proofs.Imports.{subst, IsWellSortedCondition, condition_of, store_in, trees_in, sorts_in}
 use Rattle.std.specs.Option.{IfSome}
-use Rattle.sm_syntax.specs.text.Sorts.{IsWellSortedCondition}
-use Rattle.sm_syntax.specs.trees.Views.{condition_of}
-use Rattle.sm_term.specs.SymStores.{store_in}
-use Rattle.sm_term.specs.Tables.{trees_in, sorts_in}
 use Rattle.sm_plan.proofs.ForksOpened.{fact_ready}
 use Rattle.sm_plan.proofs.SortedTerms.{form_sorted}
 use Rattle.sm_plan.proofs.TablesWiden.{widens_grown}

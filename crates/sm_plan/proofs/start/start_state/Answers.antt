@@ -1,6 +1,5 @@
 -- A table that is cut back is as wide as before.
-use Rattle.std.proofs.Common.{◌∙◌, ap, take}
-use Rattle.sm_term.specs.Tables.{trees_in}
+use Rattle.sm_plan.proofs.Imports.{◌∙◌, ap, take, trees_in}
 use Rattle.sm_plan.proofs.TablesWiden.{widens_cut, cut_back}
 use Rattle.sm_plan.proofs.start.start_state.Goals as goal
 

@@ -1,18 +1,6 @@
 -- One start value more.
-use Rattle.std.proofs.Common.{◌≡◌, List, [], ◌∷◌, ◌++◌, is_some, length, map, take, get_or, sym, ap, subst, ◌∙◌}
-use Rattle.std.proofs.lemmas.List.{take_more, take_all, map-append}
-use Rattle.sm_syntax.specs.declared.tree.Name.{Name}
-use Rattle.sm_syntax.specs.text.Sorts.{Sorts}
-use Rattle.sm_syntax.specs.declared.tree.Sort.{Sort}
-use Rattle.sm_syntax.specs.declared.tree.Sort.TheVariants.{Num}
-use Rattle.sm_syntax.specs.text.Parts.{sort_of}
-use Rattle.sm_term.specs.Terms.{Tree, Start}
-use Rattle.sm_term.specs.Tables.{trees_in, tree_at, AreBefore}
-use Rattle.sm_term.specs.declared.term.TermId.{TermId}
-use Rattle.sm_term.proofs.TablesLemmas.{grows-twice}
-use Rattle.sm_term.proofs.ExpressionLemmas.{tree_got, there}
-use Rattle.sm_term.proofs.TreesLemmas.{before-later}
-use Rattle.sm_plan.specs.Starts.{AreNumbered}
+use Rattle.sm_plan.proofs.Imports.{◌≡◌, List, [], ◌∷◌, ◌++◌, length, map, take, get_or, sym, ap, subst, ◌∙◌, take_more, take_all, map-append, Name, Sorts, Sort, Num, sort_of, Tree, Start, trees_in, tree_at, AreBefore, TermId, grows-twice, tree_got, there, before-later, AreNumbered}
+use Rattle.std.proofs.Common.{is_some}
 use Rattle.sm_plan.proofs.StartsMade.{pairs, declared_at, starts, trees_stay, before_append}
 use Rattle.sm_plan.proofs.TablesWiden.{widens_grown, longer}
 use Rattle.sm_plan.proofs.start.start_store.Goals as goal

@@ -1,10 +1,6 @@
 -- The list has the term at the name.
-use Rattle.sm_syntax.specs.declared.tree.Sort.TheVariants.{Num}
-use Rattle.sm_syntax.specs.trees.Views.{expression_of}
+use Rattle.sm_plan.proofs.Imports.{Num, expression_of, store_in, trees_in, sorts_in, named_declared}
 use Rattle.sm_term.specs.Symbolic as symbolic
-use Rattle.sm_term.specs.SymStores.{store_in}
-use Rattle.sm_term.specs.Tables.{trees_in, sorts_in}
-use Rattle.sm_term.proofs.ExpressionLemmas.{named_declared}
 use Rattle.sm_plan.proofs.StoresSet.{store_written, within_written}
 use Rattle.sm_plan.proofs.steps.assign.Goals as goal
 

@@ -1,13 +1,6 @@
 -- The write is made of the array's term and of those of the index and the value.
-use Rattle.std.proofs.Common.{Some, ap, ◌∙◌}
-use Rattle.sm_syntax.specs.declared.tree.Sort.TheVariants.{Arr}
-use Rattle.sm_syntax.specs.trees.Views.{expression_of}
+use Rattle.sm_plan.proofs.Imports.{Some, ap, ◌∙◌, Arr, expression_of, term_of, store_in, trees_in, sorts_in, grows-twice, named_declared, within_more, sorted_more}
 use Rattle.sm_term.specs.Terms.{Write}
-use Rattle.sm_term.specs.Symbolic.{term_of}
-use Rattle.sm_term.specs.SymStores.{store_in}
-use Rattle.sm_term.specs.Tables.{trees_in, sorts_in}
-use Rattle.sm_term.proofs.TablesLemmas.{grows-twice}
-use Rattle.sm_term.proofs.ExpressionLemmas.{named_declared, within_more, sorted_more}
 use Rattle.sm_plan.proofs.ElementWritten.{element_within, element_fits, element_tree}
 use Rattle.sm_plan.proofs.StoresSet.{store_written, within_written}
 use Rattle.sm_plan.proofs.steps.write.Goals as goal

@@ -1,6 +1,5 @@
 -- The one state is ready.
-use Rattle.std.proofs.Common.{◌≡◌, [], ◌∷◌, sym, subst, ◌∙◌}
-use Rattle.sm_plan.specs.ReadyStates.{AreSuccessorsReady, Successor}
+use Rattle.sm_plan.proofs.Imports.{◌≡◌, [], ◌∷◌, sym, subst, ◌∙◌, AreSuccessorsReady, Successor}
 use Rattle.sm_plan.proofs.successors.follows_one.Goals as goal
 
 pub returns-clause-ready : goal.returns-clause-ready

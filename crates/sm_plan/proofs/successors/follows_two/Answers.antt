@@ -1,6 +1,5 @@
 -- Both states are ready.
-use Rattle.std.proofs.Common.{◌≡◌, [], ◌∷◌, sym, ap, subst, ◌∙◌}
-use Rattle.sm_plan.specs.ReadyStates.{AreSuccessorsReady, Successor}
+use Rattle.sm_plan.proofs.Imports.{◌≡◌, [], ◌∷◌, sym, ap, subst, ◌∙◌, AreSuccessorsReady, Successor}
 use Rattle.sm_plan.proofs.successors.follows_two.Goals as goal
 
 pub returns-clause-ready : goal.returns-clause-ready

@@ -1,9 +1,6 @@
 -- The last statement says.
-use Rattle.std.proofs.Common.{◌≡◌, ◌+◌, ◌-◌, length, sym, ap, ◌∙◌, arith}
-use Rattle.sm_syntax.specs.claim.Syntax.{End}
-use Rattle.sm_syntax.specs.trees.Views.{statement_of}
+use Rattle.sm_plan.proofs.Imports.{◌≡◌, ◌+◌, ◌-◌, length, sym, ap, ◌∙◌, arith, End, statement_of, last_guard}
 use Rattle.sm_syntax.proofs.Statements.{statement_of-Skip, statement_of-Assign, statement_of-Store, statement_of-If, statement_of-While, statement_of-Hole}
-use Rattle.sm_plan.specs.Statements.{last_guard}
 use Rattle.sm_plan.proofs.LastGuards.{last_of_block}
 use Rattle.sm_plan.proofs.summaries.last_guard.Goals as goal
 

@@ -1,19 +1,7 @@
 -- The state with the summaries, and that the last guard is false.
-use Rattle.std.proofs.Common.{◌≡◌, ◌&&◌, Bool, true, nat_le, List, [], ◌∷◌, Some, length, refl, sym, ap, subst, ◌∙◌}
-use Rattle.sm_syntax.specs.claim.Syntax.{Code}
-use Rattle.sm_syntax.specs.claim.ConflictFree.{Copy}
-use Rattle.sm_syntax.specs.text.Sorts.{IsWellSorted}
-use Rattle.sm_syntax.specs.trees.Copies.{copy_named, of_copy}
-use Rattle.sm_term.specs.SymStores.{store_in}
-use Rattle.sm_term.specs.declared.symbolic.SymStore.{SymStore}
-use Rattle.sm_term.specs.Tables.{trees_in, sorts_in}
-use Rattle.sm_plan.specs.Copies.{with_copy}
+use Rattle.sm_plan.proofs.Imports.{◌≡◌, ◌&&◌, Bool, true, nat_le, List, [], ◌∷◌, Some, length, refl, sym, ap, subst, ◌∙◌, Code, Copy, IsWellSorted, copy_named, of_copy, store_in, SymStore, trees_in, sorts_in, with_copy, IsStoreReady, IsStoreFull, State, is_long, front, rest_after, last_guard, summarized, summary_state, false_guard, rest_code, forms_in, state_in, Continuation}
 use Rattle.sm_plan.specs.Nodes as plan
-use Rattle.sm_plan.specs.ReadyStates.{IsStoreReady, IsStoreFull}
-use Rattle.sm_plan.specs.States.{State}
-use Rattle.sm_plan.specs.Statements.{is_long, front, rest_after, last_guard}
-use Rattle.sm_plan.specs.Successors.{summarized, summary_state, false_guard}
-use Rattle.sm_plan.specs.Views.{rest_code, forms_in, state_in, SymState, Continuation}
+use Rattle.sm_plan.specs.Views.{SymState}
 use Rattle.sm_plan.proofs.OpeningsMade.{opening_states}
 use Rattle.sm_plan.proofs.PartsMoved.{numbers_of, over_given}
 use Rattle.sm_plan.proofs.SummariesOpened.{summary_ready, summary_is}

@@ -1,11 +1,5 @@
 -- The copy's rest lacks its first statements.
-use Rattle.std.proofs.Common.{◌≡◌, ap, ◌∙◌}
-use Rattle.sm_syntax.specs.claim.Syntax.{Code}
-use Rattle.sm_syntax.specs.claim.ConflictFree.{Copy}
-use Rattle.sm_syntax.specs.trees.Copies.{copy_named, of_copy}
-use Rattle.sm_plan.specs.Copies.{with_copy}
-use Rattle.sm_plan.specs.Statements.{rest_after}
-use Rattle.sm_plan.specs.Views.{rest_code, Continuation}
+use Rattle.sm_plan.proofs.Imports.{◌≡◌, ap, ◌∙◌, Code, Copy, copy_named, of_copy, with_copy, rest_after, rest_code, Continuation}
 use Rattle.sm_plan.proofs.PartsMoved.{exchanged}
 use Rattle.sm_plan.proofs.summaries.pass.Goals as goal
 

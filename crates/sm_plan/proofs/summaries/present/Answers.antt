@@ -1,6 +1,5 @@
 -- The term of one name more.
-use Rattle.std.proofs.Common.{◌++◌, ◌∷◌, [], List, length, ap, ◌∙◌, arith}
-use Rattle.sm_term.specs.declared.term.TermId.{TermId}
+use Rattle.sm_plan.proofs.Imports.{◌++◌, ◌∷◌, [], List, length, ap, ◌∙◌, arith, TermId}
 use Rattle.sm_plan.proofs.SummariesLemmas.{name_at_below, terms_more}
 use Rattle.sm_plan.proofs.summaries.present.Goals as goal
 

@@ -1,6 +1,5 @@
 -- The terms of the names so far.
-use Rattle.std.proofs.Common.{◌≡◌, take}
-use Rattle.sm_plan.specs.Openings.{terms_named}
+use Rattle.sm_plan.proofs.Imports.{◌≡◌, take, terms_named}
 use Rattle.sm_plan.proofs.summaries.present.Given as goal
 
 abbrev pub invariant-loop-x : goal.invariant-loop-x

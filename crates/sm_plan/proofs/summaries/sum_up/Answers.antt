@@ -1,14 +1,5 @@
 -- The block has the code of the first statements.
-use Rattle.std.proofs.Common.{◌≡◌, sym, ap, subst, ◌∙◌}
-use Rattle.sm_syntax.specs.claim.Syntax.{Code}
-use Rattle.sm_syntax.specs.text.Sorts.{Sorts, IsWellSorted}
-use Rattle.sm_syntax.specs.trees.Views.{code_of}
-use Rattle.sm_term.specs.SymStores.{store_in}
-use Rattle.sm_term.specs.declared.symbolic.SymStore.{SymStore}
-use Rattle.sm_term.specs.Tables.{trees_in, sorts_in}
-use Rattle.sm_plan.specs.Statements.{front, last_guard}
-use Rattle.sm_plan.specs.Successors.{summarized, false_guard}
-use Rattle.sm_plan.specs.Views.{rest_code}
+use Rattle.sm_plan.proofs.Imports.{◌≡◌, sym, ap, subst, ◌∙◌, Code, Sorts, IsWellSorted, code_of, store_in, SymStore, trees_in, sorts_in, front, last_guard, summarized, false_guard, rest_code}
 use Rattle.sm_plan.proofs.SortedCode.{front_well}
 use Rattle.sm_plan.proofs.SummariesOpened.{guard_found, summed_ready}
 use Rattle.sm_plan.proofs.TablesWiden.{widens_grown, widens_twice, store_stays, store_ready}

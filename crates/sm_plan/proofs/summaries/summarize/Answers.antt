@@ -1,26 +1,8 @@
 -- One name more has its summary.
-use Rattle.std.proofs.Common.{◌≡◌, ℕ, ◌<◌, true, List, [], Some, length, take, get_or, slice_get, refl, sym, ap, subst, ◌∙◌, arith, append-nil}
-use Rattle.std.proofs.lemmas.List.{take_all}
+use Rattle.sm_plan.proofs.Imports.{◌≡◌, ℕ, ◌<◌, true, List, [], Some, length, take, get_or, slice_get, refl, sym, ap, subst, ◌∙◌, arith, take_all, Name, is_in, Sorts, code_of, assigns, inputs, assigned_declared, IsDeclaredIn, SymbolicStore, with_term, store_in, SymStore, trees_in, sorts_in, AreBefore, TermId, ExtendsTable, Fun, grows-twice, grows-not, IsStoreFull, present}
+use Rattle.std.proofs.Common.{append-nil}
 use Rattle.std.proofs.Math.ListN.{length-set}
-use Rattle.sm_syntax.specs.declared.tree.Name.{Name}
-use Rattle.sm_syntax.specs.text.Conditions.{is_in}
-use Rattle.sm_syntax.specs.text.Sorts.{Sorts}
-use Rattle.sm_syntax.specs.trees.Views.{code_of}
-use Rattle.sm_syntax.specs.Assigns.{assigns}
-use Rattle.sm_deps.specs.Inputs.{inputs}
-use Rattle.sm_deps.proofs.InputsDeclared.{assigned_declared}
-use Rattle.sm_term.specs.Sorted.{IsDeclaredIn}
-use Rattle.sm_term.specs.Symbolic.{SymbolicStore, with_term}
-use Rattle.sm_term.specs.SymStores.{store_in}
-use Rattle.sm_term.specs.declared.symbolic.SymStore.{SymStore}
-use Rattle.sm_term.specs.Tables.{trees_in, sorts_in, AreBefore}
-use Rattle.sm_term.specs.declared.term.TermId.{TermId}
-use Rattle.sm_term.specs.TableLaws.{ExtendsTable}
-use Rattle.sm_term.specs.Terms.{Fun}
 use Rattle.sm_term.proofs.AdoptionLemmas.{widens}
-use Rattle.sm_term.proofs.TablesLemmas.{grows-twice, grows-not}
-use Rattle.sm_plan.specs.ReadyStates.{IsStoreFull}
-use Rattle.sm_plan.specs.Successors.{present}
 use Rattle.sm_plan.proofs.PartsMoved.{listed}
 use Rattle.sm_plan.proofs.StoresSet.{store_written, within_written}
 use Rattle.sm_plan.proofs.SummariesLemmas.{numbers, name_in, numbers_more, length-numbers, summed, summed_more, summed_all}

@@ -1,9 +1,5 @@
 -- The names so far have their summaries.
-use Rattle.std.proofs.Common.{◌≡◌, length, take}
-use Rattle.sm_syntax.specs.trees.Views.{code_of}
-use Rattle.sm_term.specs.SymStores.{store_in, IsStoreWithin}
-use Rattle.sm_term.specs.Tables.{trees_in}
-use Rattle.sm_term.specs.TableLaws.{AddsTerms}
+use Rattle.sm_plan.proofs.Imports.{◌≡◌, length, take, code_of, store_in, IsStoreWithin, trees_in, AddsTerms}
 use Rattle.sm_plan.proofs.SummariesLemmas.{numbers, summed}
 use Rattle.sm_plan.proofs.summaries.summarize.Given as goal
 

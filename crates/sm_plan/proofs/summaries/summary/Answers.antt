@@ -1,19 +1,6 @@
 -- The inputs are declared, and each has its term.
-use Rattle.std.proofs.Common.{◌≡◌, List, Some, length, slice_get, IfOk, sym, ap, subst, ◌∙◌}
-use Rattle.sm_syntax.specs.declared.tree.Name.{Name}
-use Rattle.sm_syntax.specs.text.Conditions.{is_in}
-use Rattle.sm_syntax.specs.trees.Views.{code_of}
-use Rattle.sm_deps.specs.Inputs.{inputs}
-use Rattle.sm_deps.proofs.InputsDeclared.{inputs_declared}
-use Rattle.sm_term.specs.Terms.{Tree, Fun}
-use Rattle.sm_term.specs.Fitting.{arguments_fit}
-use Rattle.sm_term.specs.SymStores.{store_in}
-use Rattle.sm_term.specs.Tables.{trees_in, sorts_in, codes_in, code_at, arguments_in, AreNamesDeclared, AreBefore}
-use Rattle.sm_term.specs.declared.term.TermId.{TermId}
-use Rattle.std.proofs.lemmas.Option.{slice_get_within, get_or_from_slice_get}
-use Rattle.sm_syntax.specs.claim.Syntax.{End}
-use Rattle.sm_plan.specs.Openings.{terms_named, AreNamesBelow}
-use Rattle.sm_plan.specs.Successors.{present}
+use Rattle.sm_plan.proofs.Imports.{◌≡◌, List, Some, length, slice_get, sym, ap, subst, ◌∙◌, Name, is_in, code_of, inputs, inputs_declared, Tree, Fun, arguments_fit, store_in, trees_in, sorts_in, codes_in, code_at, arguments_in, AreNamesDeclared, AreBefore, TermId, slice_get_within, get_or_from_slice_get, End, terms_named, AreNamesBelow, present}
+use Rattle.std.proofs.Common.{IfOk}
 use Rattle.sm_plan.proofs.SummariesLemmas.{numbers, all_declared, names_below, terms_before, terms_present, terms_fit}
 use Rattle.sm_plan.proofs.summaries.summary.Goals as goal
 

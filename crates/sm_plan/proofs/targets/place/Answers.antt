@@ -1,18 +1,7 @@
 -- The slot, or the array's element at the cell.
-use Rattle.std.proofs.Common.{◌≡◌, Some, refl, IfOk, slice_get, sym, ap, subst, ◌∙◌}
-use Rattle.std.proofs.lemmas.Bool.{and_from}
-use Rattle.sm_syntax.specs.claim.ConflictFree.{Copy, copy_of}
-use Rattle.sm_syntax.specs.text.Sorts.{Sorts}
-use Rattle.sm_syntax.specs.declared.tree.Sort.{Sort}
-use Rattle.sm_syntax.specs.declared.tree.Sort.TheVariants.{Num, Arr}
-use Rattle.sm_syntax.specs.trees.Copies.{copy_named}
-use Rattle.sm_term.specs.Terms.{Tree, Slot, Cell, Read}
-use Rattle.sm_term.specs.Sorted.{sort_named}
-use Rattle.sm_term.specs.Tables.{trees_in, sorts_in, tree_at}
-use Rattle.sm_term.specs.declared.term.TermId.{TermId}
-use Rattle.sm_term.proofs.ExpressionLemmas.{stays_got, tree_got, sort_got}
-use Rattle.sm_term.proofs.TablesLemmas.{grows-twice}
-use Rattle.sm_plan.specs.States.{place}
+use Rattle.sm_plan.proofs.Imports.{◌≡◌, Some, refl, slice_get, sym, ap, subst, ◌∙◌, and_from, Copy, copy_of, Sorts, Sort, Num, Arr, copy_named, Tree, Slot, Read, sort_named, trees_in, sorts_in, tree_at, TermId, stays_got, tree_got, sort_got, grows-twice, place}
+use Rattle.std.proofs.Common.{IfOk}
+use Rattle.sm_term.specs.Terms.{Cell}
 use Rattle.sm_plan.proofs.SortedTerms.{sort_is}
 use Rattle.sm_plan.proofs.TargetsMade.{copy_back}
 use Rattle.sm_plan.proofs.targets.place.Goals as goal

@@ -1,14 +1,5 @@
 -- Each place stays where the table grows.
-use Rattle.std.proofs.Common.{◌≡◌, ℕ, Some, slice_get, ap, ◌∙◌}
-use Rattle.sm_syntax.specs.claim.ConflictFree.{Copy, O, A, B, M}
-use Rattle.sm_syntax.specs.text.Sorts.{Sorts}
-use Rattle.sm_syntax.specs.declared.tree.Sort.{Sort}
-use Rattle.sm_syntax.specs.text.Parts.{by_copy}
-use Rattle.sm_term.specs.Tables.{trees_in}
-use Rattle.sm_term.specs.declared.term.TermId.{TermId}
-use Rattle.sm_term.proofs.TablesLemmas.{grows-twice}
-use Rattle.sm_term.proofs.ExpressionLemmas.{stays_got}
-use Rattle.sm_plan.specs.States.{place}
+use Rattle.sm_plan.proofs.Imports.{◌≡◌, ℕ, Some, slice_get, ap, ◌∙◌, Copy, O, A, B, M, Sorts, Sort, by_copy, trees_in, TermId, grows-twice, stays_got, place}
 use Rattle.sm_plan.proofs.targets.places.Goals as goal
 
 -- what holds of each of four

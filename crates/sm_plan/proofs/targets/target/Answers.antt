@@ -1,26 +1,5 @@
 -- The goals of one output more.
-use Rattle.std.proofs.Common.{◌≡◌, ℕ, Some, List, ◌++◌, length, map, take, get_or, slice_get, sym, ap, subst, ◌∙◌, arith}
-use Rattle.std.specs.List.{flat_map}
-use Rattle.std.proofs.lemmas.List.{take_all, map-append}
-use Rattle.sm_syntax.specs.claim.ConflictFree.{Copy}
-use Rattle.sm_syntax.specs.declared.tree.Name.{Name}
-use Rattle.sm_syntax.specs.text.Sorts.{Sorts}
-use Rattle.sm_syntax.specs.declared.tree.Sort.{Sort}
-use Rattle.sm_syntax.specs.declared.tree.Sort.TheVariants.{Num}
-use Rattle.sm_syntax.specs.trees.Copies.{of_copy}
-use Rattle.sm_syntax.specs.declared.copies.PerCopy.{PerCopy}
-use Rattle.sm_syntax.specs.trees.Programs.{outputs_of}
-use Rattle.sm_term.specs.Assertions.{Assertion}
-use Rattle.sm_term.specs.Formulas.{NumberedFormula, numbered, assertion_in}
-use Rattle.sm_term.specs.Sorted.{sort_named, tree_sort, AreFormsSorted}
-use Rattle.sm_term.specs.Tables.{trees_in, sorts_in}
-use Rattle.sm_term.specs.declared.term.TermId.{TermId}
-use Rattle.sm_term.proofs.TablesLemmas.{grows-twice}
-use Rattle.sm_term.proofs.ExpressionLemmas.{tree_got, there}
-use Rattle.sm_plan.specs.SortedStates.{AreOutputsDeclared}
-use Rattle.sm_plan.specs.Starts.{goals_over, with_sorts, AreAllWithin}
-use Rattle.sm_plan.specs.States.{place, keeps_goals}
-use Rattle.sm_plan.specs.Views.{forms_in}
+use Rattle.sm_plan.proofs.Imports.{◌≡◌, ℕ, Some, List, ◌++◌, length, map, take, get_or, slice_get, sym, ap, subst, ◌∙◌, arith, flat_map, take_all, map-append, Copy, Name, Sorts, Sort, Num, of_copy, PerCopy, outputs_of, Assertion, NumberedFormula, numbered, assertion_in, sort_named, tree_sort, AreFormsSorted, trees_in, sorts_in, TermId, grows-twice, tree_got, there, AreOutputsDeclared, goals_over, with_sorts, AreAllWithin, place, keeps_goals, forms_in}
 use Rattle.sm_plan.proofs.SortedStates.{place_sorted, goals_sorted}
 use Rattle.sm_plan.proofs.SummariesLemmas.{numbers}
 use Rattle.sm_plan.proofs.TablesWiden.{widens_grown}

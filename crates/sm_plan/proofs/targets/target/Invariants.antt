@@ -1,11 +1,5 @@
 -- The goals of the outputs so far.
-use Rattle.std.proofs.Common.{◌≡◌, length, map, take}
-use Rattle.std.specs.List.{flat_map}
-use Rattle.sm_term.specs.Formulas.{numbered, assertion_in}
-use Rattle.sm_term.specs.Tables.{trees_in, sorts_in}
-use Rattle.sm_term.specs.TableLaws.{AddsTerms}
-use Rattle.sm_plan.specs.Starts.{with_sorts, AreAllWithin}
-use Rattle.sm_plan.specs.States.{place, keeps_goals}
+use Rattle.sm_plan.proofs.Imports.{◌≡◌, length, map, take, flat_map, numbered, assertion_in, trees_in, sorts_in, AddsTerms, with_sorts, AreAllWithin, place, keeps_goals}
 use Rattle.sm_plan.proofs.SummariesLemmas.{numbers}
 use Rattle.sm_plan.proofs.targets.target.Given as goal
 

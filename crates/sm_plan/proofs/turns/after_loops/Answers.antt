@@ -1,16 +1,5 @@
 -- The state after the loops.
-use Rattle.std.proofs.Common.{◌≡◌, List, ◌++◌, sym, ap, subst}
-use Rattle.std.proofs.Math.Path.{fun_ext}
-use Rattle.sm_syntax.specs.claim.ConflictFree.{Copy}
-use Rattle.sm_syntax.specs.text.Sorts.{Sorts, IsWellSorted}
-use Rattle.sm_syntax.specs.trees.Copies.{of_copy}
-use Rattle.sm_term.specs.Assertions.{Assertion}
-use Rattle.sm_term.specs.Terms.{Tree}
-use Rattle.sm_plan.specs.Copies.{has}
-use Rattle.sm_plan.specs.LoopHeads.{IsHeadReady}
-use Rattle.sm_plan.specs.Masks.{set_of}
-use Rattle.sm_plan.specs.ReadyStates.{AreStoresReady, AreStoresFull}
-use Rattle.sm_plan.specs.Views.{rest_code, forms_in, stores_in}
+use Rattle.sm_plan.proofs.Imports.{◌≡◌, List, ◌++◌, sym, ap, subst, fun_ext, Copy, Sorts, IsWellSorted, of_copy, Assertion, Tree, has, IsHeadReady, set_of, AreStoresReady, AreStoresFull, rest_code, forms_in, stores_in}
 use Rattle.sm_plan.proofs.TurnsMade.{passed_ready}
 use Rattle.sm_plan.proofs.turns.after_loops.Goals as goal
 

@@ -1,9 +1,5 @@
 -- What comes after the loops stands behind the turns.
-use Rattle.std.proofs.Common.{List, [], ◌∷◌, ◌++◌, map, sym, ap, ◌∙◌, subst}
-use Rattle.std.proofs.lemmas.List.{map-append}
-use Rattle.sm_plan.specs.ReadyStates.{AreSuccessorsReady, Successor}
-use Rattle.sm_plan.specs.States.{State}
-use Rattle.sm_plan.specs.Views.{successor_in}
+use Rattle.sm_plan.proofs.Imports.{List, [], ◌∷◌, ◌++◌, map, sym, ap, ◌∙◌, subst, map-append, AreSuccessorsReady, Successor, State, successor_in}
 use Rattle.sm_plan.proofs.TurnsMade.{successors_push}
 use Rattle.sm_plan.proofs.turns.looped.Goals as goal
 

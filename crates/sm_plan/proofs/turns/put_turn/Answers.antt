@@ -1,18 +1,7 @@
 -- One turn more.
-use Rattle.std.proofs.Common.{◌≡◌, ◌==◌, ◌∙◌, ℕ, Bool, true, if◌then◌else◌, bit_and, List, [], ◌∷◌, ◌++◌, map, sym, ap, subst}
+use Rattle.sm_plan.proofs.Imports.{◌≡◌, ◌==◌, ◌∙◌, ℕ, Bool, true, if◌then◌else◌, bit_and, List, [], ◌∷◌, ◌++◌, map, sym, ap, subst, map-append, Copy, Sorts, of_copy, Assertion, Tree, IsHeadReady, set_of, AreFormsReady, AreSuccessorsReady, Successor, State, rest_code, forms_in, stores_in, successor_in}
 use Rattle.std.proofs.lemmas.Bool.{eq-eqb}
-use Rattle.std.proofs.lemmas.List.{map-append}
-use Rattle.sm_syntax.specs.claim.ConflictFree.{Copy}
-use Rattle.sm_syntax.specs.text.Sorts.{Sorts}
-use Rattle.sm_syntax.specs.trees.Copies.{of_copy}
-use Rattle.sm_term.specs.Assertions.{Assertion}
-use Rattle.sm_term.specs.Terms.{Tree}
 use Rattle.sm_plan.specs.Heads as heads
-use Rattle.sm_plan.specs.LoopHeads.{IsHeadReady}
-use Rattle.sm_plan.specs.Masks.{set_of}
-use Rattle.sm_plan.specs.ReadyStates.{AreFormsReady, AreSuccessorsReady, Successor}
-use Rattle.sm_plan.specs.States.{State}
-use Rattle.sm_plan.specs.Views.{rest_code, forms_in, stores_in, successor_in}
 use Rattle.sm_plan.proofs.TurnsMade.{successors_push}
 use Rattle.sm_plan.proofs.turns.put_turn.Goals as goal
 

@@ -1,18 +1,5 @@
 -- The state of a turn.
-use Rattle.std.proofs.Common.{rules, ◌≡◌, List, ◌++◌, sym, ap, subst, false}
-use Rattle.std.proofs.Math.Path.{fun_ext}
-use Rattle.sm_syntax.specs.claim.ConflictFree.{Copy}
-use Rattle.sm_syntax.specs.text.Sorts.{Sorts, IsWellSorted}
-use Rattle.sm_syntax.specs.trees.Copies.{of_copy}
-use Rattle.sm_term.specs.declared.formula.Formula.{Formula}
-use Rattle.sm_term.specs.Assertions.{Assertion}
-use Rattle.sm_term.specs.Terms.{Tree}
-use Rattle.sm_plan.specs.declared.state.Formulas.{Formulas}
-use Rattle.sm_plan.specs.Copies.{has}
-use Rattle.sm_plan.specs.LoopHeads.{IsHeadReady}
-use Rattle.sm_plan.specs.Masks.{set_of}
-use Rattle.sm_plan.specs.ReadyStates.{AreFormsReady, IsStoreReady}
-use Rattle.sm_plan.specs.Views.{rest_code, forms_in, stores_in}
+use Rattle.sm_plan.proofs.Imports.{rules, ◌≡◌, List, ◌++◌, sym, ap, subst, false, fun_ext, Copy, Sorts, IsWellSorted, of_copy, Formula, Assertion, Tree, Formulas, has, IsHeadReady, set_of, AreFormsReady, IsStoreReady, rest_code, forms_in, stores_in}
 use Rattle.sm_plan.proofs.RenewedStores.{store_alike}
 use Rattle.sm_plan.proofs.TurnsMade.{same_store_ready, same_store_full, bodies_ready}
 use Rattle.sm_plan.proofs.turns.turn.Goals as goal

@@ -1,17 +1,6 @@
 -- One mask more.
-use Rattle.std.proofs.Common.{rules, ◌≡◌, ◌==◌, ◌+◌, ◌∙◌, ℕ, bit_and, if◌then◌else◌, List, [], ◌∷◌, ◌++◌, map, sym, ap, subst, arith}
-use Rattle.std.proofs.lemmas.List.{map-append}
-use Rattle.std.specs.List.{filter, range_with_len}
-use Rattle.sm_syntax.specs.claim.ConflictFree.{Copy}
-use Rattle.sm_syntax.specs.text.Sorts.{Sorts}
-use Rattle.sm_syntax.specs.trees.Copies.{of_copy}
-use Rattle.sm_term.specs.Assertions.{Assertion}
-use Rattle.sm_term.specs.Terms.{Tree}
+use Rattle.sm_plan.proofs.Imports.{rules, ◌≡◌, ◌==◌, ◌+◌, ◌∙◌, ℕ, bit_and, if◌then◌else◌, List, [], ◌∷◌, ◌++◌, map, sym, ap, subst, arith, map-append, filter, range_with_len, Copy, Sorts, of_copy, Assertion, Tree, IsHeadReady, set_of, State, rest_code, forms_in, stores_in, successor_in}
 use Rattle.sm_plan.specs.Heads as heads
-use Rattle.sm_plan.specs.LoopHeads.{IsHeadReady}
-use Rattle.sm_plan.specs.Masks.{set_of}
-use Rattle.sm_plan.specs.States.{State}
-use Rattle.sm_plan.specs.Views.{rest_code, forms_in, stores_in, successor_in}
 use Rattle.sm_plan.proofs.TurnsMade.{filter_push}
 use Rattle.sm_plan.proofs.turns.turns.Goals as goal
 

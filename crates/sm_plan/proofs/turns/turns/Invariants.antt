@@ -1,16 +1,6 @@
 -- A turn for each set of copies whose mask is less.
-use Rattle.std.proofs.Common.{◌≡◌, ◌==◌, ◌-◌, ℕ, List, map, bit_and}
-use Rattle.std.specs.List.{filter, range_with_len}
-use Rattle.sm_syntax.specs.claim.ConflictFree.{Copy}
-use Rattle.sm_syntax.specs.text.Sorts.{Sorts, IsWellSorted}
-use Rattle.sm_syntax.specs.trees.Copies.{of_copy}
-use Rattle.sm_term.specs.Assertions.{Assertion}
-use Rattle.sm_term.specs.Terms.{Tree}
+use Rattle.sm_plan.proofs.Imports.{◌≡◌, ◌==◌, ◌-◌, ℕ, List, map, bit_and, filter, range_with_len, Copy, Sorts, IsWellSorted, of_copy, Assertion, Tree, IsHeadReady, set_of, AreFormsReady, AreSuccessorsReady, rest_code, forms_in, stores_in, successor_in}
 use Rattle.sm_plan.specs.Heads as heads
-use Rattle.sm_plan.specs.LoopHeads.{IsHeadReady}
-use Rattle.sm_plan.specs.Masks.{set_of}
-use Rattle.sm_plan.specs.ReadyStates.{AreFormsReady, AreSuccessorsReady}
-use Rattle.sm_plan.specs.Views.{rest_code, forms_in, stores_in, successor_in}
 use Rattle.sm_plan.proofs.turns.turns.Given as goal
 
 abbrev pub invariant-loop-smaller : goal.invariant-loop-smaller

@@ -1,5 +1,4 @@
-use Rattle.sm_syntax.specs.text.Parts.{task_of}
-use Rattle.sm_text.specs.Tasks.{parts_of}
+use Rattle.sm_product.proofs.Imports.{task_of, parts_of}
 use Rattle.sm_product.proofs.TaskParts.{has_parts}
 use Rattle.sm_product.proofs.asking.obligations_of.Goals as goal
 

@@ -1,15 +1,5 @@
 -- The room is that of the limits.
-use Rattle.std.proofs.lemmas.Result.{IfErr-weaker}
-use Rattle.sm_syntax.specs.text.Parts.{Parts}
-use Rattle.sm_term.specs.Tables.{trees_in, sorts_in}
-use Rattle.sm_plan.specs.Masks.{set_of}
-use Rattle.sm_moves.specs.Rests.{codes_in}
-use Rattle.sm_template.specs.Sites.{IsSiteOf}
-use Rattle.sm_sketch.specs.Errors.{TellsSketch}
-use Rattle.sm_sketch.specs.declared.error.ProductError.{ProductError}
-use Rattle.sm_sketch.specs.SketchViews.{sketch_in}
-use Rattle.sm_product.specs.MiniProducts.{side_by_side}
-use Rattle.sm_product.specs.Rooms.{TellsBeyond}
+use Rattle.sm_product.proofs.Imports.{IfErr-weaker, Parts, trees_in, sorts_in, set_of, codes_in, IsSiteOf, TellsSketch, ProductError, sketch_in, side_by_side, TellsBeyond}
 use Rattle.sm_product.proofs.RoomLemmas.{beyond_limit}
 use Rattle.sm_product.proofs.beside.side_by_side.Goals as goal
 

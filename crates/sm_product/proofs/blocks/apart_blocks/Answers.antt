@@ -1,22 +1,6 @@
 -- The fillings side by side are drawn first, then their templates.
-use Rattle.std.proofs.Common.{sym, ap, ◌∙◌, subst}
-use Rattle.sm_syntax.specs.claim.ConflictFree.{Copy}
-use Rattle.sm_syntax.specs.text.Sorts.{Sorts}
-use Rattle.sm_syntax.specs.trees.Copies.{of_copy}
-use Rattle.sm_term.specs.Tables.{trees_in, sorts_in}
-use Rattle.sm_text.specs.Tasks.{parts_of}
-use Rattle.sm_plan.specs.Masks.{set_of}
-use Rattle.sm_plan.specs.Views.{forms_in}
-use Rattle.sm_plan.proofs.TablesWiden.{widens_twice}
-use Rattle.sm_moves.specs.CodeShapes.{own_statements}
-use Rattle.sm_moves.specs.FilledCode.{block_codes}
-use Rattle.sm_template.specs.Templates.{block_templates}
-use Rattle.sm_sketch.specs.Errors.{TellsSketch}
+use Rattle.sm_product.proofs.Imports.{sym, ap, ◌∙◌, subst, Copy, Sorts, of_copy, trees_in, sorts_in, parts_of, set_of, forms_in, widens_twice, own_statements, block_codes, block_templates, TellsSketch, sketch_in, sketch_stays, sketch_ready, side_by_side, IsContextReady}
 use Rattle.sm_sketch.specs.Sketches as plain
-use Rattle.sm_sketch.specs.SketchViews.{sketch_in}
-use Rattle.sm_sketch.proofs.SketchesWiden.{sketch_stays, sketch_ready}
-use Rattle.sm_product.specs.MiniProducts.{side_by_side}
-use Rattle.sm_product.specs.ProductContexts.{IsContextReady}
 use Rattle.sm_product.proofs.DrawnLemmas.{tells_whole, drawn_fault, apart_drawn}
 use Rattle.sm_product.proofs.GrowthLemmas.{inside_block}
 use Rattle.sm_product.proofs.blocks.apart_blocks.Goals as goal

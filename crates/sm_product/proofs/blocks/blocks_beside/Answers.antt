@@ -1,19 +1,5 @@
 -- The code of the blocks side by side.
-use Rattle.std.proofs.Common.{◌≡◌, sym, ap, ◌∙◌, subst}
-use Rattle.std.proofs.Math.Path.{fun_ext}
-use Rattle.sm_syntax.specs.claim.ConflictFree.{Copy}
-use Rattle.sm_syntax.specs.claim.Syntax.{Code}
-use Rattle.sm_syntax.specs.text.Sorts.{IsWellSorted}
-use Rattle.sm_syntax.specs.trees.Copies.{of_copy}
-use Rattle.sm_term.specs.Tables.{trees_in, sorts_in}
-use Rattle.sm_text.specs.Tasks.{parts_of}
-use Rattle.sm_plan.specs.Masks.{set_of}
-use Rattle.sm_plan.specs.Views.{rest_code}
-use Rattle.sm_moves.specs.CodeShapes.{has_hole}
-use Rattle.sm_moves.specs.FilledCode.{block_codes}
-use Rattle.sm_sketch.specs.SketchViews.{sketch_in}
-use Rattle.sm_product.specs.Drawn.{IsDrawn}
-use Rattle.sm_product.specs.MiniProducts.{side_by_side}
+use Rattle.sm_product.proofs.Imports.{◌≡◌, sym, ap, ◌∙◌, subst, fun_ext, Copy, Code, IsWellSorted, of_copy, trees_in, sorts_in, parts_of, set_of, rest_code, has_hole, block_codes, sketch_in, IsDrawn, side_by_side}
 use Rattle.sm_product.proofs.DrawnLemmas.{drawn_by}
 use Rattle.sm_product.proofs.blocks.blocks_beside.Goals as goal
 

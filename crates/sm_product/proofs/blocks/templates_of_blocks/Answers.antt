@@ -1,16 +1,6 @@
 -- What is left of the copies is their blocks.
-use Rattle.std.proofs.Common.{◌≡◌, subst}
-use Rattle.std.proofs.Math.Path.{fun_ext}
+use Rattle.sm_product.proofs.Imports.{◌≡◌, subst, fun_ext, Copy, Code, of_copy, trees_in, sorts_in, parts_of, Formulas, rest_code, forms_in, block_codes, block_templates}
 use Rattle.std.specs.Prelude.{IfOk}
-use Rattle.sm_syntax.specs.claim.ConflictFree.{Copy}
-use Rattle.sm_syntax.specs.claim.Syntax.{Code}
-use Rattle.sm_syntax.specs.trees.Copies.{of_copy}
-use Rattle.sm_term.specs.Tables.{trees_in, sorts_in}
-use Rattle.sm_text.specs.Tasks.{parts_of}
-use Rattle.sm_plan.specs.declared.state.Formulas.{Formulas}
-use Rattle.sm_plan.specs.Views.{rest_code, forms_in}
-use Rattle.sm_moves.specs.FilledCode.{block_codes}
-use Rattle.sm_template.specs.Templates.{block_templates}
 use Rattle.sm_product.proofs.blocks.templates_of_blocks.Goals as goal
 
 pub returns-clause-made : goal.returns-clause-made

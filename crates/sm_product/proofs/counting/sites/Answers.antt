@@ -1,6 +1,5 @@
 -- The sketch is that of the task, or it is told why there is none.
-use Rattle.std.proofs.Common.{◌∙◌, rules}
-use Rattle.sm_text.specs.Tasks.{parts_of}
+use Rattle.sm_product.proofs.Imports.{◌∙◌, rules, parts_of}
 use Rattle.sm_product.proofs.LargeTasks.{err_tells_task}
 use Rattle.sm_product.proofs.counting.sites.Goals as goal
 

@@ -1,18 +1,8 @@
 -- As many as the choice of all templates has lists, which is one for each site.
-use Rattle.std.proofs.Common.{List, ℕ, length, sym, ap, ◌∙◌}
-use Rattle.std.proofs.lemmas.List.{length-map}
-use Rattle.std.specs.Prelude.{Vec}
+use Rattle.sm_product.proofs.Imports.{List, ℕ, length, sym, ap, ◌∙◌, length-map, Vec, range_with_len, Assertion, trees_in, sorts_in, parts_of, ProductError, all_chosen, sites_of, sketch_of, TellsTask}
 use Rattle.std.specs.declared.alloc.Global.{Global}
-use Rattle.std.specs.List.{range_with_len}
-use Rattle.sm_term.specs.Assertions.{Assertion}
-use Rattle.sm_term.specs.Tables.{trees_in, sorts_in}
-use Rattle.sm_text.specs.Tasks.{parts_of}
-use Rattle.sm_sketch.specs.declared.error.ProductError.{ProductError}
 use Rattle.sm_sketch.specs.declared.error.ProductError.TheVariants as error
-use Rattle.sm_sketch.specs.Choices.{all_chosen}
-use Rattle.sm_sketch.specs.Sketches.{Sketch, sites_of}
-use Rattle.sm_product.specs.Products.{sketch_of}
-use Rattle.sm_product.specs.Errors.{TellsTask}
+use Rattle.sm_sketch.specs.Sketches.{Sketch}
 use Rattle.sm_product.proofs.DrawnLemmas.{err_is}
 use Rattle.sm_product.proofs.counting.sites_within.Goals as goal
 

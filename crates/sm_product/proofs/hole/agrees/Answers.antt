@@ -1,12 +1,8 @@
 -- A copy of the set is asked for its block.
-use Rattle.std.proofs.Common.{◌≡◌, Bool, not, ◌||◌, sym, ap, ◌∙◌}
+use Rattle.sm_product.proofs.Imports.{◌≡◌, Bool, not, ◌||◌, sym, ap, ◌∙◌, copy_named, code_of, same_code, block_codes}
 use Rattle.std.proofs.lemmas.Bool.Decides.{same_from_decides}
-use Rattle.sm_syntax.specs.trees.Copies.{copy_named}
-use Rattle.sm_syntax.specs.trees.Views.{code_of}
 use Rattle.sm_syntax.specs.declared.tree.Block.{Block}
 use Rattle.sm_term.specs.SameCodeLaws.{same_code_is}
-use Rattle.sm_term.specs.SameTerms.{same_code}
-use Rattle.sm_moves.specs.FilledCode.{block_codes}
 use Rattle.sm_product.proofs.hole.agrees.Goals as goal
 use denote.Bor.{Bor}
 

@@ -1,8 +1,5 @@
 -- A block has an if where one of its statements is one.
-use Rattle.std.proofs.Common.{refl, sym, ◌∙◌}
-use Rattle.sm_syntax.specs.trees.Views.{code_of}
-use Rattle.sm_moves.specs.CodeShapes.{has_fork}
-use Rattle.sm_moves.proofs.WalksLemmas.{fork-append, found_here, not_here, nowhere, whole_block}
+use Rattle.sm_product.proofs.Imports.{refl, sym, ◌∙◌, code_of, has_fork, fork-append, found_here, not_here, nowhere, whole_block}
 use Rattle.sm_product.proofs.hole.has_fork.Goals as goal
 
 pub loop-s-init : goal.loop-s-init

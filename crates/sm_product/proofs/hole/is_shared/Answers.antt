@@ -1,14 +1,6 @@
 -- The blocks are compared with that of the least copy.
-use Rattle.std.proofs.Common.{not, ◌||◌, sym, ap, ◌∙◌}
-use Rattle.sm_syntax.specs.claim.ConflictFree.{Copy}
-use Rattle.sm_syntax.specs.claim.Syntax.{Code}
-use Rattle.sm_syntax.specs.trees.Copies.{copy_named}
-use Rattle.sm_syntax.specs.trees.Views.{code_of}
+use Rattle.sm_product.proofs.Imports.{not, ◌||◌, sym, ap, ◌∙◌, Copy, Code, copy_named, code_of, same_code, each, has, set_of, block_codes}
 use Rattle.sm_syntax.specs.declared.tree.Block.{Block}
-use Rattle.sm_term.specs.SameTerms.{same_code}
-use Rattle.sm_plan.specs.Copies.{each, has}
-use Rattle.sm_plan.specs.Masks.{set_of}
-use Rattle.sm_moves.specs.FilledCode.{block_codes}
 use Rattle.sm_moves.proofs.SharedLemmas.{shared_first}
 use Rattle.sm_product.proofs.hole.is_shared.Goals as goal
 use denote.Bor.{Bor}

@@ -1,18 +1,5 @@
 -- Fillings that differ and may fork are a block, others stand side by side.
-use Rattle.std.proofs.Common.{◌≡◌, Bool, true, false, refl, sym, ap, ◌∙◌, subst, if◌then◌else◌}
-use Rattle.std.proofs.Math.Path.{fun_ext}
-use Rattle.sm_syntax.specs.claim.ConflictFree.{Copy}
-use Rattle.sm_syntax.specs.claim.Fill.{filling}
-use Rattle.sm_syntax.specs.claim.Syntax.{Code, End}
-use Rattle.sm_syntax.specs.text.Sorts.{IsWellSorted}
-use Rattle.sm_term.specs.Tables.{trees_in, sorts_in}
-use Rattle.sm_text.specs.Tasks.{parts_of}
-use Rattle.sm_plan.specs.Copies.{has}
-use Rattle.sm_plan.specs.Masks.{set_of}
-use Rattle.sm_moves.specs.CodeShapes.{has_hole}
-use Rattle.sm_moves.specs.CopySets.{only_in}
-use Rattle.sm_moves.specs.FilledCode.{block_codes}
-use Rattle.sm_sketch.specs.SketchViews.{sketch_in}
+use Rattle.sm_product.proofs.Imports.{◌≡◌, Bool, true, false, refl, sym, ap, ◌∙◌, subst, if◌then◌else◌, fun_ext, Copy, filling, Code, End, IsWellSorted, trees_in, sorts_in, parts_of, has, set_of, has_hole, only_in, block_codes, sketch_in}
 use Rattle.sm_product.proofs.HoleDrawn.{hole_apart, hole_beside}
 use Rattle.sm_product.proofs.hole.product_hole.Goals as goal
 

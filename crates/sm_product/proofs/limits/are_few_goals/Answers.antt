@@ -1,7 +1,5 @@
 -- Where it is over the limit, so is the whole.
-use Rattle.std.proofs.Common.{◌≡◌, ◌+◌, ◌<◌, length, ap, arith}
-use Rattle.sm_expand.specs.Views.{dues_in}
-use Rattle.sm_product.specs.Sizes.{goals_in}
+use Rattle.sm_product.proofs.Imports.{◌≡◌, ◌+◌, ◌<◌, length, ap, arith, dues_in, goals_in}
 use Rattle.sm_product.proofs.SizesLemmas.{goals_more, goals_front, over_limit}
 use Rattle.sm_product.proofs.limits.are_few_goals.Goals as goal
 

@@ -1,9 +1,5 @@
 -- How many there are so far.
-use Rattle.std.proofs.Common.{◌≡◌, ◌+◌, ◌≤◌, List, take}
-use Rattle.sm_syntax.specs.text.Sorts.{Sorts}
-use Rattle.sm_term.specs.Terms.{Tree}
-use Rattle.sm_expand.specs.Views.{dues_in}
-use Rattle.sm_product.specs.Sizes.{goals_in}
+use Rattle.sm_product.proofs.Imports.{◌≡◌, ◌+◌, ◌≤◌, List, take, Sorts, Tree, dues_in, goals_in}
 use Rattle.sm_product.proofs.limits.are_few_goals.Given as goal
 
 abbrev pub invariant-loop-due : goal.invariant-loop-due

@@ -1,7 +1,5 @@
 -- Both limits.
-use Rattle.std.proofs.Common.{nat_le, Bool, ◌&&◌, sym, ap, ◌∙◌}
-use Rattle.sm_expand.specs.Views.{dues_in}
-use Rattle.sm_product.specs.Sizes.{facts_in}
+use Rattle.sm_product.proofs.Imports.{nat_le, Bool, ◌&&◌, sym, ap, ◌∙◌, dues_in, facts_in}
 use Rattle.sm_product.proofs.SizesLemmas.{within_is}
 use Rattle.sm_product.proofs.limits.are_within.Goals as goal
 

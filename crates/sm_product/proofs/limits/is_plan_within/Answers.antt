@@ -1,13 +1,8 @@
 -- What the plan asks, or why it asks nothing.
-use Rattle.std.proofs.Common.{Ok, List, sym, ap, ◌∙◌, subst}
-use Rattle.sm_syntax.specs.text.Parts.{task_of}
-use Rattle.sm_text.specs.Tasks.{parts_of}
-use Rattle.sm_term.specs.Tables.{trees_in, sorts_in}
-use Rattle.sm_plan.specs.Plans.{obligations}
+use Rattle.sm_product.proofs.Imports.{List, sym, ap, ◌∙◌, subst, task_of, parts_of, trees_in, sorts_in, obligations, plan_in, dues_in, FaultTells, is_within}
+use Rattle.std.proofs.Common.{Ok}
 use Rattle.sm_expand.specs.declared.fault.PlanFault.{PlanFault}
-use Rattle.sm_expand.specs.Views.{plan_in, dues_in, FaultTells}
 use Rattle.sm_expand.specs.declared.due.Due.{Due}
-use Rattle.sm_product.specs.Sizes.{is_within}
 use Rattle.sm_product.proofs.SizesLemmas.{fault_within}
 use Rattle.sm_product.proofs.limits.is_plan_within.Goals as goal
 

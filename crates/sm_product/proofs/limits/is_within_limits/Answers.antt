@@ -1,11 +1,5 @@
 -- Whether what the plan of all templates asks is within the limits.
-use Rattle.std.proofs.Common.{ap, ◌∙◌}
-use Rattle.sm_text.specs.Tasks.{parts_of}
-use Rattle.sm_term.specs.Tables.{trees_in, sorts_in}
-use Rattle.sm_expand.specs.Views.{plan_in}
-use Rattle.sm_sketch.specs.Choices.{kept_by}
-use Rattle.sm_sketch.specs.Sketches.{plan_with}
-use Rattle.sm_sketch.specs.SketchSizes.{sketch_size}
+use Rattle.sm_product.proofs.Imports.{ap, ◌∙◌, parts_of, trees_in, sorts_in, plan_in, kept_by, plan_with, sketch_size}
 use Rattle.sm_product.proofs.SizesLemmas.{small_ok}
 use Rattle.sm_product.proofs.limits.is_within_limits.Goals as goal
 

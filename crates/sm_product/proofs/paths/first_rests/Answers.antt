@@ -1,11 +1,5 @@
 -- The copy is what was copied, and then takes the first block.
-use Rattle.std.proofs.Common.{◌≡◌, ap, ◌∙◌}
-use Rattle.std.proofs.Math.Path.{fun_ext}
-use Rattle.sm_syntax.specs.claim.ConflictFree.{Copy}
-use Rattle.sm_syntax.specs.claim.Syntax.{Code}
-use Rattle.sm_syntax.specs.trees.Copies.{copy_named}
-use Rattle.sm_moves.specs.Rests.{codes_in}
-use Rattle.sm_product.specs.Paths.{first_taken}
+use Rattle.sm_product.proofs.Imports.{◌≡◌, ap, ◌∙◌, fun_ext, Copy, Code, copy_named, codes_in, first_taken}
 use Rattle.sm_product.proofs.paths.first_rests.Goals as goal
 
 pub returns : goal.returns

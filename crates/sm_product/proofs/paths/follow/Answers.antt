@@ -1,18 +1,7 @@
 -- One move more.
-use Rattle.std.proofs.Common.{◌≡◌, true, List, [], ◌∷◌, map, ap, sym, ◌∙◌, subst, arith}
-use Rattle.std.proofs.lemmas.List.{map-append}
-use Rattle.std.proofs.Math.Path.{fun_ext}
-use Rattle.sm_syntax.specs.claim.Syntax.{Code}
-use Rattle.sm_syntax.specs.claim.ConflictFree.{Copy}
-use Rattle.sm_syntax.specs.text.Parts.{Parts}
-use Rattle.sm_syntax.specs.text.Sorts.{Sorts, IsWellSorted}
-use Rattle.sm_plan.specs.Masks.{set_of}
+use Rattle.sm_product.proofs.Imports.{◌≡◌, true, List, [], ◌∷◌, map, ap, sym, ◌∙◌, subst, arith, map-append, fun_ext, Code, Copy, Parts, Sorts, IsWellSorted, set_of, codes_in, move_in, side_by_side, statements_left, IsFilled, is_straight, after_move, moves_before}
 use Rattle.sm_moves.specs.Moves.{Move}
-use Rattle.sm_moves.specs.Rests.{codes_in}
-use Rattle.sm_moves.specs.ProgramMoves.{move_in}
 use Rattle.sm_sketch.specs.Sketches.{Sketch}
-use Rattle.sm_product.specs.MiniProducts.{side_by_side, statements_left}
-use Rattle.sm_product.specs.Paths.{IsFilled, is_straight, after_move, moves_before}
 use Rattle.sm_product.proofs.StraightLemmas.{straight_leaves, straight_sorted, path_more}
 use Rattle.sm_product.proofs.paths.follow.Goals as goal
 

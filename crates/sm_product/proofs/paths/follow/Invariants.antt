@@ -1,16 +1,6 @@
 -- The mini-product is the moves so far and that of what is left.
-use Rattle.std.proofs.Common.{◌≡◌, ◌≤◌, map}
-use Rattle.sm_syntax.specs.claim.ConflictFree.{Copy}
-use Rattle.sm_syntax.specs.text.Parts.{Parts}
-use Rattle.sm_syntax.specs.text.Sorts.{Sorts, IsWellSorted}
-use Rattle.sm_plan.specs.Masks.{set_of}
-use Rattle.sm_moves.specs.Moves.{move_of}
-use Rattle.sm_moves.specs.MovesWithin.{IsMoveWithin}
-use Rattle.sm_moves.specs.Rests.{codes_in}
-use Rattle.sm_moves.specs.ProgramMoves.{move_in}
+use Rattle.sm_product.proofs.Imports.{◌≡◌, ◌≤◌, map, Copy, Parts, Sorts, IsWellSorted, set_of, move_of, IsMoveWithin, codes_in, move_in, side_by_side, statements_left, IsFilled, moves_before}
 use Rattle.sm_sketch.specs.Sketches.{Sketch}
-use Rattle.sm_product.specs.MiniProducts.{side_by_side, statements_left}
-use Rattle.sm_product.specs.Paths.{IsFilled, moves_before}
 use Rattle.sm_product.proofs.paths.follow.Given as goal
 
 abbrev pub invariant-loop-moves : goal.invariant-loop-moves

@@ -1,12 +1,5 @@
 -- The last of the moves that are left is drawn first.
-use Rattle.std.proofs.Common.{List, map, sym, ap, ◌∙◌, subst}
-use Rattle.sm_syntax.specs.text.Sorts.{Sorts}
-use Rattle.sm_term.specs.Terms.{Tree}
-use Rattle.sm_moves.specs.ProgramMoves.{move_in}
-use Rattle.sm_sketch.specs.Errors.{TellsSketch}
-use Rattle.sm_sketch.specs.declared.error.ProductError.{ProductError}
-use Rattle.sm_sketch.specs.SketchViews.{sketch_in, IsSketchReady}
-use Rattle.sm_product.specs.Paths.{move_before, moves_before}
+use Rattle.sm_product.proofs.Imports.{List, map, sym, ap, ◌∙◌, subst, Sorts, Tree, move_in, TellsSketch, ProductError, sketch_in, IsSketchReady, move_before, moves_before}
 use Rattle.sm_product.proofs.RoomLemmas.{err_is}
 use Rattle.sm_product.proofs.StraightLemmas.{popped_before, moves_told}
 use Rattle.sm_product.proofs.paths.put_all_before.Goals as goal

@@ -1,10 +1,5 @@
 -- What is drawn so far, behind the moves that are left.
-use Rattle.std.proofs.Common.{◌≡◌, List, map, vec_len}
-use Rattle.sm_syntax.specs.text.Sorts.{Sorts}
-use Rattle.sm_term.specs.Terms.{Tree}
-use Rattle.sm_moves.specs.ProgramMoves.{move_in}
-use Rattle.sm_sketch.specs.SketchViews.{sketch_in, IsSketchReady}
-use Rattle.sm_product.specs.Paths.{moves_before}
+use Rattle.sm_product.proofs.Imports.{◌≡◌, List, map, vec_len, Sorts, Tree, move_in, sketch_in, IsSketchReady, moves_before}
 use Rattle.sm_product.proofs.paths.put_all_before.Given as goal
 
 abbrev pub invariant-loop-m : goal.invariant-loop-m

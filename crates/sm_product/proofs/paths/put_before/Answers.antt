@@ -1,11 +1,7 @@
 -- Summaries of each copy of a set.
-use Rattle.std.proofs.Common.{◌≡◌, List, IfOk, sym, subst}
-use Rattle.sm_syntax.specs.text.Sorts.{Sorts}
-use Rattle.sm_term.specs.Terms.{Tree}
+use Rattle.sm_product.proofs.Imports.{◌≡◌, List, sym, subst, Sorts, Tree, move_in, sketch_in, move_before}
+use Rattle.std.proofs.Common.{IfOk}
 use Rattle.sm_moves.specs.declared.moves.Move.{Move}
-use Rattle.sm_moves.specs.ProgramMoves.{move_in}
-use Rattle.sm_sketch.specs.SketchViews.{sketch_in}
-use Rattle.sm_product.specs.Paths.{move_before}
 use Rattle.sm_product.proofs.paths.put_before.Goals as goal
 
 pub returns-in-Summaries-clause-drawn : goal.returns-in-Summaries-clause-drawn

@@ -1,17 +1,6 @@
 -- What is left of the copies of a set is their pieces.
-use Rattle.std.proofs.Common.{◌≡◌, IfOk, subst}
-use Rattle.sm_syntax.specs.claim.ConflictFree.{Copy}
-use Rattle.sm_syntax.specs.claim.Syntax.{Code}
-use Rattle.sm_syntax.specs.text.Parts.{Parts}
-use Rattle.sm_syntax.specs.trees.Copies.{of_copy}
-use Rattle.sm_term.specs.Tables.{trees_in, sorts_in}
-use Rattle.sm_plan.specs.Masks.{set_of}
-use Rattle.sm_plan.specs.declared.state.Formulas.{Formulas}
-use Rattle.sm_plan.specs.Views.{rest_code, forms_in}
-use Rattle.sm_moves.specs.CopySets.{only_in}
-use Rattle.sm_moves.specs.FilledCode.{piece_of}
-use Rattle.sm_template.specs.Sites.{IsSiteOf}
-use Rattle.sm_template.specs.Templates.{block_templates}
+use Rattle.sm_product.proofs.Imports.{◌≡◌, subst, Copy, Code, Parts, of_copy, trees_in, sorts_in, set_of, Formulas, rest_code, forms_in, only_in, piece_of, IsSiteOf, block_templates}
+use Rattle.std.proofs.Common.{IfOk}
 use Rattle.sm_product.proofs.BlocksDrawn.{only_these}
 use Rattle.sm_product.proofs.pieces.templates_of_ifs.Goals as goal
 

@@ -1,17 +1,6 @@
 -- What is left of all copies is their pieces.
-use Rattle.std.proofs.Common.{◌≡◌, IfOk, sym, subst}
-use Rattle.sm_syntax.specs.claim.ConflictFree.{Copy}
-use Rattle.sm_syntax.specs.claim.Syntax.{Code}
-use Rattle.sm_syntax.specs.text.Parts.{Parts}
-use Rattle.sm_syntax.specs.text.Sorts.{IsWellSorted}
-use Rattle.sm_syntax.specs.trees.Copies.{of_copy}
-use Rattle.sm_term.specs.Tables.{trees_in, sorts_in}
-use Rattle.sm_plan.specs.Masks.{set_of}
-use Rattle.sm_plan.specs.declared.state.Formulas.{Formulas}
-use Rattle.sm_plan.specs.Views.{rest_code, forms_in}
-use Rattle.sm_moves.specs.FilledCode.{piece_of}
-use Rattle.sm_template.specs.Sites.{IsSiteOf}
-use Rattle.sm_template.specs.Templates.{loop_templates}
+use Rattle.sm_product.proofs.Imports.{◌≡◌, sym, subst, Copy, Code, Parts, IsWellSorted, of_copy, trees_in, sorts_in, set_of, Formulas, rest_code, forms_in, piece_of, IsSiteOf, loop_templates}
+use Rattle.std.proofs.Common.{IfOk}
 use Rattle.sm_product.proofs.BlocksDrawn.{all_these}
 use Rattle.sm_product.proofs.pieces.templates_of_loops.Goals as goal
 

@@ -1,10 +1,6 @@
 -- Those of one of the sites that are listed.
-use Rattle.std.proofs.Common.{ap, ◌∙◌, rules}
-use Rattle.sm_term.specs.Tables.{trees_in, sorts_in}
-use Rattle.sm_text.specs.Tasks.{parts_of}
-use Rattle.sm_sketch.specs.Sketches.{sites_of}
+use Rattle.sm_product.proofs.Imports.{ap, ◌∙◌, rules, trees_in, sorts_in, parts_of, sites_of, sketch_of}
 use Rattle.sm_sketch.proofs.SitesListed.{site_inside, one_ready}
-use Rattle.sm_product.specs.Products.{sketch_of}
 use Rattle.sm_product.proofs.LargeTasks.{err_tells_task}
 use Rattle.sm_product.proofs.product_plans.found_templates.Goals as goal
 

@@ -1,14 +1,6 @@
 -- The plan of the task's sketch, where that of all templates is small.
-use Rattle.std.proofs.Common.{ap, ◌∙◌, rules}
-use Rattle.sm_term.specs.Tables.{trees_in, sorts_in}
-use Rattle.sm_text.specs.Tasks.{parts_of}
-use Rattle.sm_plan.proofs.TablesWiden.{widens_twice}
-use Rattle.sm_sketch.specs.Choices.{kept_by}
+use Rattle.sm_product.proofs.Imports.{ap, ◌∙◌, rules, trees_in, sorts_in, parts_of, widens_twice, kept_by, plan_with, sketch_stays, sketch_ready, ProductError, TellsTask}
 use Rattle.sm_sketch.specs.ChoiceViews.{choice_in}
-use Rattle.sm_sketch.specs.Sketches.{plan_with}
-use Rattle.sm_sketch.proofs.SketchesWiden.{sketch_stays, sketch_ready}
-use Rattle.sm_sketch.specs.declared.error.ProductError.{ProductError}
-use Rattle.sm_product.specs.Errors.{TellsTask}
 use Rattle.sm_product.proofs.DrawnLemmas.{err_is}
 use Rattle.sm_product.proofs.LargeTasks.{err_tells_task}
 use Rattle.sm_product.proofs.product_plans.made_plan.Goals as goal

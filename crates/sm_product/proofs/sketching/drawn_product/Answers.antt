@@ -1,11 +1,5 @@
 -- The product of all copies, over the shared code, before the end.
-use Rattle.std.proofs.Common.{refl, ap}
-use Rattle.sm_syntax.specs.claim.ConflictFree.{Copy}
-use Rattle.sm_term.specs.Tables.{trees_in, sorts_in}
-use Rattle.sm_text.specs.Tasks.{parts_of}
-use Rattle.sm_plan.specs.Masks.{set_of}
-use Rattle.sm_sketch.specs.SketchViews.{sketch_in}
-use Rattle.sm_product.specs.Products.{product, sketch_of}
+use Rattle.sm_product.proofs.Imports.{refl, ap, Copy, trees_in, sorts_in, parts_of, set_of, sketch_in, product, sketch_of}
 use Rattle.sm_product.proofs.DrawnLemmas.{drawn_same}
 use Rattle.sm_product.proofs.sketching.drawn_product.Goals as goal
 

@@ -1,13 +1,8 @@
 -- The product of all copies, where it isn't too large.
-use Rattle.std.proofs.Common.{◌≡◌, ◌<◌, ◌≤◌, ℕ, inl, inr, ap, ◌∙◌, subst}
-use Rattle.sm_text.specs.Tasks.{parts_of}
+use Rattle.sm_product.proofs.Imports.{◌≡◌, ◌<◌, ◌≤◌, ℕ, inl, inr, ap, ◌∙◌, subst, parts_of, TellsSketch, ProductError, sketch_size, sketch_depth, sketch_of}
 use Rattle.sm_sketch.specs.declared.error.ProductError.TheVariants as error
 use Rattle.sm_sketch.specs.Sketches as plain
-use Rattle.sm_sketch.specs.Errors.{TellsSketch}
-use Rattle.sm_sketch.specs.declared.error.ProductError.{ProductError}
 use Rattle.sm_sketch.specs.Extents.{TellsExtent}
-use Rattle.sm_sketch.specs.SketchSizes.{sketch_size, sketch_depth}
-use Rattle.sm_product.specs.Products.{sketch_of}
 use Rattle.sm_product.proofs.DrawnLemmas.{err_is}
 use Rattle.sm_product.proofs.sketching.drawn_sketch.Goals as goal
 

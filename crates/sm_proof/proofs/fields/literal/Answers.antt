@@ -1,6 +1,5 @@
-use Rattle.std.proofs.Common.{◌∙◌, Some, None, Ok, ap, sym, rules}
-use Rattle.sm_proof.specs.Behind.{behind}
-use Rattle.sm_proof.specs.Lines.{Term, Lit}
+use Rattle.sm_proof.proofs.Imports.{◌∙◌, Some, None, Ok, ap, sym, rules, behind, Term}
+use Rattle.sm_proof.specs.Lines.{Lit}
 use Rattle.sm_proof.proofs.TakingLemmas.{line_fault, literal_other, literal_read, same_literal, some_behind, told_fault}
 use Rattle.sm_proof.proofs.WordLemmas.{behind_from}
 use Rattle.sm_proof.proofs.fields.literal.Goals as goal

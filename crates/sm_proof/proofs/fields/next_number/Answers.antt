@@ -1,6 +1,5 @@
-use Rattle.std.proofs.Common.{Some, None, rules}
+use Rattle.sm_proof.proofs.Imports.{Some, None, rules, behind}
 use Rattle.sm_proof.proofs.TakingLemmas.{next_word, next_small}
-use Rattle.sm_proof.specs.Behind.{behind}
 use Rattle.sm_proof.proofs.fields.next_number.Goals as goal
 
 pub returns-in-Some-clause-small : goal.returns-in-Some-clause-small

@@ -1,6 +1,4 @@
-use Rattle.std.proofs.Common.{◌≡◌, ◌∷◌, [], ◌∙◌, Err, rules}
-use Rattle.sm_proof.specs.Behind.{behind, fault_word}
-use Rattle.sm_proof.specs.Fields.{any, taking}
+use Rattle.sm_proof.proofs.Imports.{◌≡◌, ◌∷◌, [], ◌∙◌, Err, rules, behind, fault_word, any, taking}
 use Rattle.sm_proof.proofs.TakingLemmas.{filled_next, filled_none, line_fault, taking_full, taking_other, told_fault}
 use Rattle.sm_proof.proofs.fields.one_number.Goals as goal
 

@@ -1,6 +1,4 @@
-use Rattle.std.proofs.Common.{◌≡◌, ◌∷◌, [], ◌∙◌, Err, Some, subst, rules}
-use Rattle.sm_proof.specs.Behind.{behind, fault_word, IsNextWord, IsNoNumber}
-use Rattle.sm_proof.specs.Fields.{taking}
+use Rattle.sm_proof.proofs.Imports.{◌≡◌, ◌∷◌, [], ◌∙◌, Err, Some, subst, rules, behind, fault_word, IsNextWord, IsNoNumber, taking}
 use Rattle.sm_proof.proofs.TakingLemmas.{filled_next, filled_none, line_fault, taking_full, taking_other, told_fault}
 use Rattle.sm_proof.proofs.fields.small_number.Goals as goal
 

@@ -1,7 +1,4 @@
-use Rattle.std.proofs.Common.{◌≡◌, ◌≢◌, ◌∙◌, rules}
-use Rattle.std.specs.Prelude.{codes}
-use Rattle.sm_proof.specs.Behind.{behind}
-use Rattle.sm_proof.specs.Lines.{Header}
+use Rattle.sm_proof.proofs.Imports.{◌≡◌, ◌≢◌, ◌∙◌, rules, codes, behind, Header}
 use Rattle.sm_proof.proofs.TakingLemmas.{line_fault, some_behind, told_fault, version_known, version_other, version_read, version_unknown}
 use Rattle.sm_proof.proofs.WordLemmas.{behind_from}
 use Rattle.sm_proof.proofs.fields.version.Goals as goal

@@ -1,6 +1,4 @@
-use Rattle.std.proofs.Common.{◌≡◌, ◌≢◌, ◌∙◌, Some, None, rules}
-use Rattle.sm_proof.specs.HeadWords.{form_word, form_kind_of}
-use Rattle.sm_proof.specs.Likely.{likely_form}
+use Rattle.sm_proof.proofs.Imports.{◌≡◌, ◌≢◌, ◌∙◌, Some, None, rules, form_word, form_kind_of, likely_form}
 use Rattle.sm_proof.proofs.KindLemmas.{form_kind_is, form_kind_found}
 use Rattle.sm_proof.proofs.LikelyLemmas.{none_likely, likely_is, other_likely, form_likely}
 use Rattle.sm_proof.proofs.find.form_kind_of.Goals as goal

@@ -1,6 +1,4 @@
-use Rattle.std.proofs.Common.{◌≡◌, ◌≢◌, ◌∙◌, Some, None, rules}
-use Rattle.sm_proof.specs.HeadWords.{head_word, head_of}
-use Rattle.sm_proof.specs.Likely.{likely_head}
+use Rattle.sm_proof.proofs.Imports.{◌≡◌, ◌≢◌, ◌∙◌, Some, None, rules, head_word, head_of, likely_head}
 use Rattle.sm_proof.proofs.KindLemmas.{head_is, head_found}
 use Rattle.sm_proof.proofs.LikelyLemmas.{none_likely, likely_is, other_likely, head_likely}
 use Rattle.sm_proof.proofs.find.head_of.Goals as goal

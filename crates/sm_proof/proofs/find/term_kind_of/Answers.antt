@@ -1,6 +1,4 @@
-use Rattle.std.proofs.Common.{◌≡◌, ◌≢◌, ◌∙◌, Some, None, rules}
-use Rattle.sm_proof.specs.HeadWords.{term_word, term_kind_of}
-use Rattle.sm_proof.specs.Likely.{likely_term}
+use Rattle.sm_proof.proofs.Imports.{◌≡◌, ◌≢◌, ◌∙◌, Some, None, rules, term_word, term_kind_of, likely_term}
 use Rattle.sm_proof.proofs.KindLemmas.{term_kind_is, term_kind_found}
 use Rattle.sm_proof.proofs.LikelyLemmas.{none_likely, likely_is, other_likely, term_likely}
 use Rattle.sm_proof.proofs.find.term_kind_of.Goals as goal

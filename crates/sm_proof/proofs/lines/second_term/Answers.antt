@@ -1,7 +1,4 @@
-use Rattle.std.proofs.Common.{◌<◌, ◌∙◌, Some, None, length, rules}
-use Rattle.sm_proof.specs.Behind.{behind}
-use Rattle.sm_proof.specs.HeadWords.{term_kind_of}
-use Rattle.sm_proof.specs.Reading.{read_term}
+use Rattle.sm_proof.proofs.Imports.{◌<◌, ◌∙◌, Some, None, length, rules, behind, term_kind_of, read_term}
 use Rattle.sm_proof.proofs.TakingLemmas.{no_word, second_none, second_word}
 use Rattle.sm_proof.proofs.WordLemmas.{behind_from}
 use Rattle.sm_proof.proofs.lines.second_term.Goals as goal

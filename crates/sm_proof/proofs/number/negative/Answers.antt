@@ -1,7 +1,6 @@
-use Rattle.std.proofs.Common.{◌≡◌, ◌≢◌, ◌<◌, ◌^◌, ◌-◌, ℕ, suc, Some, None, ap, sym, arith, rules, ◌∙◌}
+use Rattle.sm_proof.proofs.Imports.{◌≡◌, ◌≢◌, ◌<◌, ◌^◌, ◌-◌, ℕ, suc, Some, None, ap, sym, arith, rules, ◌∙◌, number_in}
 use Rattle.sm_proof.proofs.MagnitudeLemmas.{negative_some, negative_none, below_zero}
 use Rattle.sm_proof.proofs.NumberLemmas.{number_back}
-use Rattle.sm_proof.specs.Numbers.{number_in}
 use Rattle.sm_proof.proofs.number.negative.Goals as goal
 
 low : (n : ℕ) (word : _) → Some n ≡ number_in (2 ^ 127) word → n ≢ 0 → n - 1 < 2 ^ 127

@@ -1,6 +1,5 @@
-use Rattle.std.proofs.Common.{◌≡◌, ◌<◌, ◌^◌, Some, None, ap, arith, rules, ◌∙◌}
+use Rattle.sm_proof.proofs.Imports.{◌≡◌, ◌<◌, ◌^◌, Some, None, ap, arith, rules, ◌∙◌, number_in}
 use Rattle.sm_proof.proofs.MagnitudeLemmas.{positive_some, positive_none, to_z_small}
-use Rattle.sm_proof.specs.Numbers.{number_in}
 use Rattle.sm_proof.proofs.number.positive.Goals as goal
 
 pub returns-in_err-n : goal.returns-in_err-n

@@ -1,6 +1,4 @@
-use Rattle.std.proofs.Common.{◌≡◌, ◌+◌, ◌*◌, take, subst, arith, rules}
-use Rattle.std.specs.Str.Parse.{AllDigits, digits_value}
-use Rattle.std.proofs.lemmas.List.{take_all}
+use Rattle.sm_proof.proofs.Imports.{◌≡◌, ◌+◌, ◌*◌, take, subst, arith, rules, AllDigits, digits_value, take_all}
 use Rattle.sm_proof.proofs.MagnitudeLemmas.{other_is_none, wide_is_none, next_value, next_digits, value_spelled}
 use Rattle.sm_proof.proofs.number.value_of.Goals as goal
 

@@ -1,5 +1,4 @@
-use Rattle.std.proofs.Common.{◌≡◌, ◌≤◌, ◌^◌, take}
-use Rattle.std.specs.Str.Parse.{AllDigits, digits_value}
+use Rattle.sm_proof.proofs.Imports.{◌≡◌, ◌≤◌, ◌^◌, take, AllDigits, digits_value}
 use Rattle.sm_proof.proofs.number.value_of.Given as goal
 
 -- the bytes so far are digits, and the number that they write

@@ -1,6 +1,4 @@
-use Rattle.std.proofs.Common.{◌≡◌, ◌≢◌, true, false, rules}
-use Rattle.std.specs.Prelude.{codes}
-use Rattle.sm_proof.specs.Behind.{behind}
+use Rattle.sm_proof.proofs.Imports.{◌≡◌, ◌≢◌, true, false, rules, codes, behind}
 use Rattle.sm_proof.proofs.ReadLemmas.{begins_is}
 use Rattle.sm_proof.proofs.read.begins_exact.Goals as goal
 

@@ -1,9 +1,4 @@
-use Rattle.std.proofs.Common.{◌≡◌, ◌≤◌, Some, None, length, arith, rules}
-use Rattle.sm_proof.specs.Behind.{behind}
-use Rattle.sm_proof.specs.Fields.{any}
-use Rattle.sm_proof.specs.Lines.{line_of}
-use Rattle.sm_proof.specs.Numbers.{numbers_in}
-use Rattle.sm_proof.specs.Reading.{read_cong}
+use Rattle.sm_proof.proofs.Imports.{◌≡◌, ◌≤◌, Some, None, length, arith, rules, behind, any, line_of, numbers_in, read_cong}
 use Rattle.sm_proof.proofs.ReadLemmas.{cong_all, cong_facts_err, cong_none, cong_second, cong_short, fault_answer}
 use Rattle.sm_proof.proofs.read.cong_line.Goals as goal
 

@@ -1,7 +1,4 @@
-use Rattle.std.proofs.Common.{◌≡◌, ◌∷◌, ◌++◌, ◌<◌, ◌∙◌, [], ℕ, List, length, option_map, ap, sym, rules}
-use Rattle.sm_proof.specs.Behind.{behind}
-use Rattle.sm_proof.specs.Fields.{any}
-use Rattle.sm_proof.specs.Numbers.{numbers_in}
+use Rattle.sm_proof.proofs.Imports.{◌≡◌, ◌∷◌, ◌++◌, ◌<◌, ◌∙◌, [], ℕ, List, length, option_map, ap, sym, rules, behind, any, numbers_in}
 use Rattle.sm_proof.proofs.ReadLemmas.{all_read, bad_fact, empty_front, fact_fault, next_fact}
 use Rattle.sm_proof.proofs.read.fact_numbers.Goals as goal
 

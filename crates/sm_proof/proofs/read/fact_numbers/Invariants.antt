@@ -1,7 +1,4 @@
-use Rattle.std.proofs.Common.{◌≡◌, ℕ, List, ◌++◌, length, option_map}
-use Rattle.sm_proof.specs.Behind.{behind}
-use Rattle.sm_proof.specs.Fields.{any}
-use Rattle.sm_proof.specs.Numbers.{numbers_in}
+use Rattle.sm_proof.proofs.Imports.{◌≡◌, ℕ, List, ◌++◌, length, option_map, behind, any, numbers_in}
 use Rattle.sm_proof.proofs.read.fact_numbers.Given as goal
 
 -- the numbers so far stand before those of the words that are left

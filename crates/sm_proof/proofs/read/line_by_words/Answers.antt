@@ -1,9 +1,4 @@
-use Rattle.std.proofs.Common.{◌≡◌, ◌≢◌, ◌∙◌, Some, None, Err, rules}
-use Rattle.sm_proof.specs.Behind.{behind, fault_word}
-use Rattle.sm_proof.specs.HeadWords.{version_word}
-use Rattle.sm_proof.specs.Lines.{line_of}
-use Rattle.sm_proof.specs.Numbers.{words_of}
-use Rattle.sm_proof.specs.Reading.{read_version}
+use Rattle.sm_proof.proofs.Imports.{◌≡◌, ◌≢◌, ◌∙◌, Some, None, Err, rules, behind, fault_word, version_word, line_of, words_of, read_version}
 use Rattle.sm_proof.proofs.ReadLemmas.{fault_answer, same_answer, words_headed, words_version}
 use Rattle.sm_proof.proofs.read.line_by_words.Goals as goal
 

@@ -1,5 +1,4 @@
-use Rattle.std.proofs.Common.{◌≤◌, length, arith}
-use Rattle.sm_proof.specs.Lines.{line_of}
+use Rattle.sm_proof.proofs.Imports.{◌≤◌, length, arith, line_of}
 use Rattle.sm_proof.proofs.ReadLemmas.{answer_bad_line, answer_bad_number, answer_ended, answer_ok, answer_within, long_line, same_answer, short_line}
 use Rattle.sm_proof.proofs.read.line_from.Goals as goal
 

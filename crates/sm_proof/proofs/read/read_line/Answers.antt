@@ -1,5 +1,4 @@
-use Rattle.std.proofs.Common.{◌≤◌, ℕ, not, ◌==◌, length, take, refl, arith, rules}
-use Rattle.std.proofs.lemmas.List.Sums.{prefix_len-le-length}
+use Rattle.sm_proof.proofs.Imports.{◌≤◌, ℕ, not, ◌==◌, length, take, refl, arith, rules, prefix_len-le-length}
 use Rattle.sm_proof.proofs.ReadLemmas.{first_length, first_none, first_read, first_some}
 use Rattle.sm_proof.proofs.read.read_line.Goals as goal
 

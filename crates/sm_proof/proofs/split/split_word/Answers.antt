@@ -1,6 +1,4 @@
-use Rattle.std.proofs.Common.{ℕ, not, ◌==◌, ◌∷◌, ◌∙◌, sym, arith}
-use Rattle.std.proofs.lemmas.List.Sums.{prefix_len-le-length}
-use Rattle.sm_proof.specs.Behind.{behind}
+use Rattle.sm_proof.proofs.Imports.{ℕ, not, ◌==◌, ◌∷◌, ◌∙◌, sym, arith, prefix_len-le-length, behind}
 use Rattle.sm_proof.proofs.WordLemmas.{split_at}
 use Rattle.sm_proof.proofs.split.split_word.Goals as goal
 

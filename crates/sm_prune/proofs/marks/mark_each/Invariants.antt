@@ -1,7 +1,5 @@
 -- The numbers so far are marked.
-use Rattle.std.proofs.Common.{nat_eq, take}
-use Rattle.std.specs.List.{list_any}
-use Rattle.sm_prune.specs.Marks.{MarksMore}
+use Rattle.sm_prune.proofs.Imports.{nat_eq, take, list_any, MarksMore}
 use Rattle.sm_prune.proofs.marks.mark_each.Given as goal
 
 abbrev pub invariant-loop-number : goal.invariant-loop-number

@@ -1,9 +1,4 @@
-use Rattle.std.proofs.Common.{◌≡◌, ◌∙◌, [], map, reverse, sym}
-use Rattle.std.proofs.lemmas.List.{nil_from_length}
-use Rattle.sm_proof.specs.Lines.{line_of}
-use Rattle.sm_prune.specs.LeftLines.{left_lines, no_numbers}
-use Rattle.sm_prune.specs.Marks.{answers_of, lines_told}
-use Rattle.sm_prune.specs.Numbers.{numbering_of}
+use Rattle.sm_prune.proofs.Imports.{◌≡◌, ◌∙◌, [], map, reverse, sym, nil_from_length, line_of, left_lines, no_numbers, answers_of, lines_told, numbering_of}
 use Rattle.sm_prune.proofs.ToldLemmas.{put_more, all_put}
 use Rattle.sm_prune.proofs.prune.numbered.Goals as goal
 

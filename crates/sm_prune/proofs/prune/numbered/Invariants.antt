@@ -1,9 +1,5 @@
 -- The lines so far are put down, and the others are left to be.
-use Rattle.std.proofs.Common.{◌≡◌, ◌++◌, length, map, reverse}
-use Rattle.sm_proof.specs.Lines.{line_of}
-use Rattle.sm_prune.specs.LeftLines.{left_lines, no_numbers}
-use Rattle.sm_prune.specs.Marks.{answers_of, lines_told}
-use Rattle.sm_prune.specs.Numbers.{numbering_of}
+use Rattle.sm_prune.proofs.Imports.{◌≡◌, ◌++◌, length, map, reverse, line_of, left_lines, no_numbers, answers_of, lines_told, numbering_of}
 use Rattle.sm_prune.proofs.prune.numbered.Given as goal
 
 abbrev pub invariant-loop-next : goal.invariant-loop-next

@@ -1,14 +1,6 @@
 -- The lines that are left lead where all lines lead, and each that makes something is named.
-use Rattle.std.proofs.Common.{◌≡◌, refl, List, map, reverse, subst, sym, ap, ◌∙◌, IfOk}
-use Rattle.std.specs.List.{list_any}
+use Rattle.sm_prune.proofs.Imports.{◌≡◌, refl, List, map, reverse, subst, sym, ap, ◌∙◌, IfOk, list_any, ProofLine, line_of, is_exact, LeadAlike, left_lines, no_numbers, answers_of, lines_told, AreReadable, AreNamed}
 use Rattle.std.proofs.lemmas.Result.{IfOk-weaker}
-use Rattle.sm_proof.specs.Lines.{ProofLine, line_of}
-use Rattle.sm_proof.specs.Versions.{is_exact}
-use Rattle.sm_prune.specs.Laws.{LeadAlike}
-use Rattle.sm_prune.specs.LeftLines.{left_lines, no_numbers}
-use Rattle.sm_prune.specs.Marks.{answers_of, lines_told}
-use Rattle.sm_prune.specs.Texts.{AreReadable}
-use Rattle.sm_prune.specs.UsedLines.{AreNamed}
 use Rattle.sm_prune.proofs.LeftNamed.{left_named, left_exact}
 use Rattle.sm_prune.proofs.PruneLemmas.{left_alike, left_read}
 use Rattle.sm_prune.proofs.prune.pruned.Goals as goal

@@ -1,10 +1,5 @@
 -- The last mark is that of what the line makes.
-use Rattle.std.proofs.Common.{◌≡◌, ℕ, Bool, List, sym, subst}
-use Rattle.sm_proof.specs.Lines.{ProofLine, line_of}
-use Rattle.sm_proof.specs.declared.line.Line.{Line}
-use Rattle.sm_prune.specs.LeftLines.{forms_after, is_left, left_passes, terms_after}
-use Rattle.sm_prune.specs.LineNumbers.{names_form, names_term}
-use Rattle.sm_prune.specs.Marks.{AreMarked}
+use Rattle.sm_prune.proofs.Imports.{◌≡◌, ℕ, Bool, List, sym, subst, ProofLine, line_of, Line, forms_after, is_left, left_passes, terms_after, names_form, names_term, AreMarked}
 use Rattle.sm_prune.proofs.told.is_left.Goals as goal
 
 pub returns-in-Term : goal.returns-in-Term

@@ -1,6 +1,4 @@
-use Rattle.std.proofs.Common.{map, take}
-use Rattle.sm_proof.specs.Lines.{line_of}
-use Rattle.sm_prune.specs.Marks.{terms_past, forms_past}
+use Rattle.sm_prune.proofs.Imports.{map, take, line_of, terms_past, forms_past}
 use Rattle.sm_prune.proofs.ToldLemmas.{terms_so_far, forms_so_far}
 use Rattle.sm_prune.proofs.told.no_marks.Goals as goal
 

@@ -1,7 +1,5 @@
 -- There are marks for what the lines so far make.
-use Rattle.std.proofs.Common.{false, take, map}
-use Rattle.sm_proof.specs.Lines.{line_of}
-use Rattle.sm_prune.specs.Marks.{AreMarks, terms_past, forms_past}
+use Rattle.sm_prune.proofs.Imports.{false, take, map, line_of, AreMarks, terms_past, forms_past}
 use Rattle.sm_prune.proofs.told.no_marks.Given as goal
 
 abbrev pub invariant-loop-line : goal.invariant-loop-line

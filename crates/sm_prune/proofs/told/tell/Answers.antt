@@ -1,7 +1,4 @@
-use Rattle.std.proofs.Common.{◌≡◌, sym, ◌∙◌}
-use Rattle.sm_proof.specs.Lines.{line_of}
-use Rattle.sm_prune.specs.LeftLines.{left_passes}
-use Rattle.sm_prune.specs.LineNumbers.{names_term, names_form}
+use Rattle.sm_prune.proofs.Imports.{◌≡◌, sym, ◌∙◌, line_of, left_passes, names_term, names_form}
 use Rattle.sm_prune.proofs.ToldLemmas.{marks_named}
 use Rattle.sm_prune.proofs.told.tell.Goals as goal
 

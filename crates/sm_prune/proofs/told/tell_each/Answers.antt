@@ -1,9 +1,4 @@
-use Rattle.std.proofs.Common.{◌≡◌, ◌∙◌, ℕ, List, [], map, sym, subst, false}
-use Rattle.std.proofs.lemmas.List.{nil_from_length}
-use Rattle.sm_proof.specs.Lines.{line_of}
-use Rattle.sm_proof.specs.declared.line.Line.{Line}
-use Rattle.sm_prune.specs.declared.told.Told.{Told}
-use Rattle.sm_prune.specs.Marks.{AreMarks, IsTelling, terms_past, forms_past}
+use Rattle.sm_prune.proofs.Imports.{◌≡◌, ◌∙◌, ℕ, List, [], map, sym, subst, false, nil_from_length, line_of, Line, Told, AreMarks, IsTelling, terms_past, forms_past}
 use Rattle.sm_prune.proofs.ToldLemmas.{all_told, none_told, told_more}
 use Rattle.sm_prune.proofs.told.tell_each.Goals as goal
 

@@ -1,6 +1,5 @@
 -- Of the lines so far it is told whether they are left.
-use Rattle.std.proofs.Common.{length}
-use Rattle.sm_prune.specs.Marks.{IsTelling}
+use Rattle.sm_prune.proofs.Imports.{length, IsTelling}
 use Rattle.sm_prune.proofs.told.tell_each.Given as goal
 
 abbrev pub invariant-loop-line : goal.invariant-loop-line

@@ -1,10 +1,6 @@
 -- Keeps holds at a name that isn't declared.
-use Rattle.std.proofs.Common.{◌≡◌, Option, ap, subst, ◌∙◌}
+use Rattle.sm_replay.proofs.Imports.{◌≡◌, Option, ap, subst, ◌∙◌, Sort, Num, Cell, variable, HaveSort}
 use Rattle.std.specs.Option.{unwrap_or}
-use Rattle.sm_syntax.specs.declared.tree.Sort.{Sort}
-use Rattle.sm_syntax.specs.declared.tree.Sort.TheVariants.{Num}
-use Rattle.sm_syntax.specs.claim.Keeps.{Cell, variable}
-use Rattle.sm_replay.specs.Runs.{HaveSort}
 use Rattle.sm_replay.proofs.FirstBreakSound.{undeclared_kept}
 use Rattle.sm_replay.proofs.first_break.break_at.Goals as goal
 

@@ -1,11 +1,5 @@
 -- The index that was passed on is the index.
-use Rattle.std.proofs.Common.{◌⊎◌, ℤ, to_z, of_z, sym, subst}
-use Rattle.std.proofs.lemmas.Int.{to_z-of_z}
-use Rattle.std.specs.Int.{w128}
-use Rattle.std.specs.Prelude.{◌≤ℤ◌}
-use Rattle.sm_syntax.specs.claim.Keeps.{Element}
-use Rattle.sm_replay.specs.Runs.{end_in}
-use Rattle.sm_replay.specs.Violations.{KeepsAt}
+use Rattle.sm_replay.proofs.Imports.{◌⊎◌, ℤ, to_z, of_z, sym, subst, to_z-of_z, w128, ◌≤ℤ◌, Element, end_in, KeepsAt}
 use Rattle.sm_replay.proofs.FirstBreakSound.{breaks_element}
 use Rattle.sm_replay.proofs.first_break.break_at_index.Goals as goal
 

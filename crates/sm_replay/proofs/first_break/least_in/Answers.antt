@@ -1,7 +1,5 @@
 -- Cell by cell.
-use Rattle.std.proofs.Common.{ℤ}
-use Rattle.sm_replay.specs.Runs.{end_in}
-use Rattle.sm_replay.specs.FirstBreak.{IsUpTo}
+use Rattle.sm_replay.proofs.Imports.{ℤ, end_in, IsUpTo}
 use Rattle.sm_replay.proofs.FirstBreakLeast.{seen_more}
 use Rattle.sm_replay.proofs.first_break.least_in.Goals as goal
 

@@ -1,11 +1,5 @@
 -- The least index so far.
-use Rattle.std.proofs.Common.{◌⊎◌, ◌<◌, ℕ, ℤ}
-use Rattle.std.specs.Option.{IfSome}
-use Rattle.sm_syntax.specs.claim.Keeps.{Element}
-use Rattle.sm_eval.specs.Cells.{index_at}
-use Rattle.sm_replay.specs.Runs.{end_in}
-use Rattle.sm_replay.specs.FirstBreak.{IsUpTo}
-use Rattle.sm_replay.specs.Violations.{KeepsAt}
+use Rattle.sm_replay.proofs.Imports.{◌⊎◌, ◌<◌, ℕ, ℤ, IfSome, Element, index_at, end_in, IsUpTo, KeepsAt}
 use Rattle.sm_replay.proofs.first_break.least_in.Given as goal
 
 abbrev pub invariant-loop-p : goal.invariant-loop-p

@@ -1,6 +1,5 @@
 -- An index has 0, or a cell.
-use Rattle.sm_syntax.specs.trees.Copies.{copy_named}
-use Rattle.sm_replay.specs.Runs.{end_in}
+use Rattle.sm_replay.proofs.Imports.{copy_named, end_in}
 use Rattle.sm_replay.proofs.FirstBreakLeast.{known_by}
 use Rattle.sm_replay.proofs.first_break.least_of.Goals as goal
 

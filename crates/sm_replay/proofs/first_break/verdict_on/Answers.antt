@@ -1,13 +1,6 @@
 -- Output by output.
-use Rattle.std.proofs.Common.{◌≡◌, Option, sym, ap, subst, ◌∙◌, get_or, map}
+use Rattle.sm_replay.proofs.Imports.{◌≡◌, Option, sym, ap, subst, ◌∙◌, get_or, map, Name, Sort, Num, Cell, variable, sorts_of, end_in, sorted_by, NamesBreak}
 use Rattle.std.specs.Option.{unwrap_or}
-use Rattle.sm_syntax.specs.declared.tree.Name.{Name}
-use Rattle.sm_syntax.specs.declared.tree.Sort.{Sort}
-use Rattle.sm_syntax.specs.declared.tree.Sort.TheVariants.{Num}
-use Rattle.sm_syntax.specs.claim.Keeps.{Cell, variable}
-use Rattle.sm_eval.specs.StoredValues.{sorts_of}
-use Rattle.sm_replay.specs.Runs.{end_in}
-use Rattle.sm_replay.specs.FirstBreak.{sorted_by, NamesBreak}
 use Rattle.sm_replay.proofs.FirstBreakSound.{found_at}
 use Rattle.sm_replay.proofs.FirstBreakOutputs.{output_at, kept_more, outputs_kept}
 use Rattle.sm_replay.proofs.first_break.verdict_on.Goals as goal

@@ -1,6 +1,5 @@
 -- A name by its place.
-use Rattle.std.proofs.Common.{Some, sym, ◌∙◌}
-use Rattle.sm_eval.specs.StoredValues.{sorts_of}
+use Rattle.sm_replay.proofs.Imports.{Some, sym, ◌∙◌, sorts_of}
 use Rattle.sm_replay.proofs.MembersLemmas.{unnamed, named}
 use Rattle.sm_replay.proofs.input.declared_name.Goals as goal
 

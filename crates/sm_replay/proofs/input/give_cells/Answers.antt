@@ -1,11 +1,5 @@
 -- Cell by cell, in the order of the indices.
-use Rattle.std.proofs.Common.{◌≡◌, ℤ, Option, pos, get_or, to_z, of_z, refl, sym, ap, subst, ◌∙◌, rules}
-use Rattle.std.specs.Int.{w128}
-use Rattle.serde_json.specs.Data.{object}
-use Rattle.serde_json.specs.View.{members_view}
-use Rattle.sm_eval.specs.StoredValues.{meaning, with_cell}
-use Rattle.sm_replay.specs.Updates.{Lists}
-use Rattle.sm_replay.specs.Input.{elements}
+use Rattle.sm_replay.proofs.Imports.{◌≡◌, ℤ, Option, pos, get_or, to_z, of_z, refl, sym, ap, subst, ◌∙◌, rules, w128, object, members_view, meaning, with_cell, Lists, elements}
 use Rattle.sm_replay.proofs.UpdatesSound.{cell_turn, none_overridden, all_overridden}
 use Rattle.sm_replay.proofs.MembersLemmas.{lists_shuffled}
 use Rattle.sm_replay.proofs.input.give_cells.Goals as goal

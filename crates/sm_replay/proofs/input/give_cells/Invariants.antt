@@ -1,9 +1,5 @@
 -- Each index that is given has its number, or it is among those that are left.
-use Rattle.std.proofs.Common.{◌≡◌, drop}
-use Rattle.serde_json.specs.Data.{object}
-use Rattle.serde_json.specs.View.{members_view}
-use Rattle.sm_eval.specs.StoredValues.{meaning, sorts_of}
-use Rattle.sm_replay.specs.Input.{elements}
+use Rattle.sm_replay.proofs.Imports.{◌≡◌, drop, object, members_view, meaning, sorts_of, elements}
 use Rattle.sm_replay.proofs.UpdatesSound.{Overriding}
 use Rattle.sm_replay.proofs.input.give_cells.Given as goal
 

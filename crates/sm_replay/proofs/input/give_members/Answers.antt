@@ -1,12 +1,5 @@
 -- At the end each name has its value.
-use Rattle.std.proofs.Common.{◌≡◌, ℕ, Option, None, sym, ap, ◌∙◌}
-use Rattle.serde_json.specs.View.{view}
-use Rattle.sm_syntax.specs.declared.tree.Sort.{Sort}
-use Rattle.sm_syntax.specs.text.Parts.{sort_of}
-use Rattle.sm_syntax.specs.trees.Programs.{declared_of}
-use Rattle.sm_eval.specs.StoredValues.{meaning}
-use Rattle.sm_eval.specs.Zeros.{zero_of}
-use Rattle.sm_replay.specs.Input.{given, member_of, store_of}
+use Rattle.sm_replay.proofs.Imports.{◌≡◌, ℕ, Option, None, sym, ap, ◌∙◌, view, Sort, sort_of, declared_of, meaning, zero_of, given, member_of, store_of}
 use Rattle.sm_replay.proofs.UpdatesSound.{end_filled}
 use Rattle.sm_replay.proofs.input.give_members.Goals as goal
 

@@ -1,11 +1,5 @@
 -- A name has its value, or else 0 and is declared in what is left.
-use Rattle.std.proofs.Common.{◌≡◌, ℕ, drop}
-use Rattle.serde_json.specs.View.{view}
-use Rattle.sm_syntax.specs.text.Parts.{sort_of}
-use Rattle.sm_syntax.specs.trees.Programs.{declared_of}
-use Rattle.sm_eval.specs.StoredValues.{meaning, sorts_of}
-use Rattle.sm_eval.specs.Zeros.{zero_of}
-use Rattle.sm_replay.specs.Input.{store_of}
+use Rattle.sm_replay.proofs.Imports.{◌≡◌, ℕ, drop, view, sort_of, declared_of, meaning, sorts_of, zero_of, store_of}
 use Rattle.sm_replay.proofs.UpdatesSound.{Filling, numbered}
 use Rattle.sm_replay.proofs.input.give_members.Given as goal
 

@@ -1,14 +1,6 @@
 -- An array that gets its elements gets its value.
-use Rattle.std.proofs.Common.{Option, Some, option_map, Bor, sym, ap, subst, ◌∙◌}
-use Rattle.std.proofs.lemmas.Result.{on_ok_weaker}
-use Rattle.serde_json.specs.View.{view}
+use Rattle.sm_replay.proofs.Imports.{Option, Some, option_map, Bor, sym, ap, subst, ◌∙◌, on_ok_weaker, view, Sorts, Sort, meaning, zero_of, GivesValue, Overrides, elements, given}
 use Rattle.serde_json.specs.declared.value.Value.{Value}
-use Rattle.sm_syntax.specs.text.Sorts.{Sorts}
-use Rattle.sm_syntax.specs.declared.tree.Sort.{Sort}
-use Rattle.sm_eval.specs.StoredValues.{meaning}
-use Rattle.sm_eval.specs.Zeros.{zero_of}
-use Rattle.sm_replay.specs.Updates.{GivesValue, Overrides}
-use Rattle.sm_replay.specs.Input.{elements, given}
 use Rattle.sm_replay.proofs.UpdatesSound.{array_of, overrides_give}
 use Rattle.sm_replay.proofs.input.give_sorted.Goals as goal
 

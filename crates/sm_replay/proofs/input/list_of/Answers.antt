@@ -1,14 +1,7 @@
 -- Cell by cell.
-use Rattle.std.proofs.Common.{◌≡◌, ◌++◌, ℕ, List, ◌∷◌, string_bytes, sym, subst}
+use Rattle.sm_replay.proofs.Imports.{◌≡◌, ◌++◌, ℕ, List, ◌∷◌, string_bytes, sym, subst, IsStrictlySortedBy, keys_of, string_cmp, view, Entry, cell_given, number_of_text}
 use Rattle.std.proofs.lemmas.Map.Iter.{rest_more, rest_all}
-use Rattle.std.specs.List.Sorted.{IsStrictlySortedBy}
-use Rattle.std.specs.Map.{keys_of}
 use Rattle.std.specs.Map.Iter.{deref_pair}
-use Rattle.std.specs.String.{string_cmp}
-use Rattle.serde_json.specs.View.{view}
-use Rattle.serde_json.proofs.Views.{Entry}
-use Rattle.sm_replay.specs.Input.{cell_given}
-use Rattle.sm_replay.specs.Number.{number_of_text}
 use Rattle.sm_replay.proofs.MembersLemmas.{ListsBefore, list_turn, all_listed, rest_sorted}
 use Rattle.sm_replay.proofs.input.list_of.Goals as goal
 

@@ -1,7 +1,5 @@
 -- The list has what the cells before give.
-use Rattle.std.specs.List.Sorted.{IsStrictlySortedBy}
-use Rattle.std.specs.Map.{keys_of}
-use Rattle.std.specs.String.{string_cmp}
+use Rattle.sm_replay.proofs.Imports.{IsStrictlySortedBy, keys_of, string_cmp}
 use Rattle.sm_replay.proofs.MembersLemmas.{ListsBefore}
 use Rattle.sm_replay.proofs.input.list_of.Given as goal
 

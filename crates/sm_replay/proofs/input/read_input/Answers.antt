@@ -1,7 +1,5 @@
 -- The answer is that to the value.
-use Rattle.serde_json.specs.View.{view}
-use Rattle.sm_syntax.specs.text.Parts.{sort_of}
-use Rattle.sm_syntax.specs.trees.Programs.{declared_of}
+use Rattle.sm_replay.proofs.Imports.{view, sort_of, declared_of}
 use Rattle.sm_replay.proofs.InputFirstFault.{reads_value}
 use Rattle.sm_replay.proofs.input.read_input.Goals as goal
 

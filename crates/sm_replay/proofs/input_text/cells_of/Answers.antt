@@ -1,7 +1,5 @@
 -- Cell by cell.
-use Rattle.std.proofs.Common.{◌≡◌, ℤ, pos, get_or, to_z, of_z, ap, ◌∙◌, rules}
-use Rattle.std.specs.Int.{w128}
-use Rattle.serde_json.specs.View.{members_view}
+use Rattle.sm_replay.proofs.Imports.{◌≡◌, ℤ, pos, get_or, to_z, of_z, ap, ◌∙◌, rules, w128, members_view}
 use Rattle.sm_replay.proofs.InputTextSound.{cell_turn, cells_end}
 use Rattle.sm_replay.proofs.input_text.cells_of.Goals as goal
 

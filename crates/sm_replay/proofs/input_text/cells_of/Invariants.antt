@@ -1,6 +1,5 @@
 -- Each key has its cell, or it is among those that are left.
-use Rattle.std.proofs.Common.{drop}
-use Rattle.serde_json.specs.View.{members_view}
+use Rattle.sm_replay.proofs.Imports.{drop, members_view}
 use Rattle.sm_replay.proofs.InputTextSound.{CellsSoFar}
 use Rattle.sm_replay.proofs.input_text.cells_of.Given as goal
 

@@ -1,14 +1,6 @@
 -- Name by name.
-use Rattle.std.proofs.Common.{◌+◌, drop, BTreeMap, String, Global, subst, sym, arith}
-use Rattle.serde_json.specs.View.{members_view}
+use Rattle.sm_replay.proofs.Imports.{◌+◌, drop, BTreeMap, String, Global, subst, sym, arith, members_view, meaning, sort_of, declared_of, Sorts, Num, declared_name, IsInsideAt, Writes}
 use Rattle.serde_json.specs.declared.value.Value.{Value}
-use Rattle.sm_eval.specs.StoredValues.{meaning}
-use Rattle.sm_syntax.specs.text.Parts.{sort_of}
-use Rattle.sm_syntax.specs.trees.Programs.{declared_of}
-use Rattle.sm_syntax.specs.text.Sorts.{Sorts}
-use Rattle.sm_syntax.specs.declared.tree.Sort.TheVariants.{Num}
-use Rattle.sm_replay.specs.Input.{declared_name}
-use Rattle.sm_replay.specs.Members.{IsInsideAt, Writes}
 use Rattle.sm_replay.proofs.UpdatesSound.{numbered}
 use Rattle.sm_replay.proofs.InputTextSound.{MembersSoFar, named_turn, unnamed_turn, members_end}
 use Rattle.sm_replay.proofs.input_text.members_of.Goals as goal

@@ -1,9 +1,5 @@
 -- Each key has its member, or its name is among those that are left.
-use Rattle.std.proofs.Common.{drop}
-use Rattle.serde_json.specs.View.{members_view}
-use Rattle.sm_eval.specs.StoredValues.{meaning}
-use Rattle.sm_syntax.specs.text.Parts.{sort_of}
-use Rattle.sm_syntax.specs.trees.Programs.{declared_of}
+use Rattle.sm_replay.proofs.Imports.{drop, members_view, meaning, sort_of, declared_of}
 use Rattle.sm_replay.proofs.UpdatesSound.{numbered}
 use Rattle.sm_replay.proofs.InputTextSound.{MembersSoFar}
 use Rattle.sm_replay.proofs.input_text.members_of.Given as goal

@@ -1,12 +1,5 @@
 -- The text of the members, and that it reads back.
-use Rattle.std.proofs.Common.{ap, ◌∙◌}
-use Rattle.std.proofs.lemmas.Result.{IfOk-weaker}
-use Rattle.serde_json.specs.View.{members_view}
-use Rattle.serde_json.specs.Written.{compact_text, has_float}
-use Rattle.serde_json.proofs.Views.{view-Object}
-use Rattle.sm_eval.specs.StoredValues.{meaning}
-use Rattle.sm_syntax.specs.text.Parts.{sort_of}
-use Rattle.sm_syntax.specs.trees.Programs.{declared_of}
+use Rattle.sm_replay.proofs.Imports.{ap, ◌∙◌, IfOk-weaker, members_view, compact_text, has_float, view-Object, meaning, sort_of, declared_of}
 use Rattle.sm_replay.proofs.InputTextSound.{both_ok, json_of}
 use Rattle.sm_replay.proofs.InputTextRoundTrip.{written_back, written_depth, written_whole}
 use Rattle.sm_replay.proofs.input_text.write_input.Goals as goal

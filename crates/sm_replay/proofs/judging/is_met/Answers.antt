@@ -1,6 +1,5 @@
 -- A condition has no loop and takes no memory.
-use Rattle.sm_syntax.specs.trees.Views.{condition_of}
-use Rattle.sm_eval.specs.StoredValues.{meaning}
+use Rattle.sm_replay.proofs.Imports.{condition_of, meaning}
 use Rattle.sm_replay.proofs.AssumptionSound.{no_turns, no_memory}
 use Rattle.sm_replay.proofs.judging.is_met.Goals as goal
 

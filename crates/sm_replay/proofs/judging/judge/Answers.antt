@@ -1,7 +1,5 @@
 -- A verdict is a violation exactly where there is one.
-use Rattle.sm_syntax.specs.text.Parts.{task_of}
-use Rattle.sm_task.specs.Tasks.{parts_of}
-use Rattle.sm_eval.specs.StoredValues.{meaning}
+use Rattle.sm_replay.proofs.Imports.{task_of, parts_of, meaning}
 use Rattle.sm_replay.proofs.VerdictSound.{violates_exactly}
 use Rattle.sm_replay.proofs.RunnableTasks.{filled_sorted}
 use Rattle.sm_replay.proofs.judging.judge.Goals as goal

@@ -1,7 +1,4 @@
-use Rattle.std.proofs.Common.{option_map}
-use Rattle.sm_syntax.specs.trees.Views.{condition_of}
-use Rattle.sm_task.specs.Tasks.{parts_of}
-use Rattle.sm_eval.specs.StoredValues.{meaning, sorts_of}
+use Rattle.sm_replay.proofs.Imports.{option_map, condition_of, parts_of, meaning, sorts_of}
 use Rattle.sm_replay.proofs.AssumptionSound.{told_met}
 use Rattle.sm_replay.proofs.RunnableTasks.{assumes}
 use Rattle.sm_replay.proofs.judging.judged.Goals as goal

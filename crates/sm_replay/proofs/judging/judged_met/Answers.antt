@@ -1,16 +1,5 @@
 -- What is found in the ends is the verdict, where the programs are those of the task.
-use Rattle.std.proofs.Common.{List, map, subst, ◌∙◌}
-use Rattle.sm_syntax.specs.declared.tree.Name.{Name}
-use Rattle.sm_syntax.specs.claim.ConflictFree.{Copy, O}
-use Rattle.sm_syntax.specs.text.Parts.{task_of}
-use Rattle.sm_syntax.specs.trees.Programs.{declared_of}
-use Rattle.sm_syntax.specs.text.Sorts.{Sorts}
-use Rattle.sm_syntax.specs.claim.Syntax.{Code}
-use Rattle.sm_task.specs.Tasks.{parts_of}
-use Rattle.sm_eval.specs.StoredValues.{meaning, sorts_of}
-use Rattle.sm_replay.specs.Runs.{end_in}
-use Rattle.sm_replay.specs.FirstBreak.{sorted_by, Finds}
-use Rattle.sm_replay.specs.Violations.{AreEnds}
+use Rattle.sm_replay.proofs.Imports.{List, map, subst, ◌∙◌, Name, Copy, O, task_of, declared_of, Sorts, Code, parts_of, meaning, sorts_of, end_in, sorted_by, Finds, AreEnds}
 use Rattle.sm_replay.proofs.RunnableTasks.{sorted_runs}
 use Rattle.sm_replay.proofs.RunsSound.{judged_ends, of_task, same_sorts}
 use Rattle.sm_replay.proofs.judging.judged_met.Goals as goal

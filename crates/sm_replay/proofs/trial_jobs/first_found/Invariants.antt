@@ -1,6 +1,5 @@
 -- No answer so far is there.
-use Rattle.std.proofs.Common.{◌≡◌, ◌<◌, ℕ, None}
-use Rattle.std.specs.List.{slice_index_or}
+use Rattle.sm_replay.proofs.Imports.{◌≡◌, ◌<◌, ℕ, None, slice_index_or}
 use Rattle.sm_replay.proofs.trial_jobs.first_found.Given as goal
 
 abbrev pub invariant-loop-j : goal.invariant-loop-j

@@ -1,8 +1,5 @@
 -- The first answer that is there.
-use Rattle.std.proofs.Common.{sym, subst}
-use Rattle.sm_syntax.specs.text.Parts.{sort_of, task_of}
-use Rattle.sm_task.specs.Filling.{AreFilled}
-use Rattle.sm_task.specs.Tasks.{parts_of}
+use Rattle.sm_replay.proofs.Imports.{sym, subst, sort_of, task_of, AreFilled, parts_of}
 use Rattle.sm_replay.proofs.FirstViolationSound.{Answered, answered_where, first_violates}
 use Rattle.sm_replay.proofs.RunnableTasks.{filled_sorted}
 use Rattle.sm_replay.proofs.trial_jobs.first_violation.Goals as goal

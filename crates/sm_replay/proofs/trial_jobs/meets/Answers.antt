@@ -1,6 +1,5 @@
 -- The assumption may be computed.
-use Rattle.sm_task.specs.Tasks.{parts_of}
-use Rattle.sm_eval.specs.StoredValues.{sorts_of}
+use Rattle.sm_replay.proofs.Imports.{parts_of, sorts_of}
 use Rattle.sm_replay.proofs.RunnableTasks.{assumes}
 use Rattle.sm_replay.proofs.trial_jobs.meets.Goals as goal
 

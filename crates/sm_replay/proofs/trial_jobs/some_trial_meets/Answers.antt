@@ -1,8 +1,5 @@
 -- A trial that meets the assumption, or none.
-use Rattle.sm_syntax.specs.text.Parts.{sort_of, task_of}
-use Rattle.sm_task.specs.Tasks.{parts_of}
-use Rattle.sm_eval.specs.StoredValues.{meaning}
-use Rattle.sm_replay.specs.Trials.{trial}
+use Rattle.sm_replay.proofs.Imports.{sort_of, task_of, parts_of, meaning, trial}
 use Rattle.sm_replay.proofs.VerdictSound.{some_met, none_met, none_more, met_there, unmet_there}
 use Rattle.sm_replay.proofs.trial_jobs.some_trial_meets.Goals as goal
 

@@ -1,8 +1,5 @@
 -- The elements so far.
-use Rattle.std.proofs.Common.{◌≡◌}
-use Rattle.sm_eval.specs.StoredValues.{meaning, sorts_of}
-use Rattle.sm_replay.specs.Updates.{Overrides}
-use Rattle.sm_replay.specs.Trials.{elements_below}
+use Rattle.sm_replay.proofs.Imports.{◌≡◌, meaning, sorts_of, Overrides, elements_below}
 use Rattle.sm_replay.proofs.trials.give_elements.Given as goal
 
 abbrev pub invariant-loop-c : goal.invariant-loop-c

@@ -1,12 +1,5 @@
 -- An array that gets its elements gets its value.
-use Rattle.std.proofs.Common.{Some, sym, ap, subst, ◌∙◌}
-use Rattle.std.proofs.lemmas.Result.{on_ok_weaker}
-use Rattle.sm_syntax.specs.text.Sorts.{Sorts}
-use Rattle.sm_syntax.specs.declared.tree.Sort.{Sort}
-use Rattle.sm_eval.specs.StoredValues.{meaning}
-use Rattle.sm_eval.specs.Zeros.{zero_of}
-use Rattle.sm_replay.specs.Updates.{GivesValue, Overrides}
-use Rattle.sm_replay.specs.Trials.{elements_below, value_in_trial}
+use Rattle.sm_replay.proofs.Imports.{Some, sym, ap, subst, ◌∙◌, on_ok_weaker, Sorts, Sort, meaning, zero_of, GivesValue, Overrides, elements_below, value_in_trial}
 use Rattle.sm_replay.proofs.UpdatesSound.{array_of, overrides_give}
 use Rattle.sm_replay.proofs.trials.give_sorted.Goals as goal
 

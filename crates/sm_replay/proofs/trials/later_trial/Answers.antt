@@ -1,14 +1,5 @@
 -- At the end each name has its value.
-use Rattle.std.proofs.Common.{◌≡◌, ◌<◌, ◌≤◌, ℕ, zero, suc, None, List, length, drop, sym, ap, ◌∙◌, arith}
-use Rattle.sm_syntax.specs.declared.tree.Name.{Name}
-use Rattle.sm_syntax.specs.text.Parts.{sort_of}
-use Rattle.sm_syntax.specs.trees.Programs.{declared_of}
-use Rattle.sm_syntax.specs.text.Sorts.{Sorts}
-use Rattle.sm_syntax.specs.declared.tree.Sort.{Sort}
-use Rattle.sm_syntax.specs.claim.Stores.{Store}
-use Rattle.sm_eval.specs.StoredValues.{meaning}
-use Rattle.sm_eval.specs.Zeros.{zero_of}
-use Rattle.sm_replay.specs.Trials.{trial, value_in_trial}
+use Rattle.sm_replay.proofs.Imports.{◌≡◌, ◌<◌, ◌≤◌, ℕ, zero, suc, None, List, length, drop, sym, ap, ◌∙◌, arith, Name, sort_of, declared_of, Sorts, Sort, Store, meaning, zero_of, trial, value_in_trial}
 use Rattle.sm_replay.proofs.UpdatesSound.{Filling, numbered, end_filled}
 use Rattle.sm_replay.proofs.trials.later_trial.Goals as goal
 

@@ -1,7 +1,5 @@
 -- Each number below 19.
-use Rattle.std.proofs.Common.{◌≡◌, ◌<◌, ℕ, zero, suc, pos, to_z, of_z, refl, arith}
-use Rattle.std.specs.Int.{w128}
-use Rattle.std.specs.Prelude.{◌-ℤ◌}
+use Rattle.sm_replay.proofs.Imports.{◌≡◌, ◌<◌, ℕ, zero, suc, pos, to_z, of_z, refl, arith, w128, ◌-ℤ◌}
 use Rattle.sm_replay.proofs.trials.less_six.Goals as goal
 
 less_six : (n : ℕ) → n < 19 → to_z w128 (of_z w128 (to_z w128 n -ℤ pos 6)) ≡ pos n -ℤ pos 6

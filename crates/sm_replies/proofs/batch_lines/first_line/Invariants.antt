@@ -1,6 +1,5 @@
 -- None of the bytes so far ends the line.
-use Rattle.std.proofs.Common.{◌≡◌, ◌++◌, drop, take}
-use Rattle.sm_replies.specs.Batch.{first_line}
+use Rattle.sm_replies.proofs.Imports.{◌≡◌, ◌++◌, drop, take, first_line}
 use Rattle.sm_replies.proofs.batch_lines.first_line.Given as goal
 
 abbrev pub invariant-bytes : goal.invariant-bytes

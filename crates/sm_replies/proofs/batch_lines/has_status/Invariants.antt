@@ -1,7 +1,5 @@
 -- What is left of the lines decides for all of them.
-use Rattle.std.proofs.Common.{◌≡◌, drop}
-use Rattle.sm_replies.specs.Batch.{has_status}
-use Rattle.sm_replies.specs.BatchSteps.{lines_of, statuses}
+use Rattle.sm_replies.proofs.Imports.{◌≡◌, drop, has_status, lines_of, statuses}
 use Rattle.sm_replies.proofs.batch_lines.has_status.Given as goal
 
 abbrev pub invariant-lines : goal.invariant-lines

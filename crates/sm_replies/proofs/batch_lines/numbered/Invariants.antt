@@ -1,7 +1,5 @@
 -- The lines so far, and those that are left, from their number on.
-use Rattle.std.proofs.Common.{◌≡◌, ◌+◌, ◌++◌, drop}
-use Rattle.sm_replies.specs.Batch.{numbered}
-use Rattle.sm_replies.specs.BatchSteps.{lines_of, texts}
+use Rattle.sm_replies.proofs.Imports.{◌≡◌, ◌+◌, ◌++◌, drop, numbered, lines_of, texts}
 use Rattle.sm_replies.proofs.batch_lines.numbered.Given as goal
 
 abbrev pub invariant-lines : goal.invariant-lines

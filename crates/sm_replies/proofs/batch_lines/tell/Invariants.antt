@@ -1,6 +1,5 @@
 -- The lines so far, and those that are told of the slots and the replies that are left.
-use Rattle.std.proofs.Common.{◌≡◌, ◌++◌, drop}
-use Rattle.sm_replies.specs.BatchSteps.{lines_of, told}
+use Rattle.sm_replies.proofs.Imports.{◌≡◌, ◌++◌, drop, lines_of, told}
 use Rattle.sm_replies.proofs.batch_lines.tell.Given as goal
 
 abbrev pub invariant-slots : goal.invariant-slots

@@ -1,9 +1,6 @@
-use Rattle.std.proofs.Common.{◌≡◌, rules, subst}
+use Rattle.sm_replies.proofs.Imports.{◌≡◌, rules, subst, first_line, AnswersCheck, Effort}
 use Rattle.sm_task.specs.Tasks.{parts_of}
-use Rattle.sm_replies.specs.Batch.{first_line}
-use Rattle.sm_replies.specs.Check.{AnswersCheck}
 use Rattle.sm_replies.proofs.BatchTold.{alone_check, is_answered}
-use Rattle.sm_words.specs.declared.effort.Effort.{Effort}
 use Rattle.sm_replies.proofs.batch_worker.answered.Goals as goal
 
 pub returns : goal.returns

@@ -1,10 +1,7 @@
-use Rattle.std.proofs.Common.{IfOk, ℕ, Vec, Global, map, rules, subst}
-use Rattle.std.specs.List.{AllZip}
-use Rattle.sm_text.specs.declared.task.Task.{Task}
+use Rattle.sm_replies.proofs.Imports.{ℕ, Vec, Global, map, rules, subst, AllZip, Task, IsAnswered, IsTheReply, Effort}
+use Rattle.std.proofs.Common.{IfOk}
 use Rattle.sm_task.specs.Tasks.{parts_of}
-use Rattle.sm_replies.specs.BatchSteps.{IsAnswered, IsTheReply}
 use Rattle.sm_replies.proofs.BatchTold.{worker_answer}
-use Rattle.sm_words.specs.declared.effort.Effort.{Effort}
 use Rattle.sm_replies.proofs.batch_worker.replies_to.Goals as goal
 
 pub group-requires-clause-told : goal.group-requires-clause-told

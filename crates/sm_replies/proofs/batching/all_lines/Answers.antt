@@ -1,8 +1,4 @@
-use Rattle.std.proofs.Common.{ℕ, List, map, rules, ◌∙◌}
-use Rattle.std.specs.String.{string_bytes}
-use Rattle.sm_answers.specs.declared.status.Status.{Status}
-use Rattle.sm_answers.proofs.Answering.{stops_by}
-use Rattle.sm_replies.specs.Batch.{FailsToReadOne}
+use Rattle.sm_replies.proofs.Imports.{ℕ, List, map, rules, ◌∙◌, string_bytes, Status, stops_by, FailsToReadOne}
 use Rattle.sm_replies.proofs.BatchAnswers.{fails_among, group_more, in_group}
 use Rattle.sm_replies.proofs.BatchGiven.{goes_further}
 use Rattle.sm_replies.proofs.batching.all_lines.Goals as goal

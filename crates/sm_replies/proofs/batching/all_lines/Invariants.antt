@@ -1,8 +1,5 @@
 -- The lines of the groups so far.
-use Rattle.std.proofs.Common.{◌≡◌, ◌++◌, ℕ, List, length, map}
-use Rattle.std.specs.String.{string_bytes}
-use Rattle.sm_replies.specs.BatchSteps.{lines_of, AreLinesRead}
-use Rattle.sm_answers.specs.ReadFiles.{GoesOn}
+use Rattle.sm_replies.proofs.Imports.{◌≡◌, ◌++◌, ℕ, List, length, map, string_bytes, lines_of, AreLinesRead, GoesOn}
 use Rattle.sm_replies.proofs.batching.all_lines.Given as goal
 
 abbrev pub invariant-groups : goal.invariant-groups

@@ -1,11 +1,4 @@
-use Rattle.std.proofs.Common.{◌≡◌, ℕ, List, map, rules, subst}
-use Rattle.std.specs.String.{string_bytes}
-use Rattle.sm_answers.specs.Lists.{GivesNoList}
-use Rattle.sm_answers.specs.declared.status.Status.{Status}
-use Rattle.sm_answers.proofs.Answering.{stops_by}
-use Rattle.sm_replies.specs.Batch.{FailsToReadOne}
-use Rattle.sm_replies.specs.BatchSteps.{lines_of, AreLinesRead}
-use Rattle.sm_replies.specs.HeadlineBatch.{AcceptsSafeRead}
+use Rattle.sm_replies.proofs.Imports.{◌≡◌, ℕ, List, map, rules, subst, string_bytes, GivesNoList, Status, stops_by, FailsToReadOne, lines_of, AreLinesRead, AcceptsSafeRead}
 use Rattle.sm_replies.proofs.BatchAnswers.{batch_lines}
 use Rattle.sm_replies.proofs.BatchSafe.{fault_read, lines_read, none_read}
 use Rattle.sm_replies.proofs.batching.batch_in.Goals as goal

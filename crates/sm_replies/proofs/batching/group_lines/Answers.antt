@@ -1,10 +1,5 @@
-use Rattle.std.proofs.Common.{◌≡◌, ℕ, List, Vec, Global, map, rules, subst}
-use Rattle.std.specs.List.{AllZip}
-use Rattle.std.specs.String.{string_bytes}
-use Rattle.sm_text.specs.declared.task.Task.{Task}
+use Rattle.sm_replies.proofs.Imports.{◌≡◌, ℕ, List, Vec, Global, map, rules, subst, AllZip, string_bytes, Task, Line, lines_of, told, AreLinesRead, IsTheReply}
 use Rattle.sm_task.specs.Tasks.{parts_of}
-use Rattle.sm_replies.specs.Batch.{Line}
-use Rattle.sm_replies.specs.BatchSteps.{lines_of, told, AreLinesRead, IsTheReply}
 use Rattle.sm_replies.proofs.BatchGiven.{lines_told}
 use Rattle.sm_replies.proofs.batching.group_lines.Goals as goal
 

@@ -1,15 +1,10 @@
-use Rattle.std.proofs.Common.{◌≡◌, ◌∙◌, ◌∷◌, [], ℤ, ap, codes, of_z, refl, rules, to_z}
-use Rattle.std.specs.Fmt.{signed_decimal}
+use Rattle.sm_replies.proofs.Imports.{◌≡◌, ◌∙◌, ◌∷◌, [], ℤ, ap, codes, of_z, refl, rules, to_z, signed_decimal, goal_line, op_word, too_many_line, Unknown, Goal, TooMany, reach_of}
 use Rattle.std.specs.Int.{w128}
 use Rattle.sm_houdini.proofs.ShortLines.{valid_searchable}
 use Rattle.sm_houdini.specs.Outcomes as plain
 use Rattle.sm_houdini.specs.declared.outcome.Outcome.TheVariants as outcome
 use Rattle.sm_task.specs.Tasks.{parts_of}
-use Rattle.sm_answers.specs.Lines.{goal_line, op_word, too_many_line}
-use Rattle.sm_answers.specs.declared.status.Status.TheVariants.{Unknown}
 use Rattle.sm_why.specs.declared.stop.Manner.TheVariants as manner
-use Rattle.sm_why.specs.declared.stop.Stop.TheVariants.{Goal, TooMany}
-use Rattle.sm_replies.specs.Check.{reach_of}
 use Rattle.sm_replies.proofs.CheckAnswers.{shown_answers, shown_rests, conflict_answers, conflict_comes, conflict_rests, undecided_answers, undecided_comes, undecided_rests}
 use Rattle.sm_replies.proofs.SpelledLemmas.{is_spelled, least_trial, noted_by, outcome_so}
 use Rattle.sm_replies.proofs.decided.check.Goals as goal

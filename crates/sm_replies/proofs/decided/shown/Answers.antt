@@ -1,8 +1,6 @@
-use Rattle.std.proofs.Common.{IfOk, subst}
-use Rattle.sm_syntax.specs.claim.Stores.{Store}
+use Rattle.sm_replies.proofs.Imports.{subst, Store, ShowsFrom, verdict_at}
+use Rattle.std.proofs.Common.{IfOk}
 use Rattle.sm_task.specs.Tasks.{parts_of}
-use Rattle.sm_replies.specs.Check.{ShowsFrom}
-use Rattle.sm_replies.specs.Views.{verdict_at}
 use Rattle.sm_replies.proofs.decided.shown.Goals as goal
 
 pub returns-clause-shows : goal.returns-clause-shows

@@ -1,10 +1,4 @@
-use Rattle.std.proofs.Common.{ℕ, List, map, rules, subst, sym, ◌∙◌}
-use Rattle.std.specs.Prelude.{Contains}
-use Rattle.std.specs.String.{string_bytes}
-use Rattle.sm_answers.specs.File.{FailsToRead}
-use Rattle.sm_answers.specs.declared.status.Status.{Status}
-use Rattle.sm_answers.proofs.Answering.{stops_by}
-use Rattle.sm_replies.specs.Batch.{FailsToReadOne}
+use Rattle.sm_replies.proofs.Imports.{ℕ, List, map, rules, subst, sym, ◌∙◌, Contains, string_bytes, FailsToRead, Status, stops_by, FailsToReadOne}
 use Rattle.sm_replies.proofs.BatchAnswers.{fails_named}
 use Rattle.sm_replies.proofs.BatchGiven.{given_more, goes_further, name_among}
 use Rattle.sm_replies.proofs.gathering.gather.Goals as goal

@@ -1,10 +1,6 @@
 -- What the files so far gave.
-use Rattle.std.proofs.Common.{◌≡◌, ℕ, List, All, map, take}
-use Rattle.std.specs.String.{string_bytes}
-use Rattle.sm_text.specs.printing.Named.{HasText}
+use Rattle.sm_replies.proofs.Imports.{◌≡◌, ℕ, List, All, map, take, string_bytes, HasText, AreGiven, GoesOn}
 use Rattle.sm_text.specs.Tasks.{parts_of}
-use Rattle.sm_replies.specs.BatchSteps.{AreGiven}
-use Rattle.sm_answers.specs.ReadFiles.{GoesOn}
 use Rattle.sm_replies.proofs.gathering.gather.Given as goal
 
 abbrev pub invariant-names : goal.invariant-names

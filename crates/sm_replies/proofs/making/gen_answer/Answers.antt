@@ -1,6 +1,4 @@
-use Rattle.std.proofs.Common.{rules, subst}
-use Rattle.sm_syntax.specs.text.Parts.{Parts}
-use Rattle.sm_replies.specs.Check.{AnswersCheck}
+use Rattle.sm_replies.proofs.Imports.{rules, subst, Parts, AnswersCheck}
 use Rattle.sm_replies.proofs.making.gen_answer.Goals as goal
 
 pub returns : goal.returns

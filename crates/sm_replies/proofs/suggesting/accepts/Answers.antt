@@ -1,12 +1,9 @@
-use Rattle.std.proofs.Common.{◌≡◌, false, refl, rules, sym}
+use Rattle.sm_replies.proofs.Imports.{◌≡◌, false, refl, rules, sym, outcome_in, reach_of, is_accepted}
 use Rattle.sm_houdini.specs.Outcomes as plain
-use Rattle.sm_houdini.specs.Views.{outcome_in}
 use Rattle.sm_houdini.specs.declared.outcome.Outcome.TheVariants as outcome
 use Rattle.sm_proof.proofs.PassSound.{pass_free}
 use Rattle.sm_task.specs.Tasks.{parts_of}
 use Rattle.sm_replies.proofs.SpelledLemmas.{outcome_so}
-use Rattle.sm_replies.specs.Check.{reach_of}
-use Rattle.sm_replies.specs.Suggest.{is_accepted}
 use Rattle.sm_replies.proofs.suggesting.accepts.Goals as goal
 
 pub returns-in-None : goal.returns-in-None

@@ -1,11 +1,7 @@
-use Rattle.std.proofs.Common.{◌≡◌, Bool, Some, None, rules, subst}
+use Rattle.sm_replies.proofs.Imports.{◌≡◌, Bool, Some, None, rules, subst, AllRefused, IsFirst, Parts, Task, Decides}
 use Rattle.sm_suggest.proofs.FitTasks.{spelled_are_fit}
-use Rattle.sm_suggest.specs.First.{AllRefused, IsFirst}
-use Rattle.sm_syntax.specs.text.Parts.{Parts}
 use Rattle.sm_task.specs.Tasks.{parts_of}
-use Rattle.sm_text.specs.declared.task.Task.{Task}
 use Rattle.sm_replies.proofs.SuggestedSafe.{none_answered, none_by, some_answered, some_by}
-use Rattle.sm_replies.specs.Suggest.{Decides}
 use Rattle.sm_replies.proofs.suggesting.suggest_answer.Goals as goal
 
 pub suggest-requires-clause-fit : goal.suggest-requires-clause-fit

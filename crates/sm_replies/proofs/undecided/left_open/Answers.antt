@@ -1,9 +1,6 @@
-use Rattle.std.proofs.Common.{List, ℕ, subst}
+use Rattle.sm_replies.proofs.Imports.{List, ℕ, subst, Open, Goal, IsUndecided}
 use Rattle.std.specs.Prelude.{IfOk}
 use Rattle.sm_task.specs.Tasks.{parts_of}
-use Rattle.sm_why.specs.declared.stop.Manner.TheVariants.{Open}
-use Rattle.sm_why.specs.declared.stop.Stop.TheVariants.{Goal}
-use Rattle.sm_replies.specs.Undecided.{IsUndecided}
 use Rattle.sm_replies.proofs.undecided.left_open.Goals as goal
 
 pub returns : goal.returns

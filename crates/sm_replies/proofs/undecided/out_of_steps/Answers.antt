@@ -1,9 +1,6 @@
-use Rattle.std.proofs.Common.{List, ℕ, subst}
+use Rattle.sm_replies.proofs.Imports.{List, ℕ, subst, Steps, Goal, IsUndecided}
 use Rattle.std.specs.Prelude.{IfOk}
 use Rattle.sm_task.specs.Tasks.{parts_of}
-use Rattle.sm_why.specs.declared.stop.Manner.TheVariants.{Steps}
-use Rattle.sm_why.specs.declared.stop.Stop.TheVariants.{Goal}
-use Rattle.sm_replies.specs.Undecided.{IsUndecided}
 use Rattle.sm_replies.proofs.undecided.out_of_steps.Goals as goal
 
 pub returns : goal.returns

@@ -1,9 +1,5 @@
 -- One of the three was found, or none is so.
-use Rattle.std.proofs.Common.{◌≡◌, true, sym, ◌∙◌}
-use Rattle.sm_syntax.specs.claim.ConflictFree.{Copy}
-use Rattle.sm_syntax.specs.trees.Copies.{of_copy}
-use Rattle.sm_syntax.specs.trees.Views.{code_of}
-use Rattle.sm_sided.specs.OneSided.{IsOneSided, is_one_sided}
+use Rattle.sm_sided.proofs.Imports.{◌≡◌, true, sym, ◌∙◌, Copy, of_copy, code_of, IsOneSided, is_one_sided}
 use Rattle.sm_sided.proofs.OneSidedLemmas.{found_is, one_sided_is}
 use Rattle.sm_sided.proofs.sided.one_sided.Goals as goal
 

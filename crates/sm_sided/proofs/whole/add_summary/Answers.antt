@@ -1,7 +1,6 @@
 -- The block has statements.
-use Rattle.std.proofs.Common.{◌≡◌, ◌<◌, ◌++◌, List, length, ap, ◌∙◌, arith}
+use Rattle.sm_sided.proofs.Imports.{◌≡◌, ◌<◌, ◌++◌, List, length, ap, ◌∙◌, arith, Simple}
 use Rattle.std.proofs.lemmas.Bool.Decides.{nat_tests}
-use Rattle.sm_expand.specs.declared.plan.Simple.{Simple}
 use Rattle.sm_sided.proofs.WholeNodesLemmas.{node_of}
 use Rattle.sm_sided.proofs.whole.add_summary.Goals as goal
 

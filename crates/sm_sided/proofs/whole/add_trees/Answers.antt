@@ -1,7 +1,6 @@
 -- The three trees are the certificates of the change.
-use Rattle.std.proofs.Common.{◌++◌, map, ap, sym, ◌∙◌}
-use Rattle.sm_cert.specs.Views.{certificate_in}
-use Rattle.sm_sided.specs.WholeCertificates.{certificates_of, Change}
+use Rattle.sm_sided.proofs.Imports.{◌++◌, map, ap, sym, ◌∙◌, certificate_in, certificates_of}
+use Rattle.sm_sided.specs.WholeCertificates.{Change}
 use Rattle.sm_sided.proofs.TreesMade.{three_more}
 use Rattle.sm_sided.proofs.whole.add_trees.Goals as goal
 

@@ -1,10 +1,6 @@
 -- The plan has the obligations that were expanded.
-use Rattle.std.proofs.Common.{List, ap, ◌∙◌}
-use Rattle.sm_term.specs.Tables.{sorts_in, trees_in}
-use Rattle.sm_plan.specs.Plans.{obligations}
-use Rattle.sm_expand.specs.Views.{plan_in, dues_in}
+use Rattle.sm_sided.proofs.Imports.{List, ap, ◌∙◌, sorts_in, trees_in, obligations, plan_in, dues_in, facts_before}
 use Rattle.sm_expand.specs.declared.due.Due.{Due}
-use Rattle.sm_sided.specs.WholePlan.{facts_before}
 use Rattle.sm_sided.proofs.DuesCounted.{told_twice}
 use Rattle.sm_sided.proofs.whole.count_facts.Goals as goal
 

@@ -1,18 +1,7 @@
 -- The certificates show the goals, by how many facts were counted.
-use Rattle.std.proofs.Common.{◌≡◌, Ok, List, map, length, sym, ap, subst, ◌∙◌}
-use Rattle.std.proofs.lemmas.List.{length-map}
-use Rattle.sm_syntax.specs.claim.ConflictFree.{Copy}
-use Rattle.sm_syntax.specs.text.Parts.{sorted_outputs}
-use Rattle.sm_syntax.specs.trees.Copies.{of_copy}
+use Rattle.sm_sided.proofs.Imports.{◌≡◌, Ok, List, map, length, sym, ap, subst, ◌∙◌, length-map, Copy, sorted_outputs, of_copy, code_of, certificate_in, plan_in, obligations, nodes_of, sorts_in, trees_in, whole_certificates, NamesNoTerm, whole_plan, IsShown, KeepsNone, AllByRecursion}
 use Rattle.sm_syntax.specs.trees.Programs.{declared_of, outputs_of}
-use Rattle.sm_syntax.specs.trees.Views.{code_of}
-use Rattle.sm_cert.specs.Views.{certificate_in}
-use Rattle.sm_expand.specs.Views.{plan_in}
-use Rattle.sm_plan.specs.Plans.{Plan, Due, obligations, nodes_of}
-use Rattle.sm_term.specs.Tables.{sorts_in, trees_in}
-use Rattle.sm_sided.specs.WholeCertificates.{whole_certificates, NamesNoTerm}
-use Rattle.sm_sided.specs.WholePlan.{whole_plan, IsShown, KeepsNone}
-use Rattle.std.specs.List.{AllByRecursion}
+use Rattle.sm_plan.specs.Plans.{Plan, Due}
 use Rattle.sm_sided.proofs.WholeShown.{whole_shown}
 use Rattle.sm_sided.proofs.WholeKept.{whole_keeps, whole_names_none}
 use Rattle.sm_sided.proofs.whole.made_whole_plan.Goals as goal

@@ -1,8 +1,5 @@
 -- The nodes are those of the whole plan.
-use Rattle.std.proofs.Common.{refl}
-use Rattle.sm_syntax.specs.claim.ConflictFree.{Copy}
-use Rattle.sm_syntax.specs.trees.Copies.{of_copy}
-use Rattle.sm_syntax.specs.trees.Views.{code_of}
+use Rattle.sm_sided.proofs.Imports.{refl, Copy, of_copy, code_of}
 use Rattle.sm_expand.proofs.PlainPlans.{ends_ready}
 use Rattle.sm_sided.proofs.WholeNodesLemmas.{whole_is, put_together}
 use Rattle.sm_sided.proofs.whole.plan_of.Goals as goal

@@ -1,9 +1,6 @@
 -- Each output has its three.
-use Rattle.std.proofs.Common.{◌≡◌, List, ◌++◌, map, length, ap, sym, ◌∙◌, add-one, arith}
+use Rattle.sm_sided.proofs.Imports.{◌≡◌, List, ◌++◌, map, length, ap, sym, ◌∙◌, add-one, arith, Certificate, certificate_in, certificates_of, whole_certificates}
 use Rattle.sm_syntax.specs.declared.tree.Name.{Name}
-use Rattle.sm_cert.specs.Certificates.{Certificate}
-use Rattle.sm_cert.specs.Views.{certificate_in}
-use Rattle.sm_sided.specs.WholeCertificates.{certificates_of, whole_certificates}
 use Rattle.sm_sided.proofs.WholeKept.{one_output_more}
 use Rattle.sm_sided.proofs.whole.trees_of.Goals as goal
 

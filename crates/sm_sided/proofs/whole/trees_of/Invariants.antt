@@ -1,8 +1,5 @@
 -- The trees so far are those of as many outputs.
-use Rattle.std.proofs.Common.{◌≡◌, List, map}
-use Rattle.sm_term.specs.Terms.{Tree}
-use Rattle.sm_cert.specs.Views.{certificate_in}
-use Rattle.sm_sided.specs.WholeCertificates.{whole_certificates}
+use Rattle.sm_sided.proofs.Imports.{◌≡◌, List, map, Tree, certificate_in, whole_certificates}
 use Rattle.sm_sided.proofs.whole.trees_of.Given as goal
 
 abbrev pub invariant-loop-output : goal.invariant-loop-output

@@ -1,10 +1,5 @@
 -- All templates of the sites so far.
-use Rattle.std.proofs.Common.{◌≡◌, ℕ, List, map, take}
-use Rattle.std.specs.Prelude.{Vec}
-use Rattle.std.specs.declared.alloc.Global.{Global}
-use Rattle.sm_syntax.specs.text.Sorts.{Sorts}
-use Rattle.sm_term.specs.Terms.{Tree}
-use Rattle.sm_sketch.specs.Choices.{all_chosen}
+use Rattle.sm_sketch.proofs.Imports.{◌≡◌, ℕ, List, map, take, Vec, Global, Sorts, Tree, all_chosen}
 use Rattle.sm_sketch.proofs.AllChosen.{listed_at}
 use Rattle.sm_sketch.proofs.choices.all_templates.Given as goal
 

@@ -1,6 +1,5 @@
 -- A block of the copies.
-use Rattle.std.proofs.Common.{ap, ◌∙◌}
-use Rattle.sm_sketch.specs.SketchViews.{numbered_sketch}
+use Rattle.sm_sketch.proofs.Imports.{ap, ◌∙◌, numbered_sketch}
 use Rattle.sm_sketch.proofs.SketchEnds.{same_block}
 use Rattle.sm_sketch.proofs.copying.+copied.Goals as goal
 

@@ -1,6 +1,5 @@
 -- The copies so far stand for the sketches so far.
-use Rattle.std.proofs.Common.{◌≡◌, map, take}
-use Rattle.sm_sketch.specs.SketchViews.{numbered_sketch}
+use Rattle.sm_sketch.proofs.Imports.{◌≡◌, map, take, numbered_sketch}
 use Rattle.sm_sketch.proofs.copying.+copied.Given as goal
 
 abbrev pub invariant-copied_sketches-loop-sketch : goal.invariant-copied_sketches-loop-sketch

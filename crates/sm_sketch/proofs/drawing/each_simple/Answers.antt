@@ -1,8 +1,5 @@
 -- The nodes of the copies, one after the other.
-use Rattle.std.proofs.Common.{rules}
-use Rattle.sm_plan.specs.Masks.{set_of}
-use Rattle.sm_sketch.specs.Extents.{node_by}
-use Rattle.sm_sketch.specs.SketchViews.{sketch_in}
+use Rattle.sm_sketch.proofs.Imports.{rules, set_of, node_by, sketch_in}
 use Rattle.sm_sketch.proofs.LargeSketches.{err_tells, fourth_tells, third_tells, second_tells, each_err}
 use Rattle.sm_sketch.proofs.SketchesDrawn.{each_ok}
 use Rattle.sm_sketch.proofs.drawing.each_simple.Goals as goal

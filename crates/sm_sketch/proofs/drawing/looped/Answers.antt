@@ -1,7 +1,5 @@
 -- Loops before their turns and what follows.
-use Rattle.std.proofs.Common.{◌∙◌, ◌+◌, ℕ, max, rules, ap, arith}
-use Rattle.sm_sketch.specs.declared.sketch.Sketches.{roll-Sketches}
-use Rattle.sm_sketch.specs.Extents.{total_nodes, most_branches}
+use Rattle.sm_sketch.proofs.Imports.{◌∙◌, ◌+◌, ℕ, max, rules, ap, arith, roll-Sketches, total_nodes, most_branches}
 use Rattle.sm_sketch.proofs.LargeSketches.{err_tells}
 use Rattle.sm_sketch.proofs.SketchEnds.{loop_end, rolled_are}
 use Rattle.sm_sketch.proofs.SketchesDrawn.{loops_drawn, loops_ready, loops_err}

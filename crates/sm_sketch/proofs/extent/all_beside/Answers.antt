@@ -1,6 +1,5 @@
 -- One sketch more, or too much so far.
-use Rattle.std.proofs.Common.{rules, ◌+◌, ◌∙◌, max}
-use Rattle.sm_sketch.specs.Extents.{total_nodes, most_branches}
+use Rattle.sm_sketch.proofs.Imports.{rules, ◌+◌, ◌∙◌, max, total_nodes, most_branches}
 use Rattle.sm_sketch.proofs.ExtentsLemmas.{err_extent, next_all_nodes, next_all_branches, tells_all}
 use Rattle.sm_sketch.proofs.extent.all_beside.Goals as goal
 

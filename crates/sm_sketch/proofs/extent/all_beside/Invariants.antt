@@ -1,6 +1,5 @@
 -- The extent of the sketches so far and the one after them.
-use Rattle.std.proofs.Common.{◌≡◌, ◌+◌, max, take}
-use Rattle.sm_sketch.specs.Extents.{total_nodes, most_branches}
+use Rattle.sm_sketch.proofs.Imports.{◌≡◌, ◌+◌, max, take, total_nodes, most_branches}
 use Rattle.sm_sketch.proofs.extent.all_beside.Given as goal
 
 abbrev pub invariant-loop-sketch : goal.invariant-loop-sketch

@@ -1,7 +1,6 @@
 -- One node more than the sketches beside one another have.
-use Rattle.std.proofs.Common.{◌≡◌, ◌+◌, ℕ, max, subst, arith, rules}
+use Rattle.sm_sketch.proofs.Imports.{◌≡◌, ◌+◌, ℕ, max, subst, arith, rules, TellsExtent}
 use Rattle.std.specs.Prelude.{IfOk, IfErr}
-use Rattle.sm_sketch.specs.Extents.{TellsExtent}
 use Rattle.sm_sketch.proofs.ExtentsLemmas.{err_extent, tells_more}
 use Rattle.sm_sketch.proofs.extent.over_two.Goals as goal
 

@@ -1,8 +1,5 @@
 -- The conjunction of two halves.
-use Rattle.std.proofs.Common.{◌≤◌, ◌<◌, ◌/◌, length, sym, subst, arith}
-use Rattle.sm_term.specs.Formulas.{numbered, assertion_in}
-use Rattle.sm_term.specs.declared.formula.Formula.{Formula}
-use Rattle.sm_plan.specs.ReadyStates.{IsFormReady}
+use Rattle.sm_sketch.proofs.Imports.{◌≤◌, ◌<◌, ◌/◌, length, sym, subst, arith, numbered, assertion_in, Formula, IsFormReady}
 use Rattle.sm_sketch.proofs.KeptFormulas.{two_conjoined, front_ready, rest_ready}
 use Rattle.sm_sketch.proofs.kept.+conjunction.Goals as goal
 

@@ -1,8 +1,6 @@
 -- What is chosen is picked, and then conjoined.
-use Rattle.std.proofs.Common.{◌≡◌, IfOk, subst}
-use Rattle.sm_term.specs.Assertions.{Assertion}
-use Rattle.sm_term.specs.Formulas.{numbered, assertion_in}
-use Rattle.sm_term.specs.declared.formula.Formula.{Formula}
+use Rattle.sm_sketch.proofs.Imports.{◌≡◌, subst, Assertion, numbered, assertion_in, Formula}
+use Rattle.std.proofs.Common.{IfOk}
 use Rattle.sm_sketch.proofs.KeptFormulas.{kept_is, none_kept, kept_ready}
 use Rattle.sm_sketch.proofs.kept.kept_formula.Goals as goal
 

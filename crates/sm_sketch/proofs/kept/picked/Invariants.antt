@@ -1,6 +1,5 @@
 -- The templates of the numbers so far.
-use Rattle.std.proofs.Common.{◌≡◌, take}
-use Rattle.sm_sketch.specs.ChoiceViews.{pointed, picked_forms}
+use Rattle.sm_sketch.proofs.Imports.{◌≡◌, take, pointed, picked_forms}
 use Rattle.sm_sketch.proofs.kept.picked.Given as goal
 
 abbrev pub invariant-loop-number : goal.invariant-loop-number

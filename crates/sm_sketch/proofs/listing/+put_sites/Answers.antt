@@ -1,8 +1,7 @@
 -- The sites of a node come before those of the sketches below it.
-use Rattle.sm_sketch.specs.SketchSites.{shared_forms}
+use Rattle.sm_sketch.proofs.Imports.{shared_forms, ◌∙◌}
 use Rattle.sm_sketch.proofs.SitesListed.{fork_listed, block_listed, loop_listed, end_listed, behind, push_shared, listed_more, listed_all}
 use Rattle.sm_sketch.proofs.listing.+put_sites.Goals as goal
-use Rattle.std.proofs.Common.{◌∙◌}
 use Rattle.sm_lemmas.proofs.Options.{on_ok}
 
 pub put_all-loop-sketch-preserved : goal.put_all-loop-sketch-preserved

@@ -1,7 +1,5 @@
 -- Those of the sketches so far stand behind the others.
-use Rattle.std.proofs.Common.{◌≡◌, ◌++◌, map, take}
-use Rattle.sm_sketch.specs.SketchSites.{forms_of_all, shared_forms}
-use Rattle.sm_sketch.specs.SketchViews.{numbered_sketch}
+use Rattle.sm_sketch.proofs.Imports.{◌≡◌, ◌++◌, map, take, forms_of_all, shared_forms, numbered_sketch}
 use Rattle.sm_sketch.proofs.listing.+put_sites.Given as goal
 
 abbrev pub invariant-put_all-loop-sketch : goal.invariant-put_all-loop-sketch

@@ -1,10 +1,5 @@
 -- All sites are put behind none.
-use Rattle.std.proofs.Common.{List, ◌++◌, ap, ◌∙◌}
-use Rattle.std.specs.declared.alloc.Global.{Global}
-use Rattle.std.specs.declared.rc.Rc.{Rc}
-use Rattle.sm_plan.specs.declared.state.Formulas.{Formulas}
-use Rattle.sm_sketch.specs.SketchSites.{forms_of, shared_forms}
-use Rattle.sm_sketch.specs.SketchViews.{numbered_sketch}
+use Rattle.sm_sketch.proofs.Imports.{List, ◌++◌, ap, ◌∙◌, Global, Rc, Formulas, forms_of, shared_forms, numbered_sketch}
 use Rattle.sm_sketch.proofs.SitesListed.{listed, listed_ready}
 use Rattle.sm_sketch.proofs.listing.sites.Goals as goal
 

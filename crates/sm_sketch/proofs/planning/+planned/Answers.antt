@@ -1,19 +1,7 @@
 -- The plan of a sketch by how it ends, where the sites are numbered one after the other.
-use Rattle.std.proofs.Common.{◌+◌, ◌∙◌, ◌≤◌, ℕ, List, length, map, refl, sym, ap, subst, arith}
-use Rattle.std.proofs.lemmas.List.{map_push, take_all}
-use Rattle.sm_syntax.specs.text.Sorts.{Sorts}
-use Rattle.sm_term.specs.Terms.{Tree}
-use Rattle.sm_plan.specs.declared.state.Formulas.{Formulas}
-use Rattle.sm_plan.specs.ReadyStates.{AreFormsReady}
-use Rattle.sm_plan.specs.Views.{forms_in}
-use Rattle.sm_expand.specs.Views.{plan_in}
-use Rattle.sm_expand.specs.declared.plan.Plans.{roll-Plans}
-use Rattle.sm_sketch.specs.Choices.{kept_by}
-use Rattle.sm_sketch.specs.ChoiceViews.{choice_in, plans_from, sites_among, AreSomeReady, AreAllReady}
-use Rattle.sm_sketch.specs.NumberedSketches.{AreNodesReady}
+use Rattle.sm_sketch.proofs.Imports.{◌+◌, ◌∙◌, ◌≤◌, ℕ, List, length, map, refl, sym, ap, subst, arith, map_push, take_all, Sorts, Tree, Formulas, AreFormsReady, forms_in, plan_in, roll-Plans, kept_by, choice_in, plans_from, sites_among, AreSomeReady, AreAllReady, AreNodesReady, plan_with, sites_of, numbered_sketch, sketch_in}
 use Rattle.sm_sketch.specs.Sketches as tree
-use Rattle.sm_sketch.specs.Sketches.{plan_with, sites_of}
-use Rattle.sm_sketch.specs.SketchViews.{numbered_sketch, sketch_in, Sketch}
+use Rattle.sm_sketch.specs.SketchViews.{Sketch}
 use Rattle.sm_sketch.proofs.EndsPlanned.{rolled_plans, all_over, loop_planned, loop_sites, loop_few, loop_forms, loop_turns, loop_follows, loop_all_ready, next_plans, next_sites, some_at, all_more, block_planned, block_sites, block_inner}
 use Rattle.sm_sketch.proofs.EndsPlanned.{block_after}
 use Rattle.sm_sketch.proofs.SketchEnds.{sketches_are}

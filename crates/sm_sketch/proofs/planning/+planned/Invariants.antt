@@ -1,11 +1,5 @@
 -- The plans of the sketches so far, and the sites that they have.
-use Rattle.std.proofs.Common.{◌≡◌, ◌+◌, List, map, take}
-use Rattle.sm_syntax.specs.text.Sorts.{Sorts}
-use Rattle.sm_term.specs.Terms.{Tree}
-use Rattle.sm_expand.specs.Views.{plan_in}
-use Rattle.sm_sketch.specs.Choices.{kept_by}
-use Rattle.sm_sketch.specs.ChoiceViews.{choice_in, plans_from, sites_among, AreSomeReady, AreAllReady}
-use Rattle.sm_sketch.specs.SketchViews.{numbered_sketch, sketch_in}
+use Rattle.sm_sketch.proofs.Imports.{◌≡◌, ◌+◌, List, map, take, Sorts, Tree, plan_in, kept_by, choice_in, plans_from, sites_among, AreSomeReady, AreAllReady, numbered_sketch, sketch_in}
 use Rattle.sm_sketch.proofs.planning.+planned.Given as goal
 
 abbrev pub invariant-planned_all-loop-sketch : goal.invariant-planned_all-loop-sketch

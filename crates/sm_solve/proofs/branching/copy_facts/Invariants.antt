@@ -1,5 +1,4 @@
-use Rattle.std.proofs.Common.{◌≡◌, take}
-use Rattle.sm_list.specs.Parts.{all_numbered}
+use Rattle.sm_solve.proofs.Imports.{◌≡◌, take, all_numbered}
 use Rattle.sm_solve.proofs.branching.copy_facts.Given as goal
 
 abbrev pub invariant-loop-f : goal.invariant-loop-f

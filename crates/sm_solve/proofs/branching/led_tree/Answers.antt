@@ -1,8 +1,4 @@
-use Rattle.std.proofs.Common.{◌≡◌, List, IfOk, subst}
-use Rattle.sm_theory.specs.Lines.{CertificateLine}
-use Rattle.sm_cert.specs.Views.{certificate_in}
-use Rattle.sm_cert.specs.declared.tree.CertTree.{CertTree}
-use Rattle.sm_solve.specs.Leading.{led_by}
+use Rattle.sm_solve.proofs.Imports.{◌≡◌, List, IfOk, subst, CertificateLine, certificate_in, CertTree, led_by}
 use Rattle.sm_solve.proofs.branching.led_tree.Goals as goal
 
 pub returns-clause-tree : goal.returns-clause-tree

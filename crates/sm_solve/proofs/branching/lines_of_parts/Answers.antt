@@ -1,11 +1,5 @@
 -- Each turn puts the line of one more formula last.
-use Rattle.std.proofs.Common.{◌+◌, ◌≤◌, ◌++◌, List, length, map, drop, sym, ap, ◌∙◌, arith}
-use Rattle.std.proofs.lemmas.List.{append_assoc}
-use Rattle.sm_term.specs.Formulas.{numbered}
-use Rattle.sm_theory.specs.Lines.{CertificateLine}
-use Rattle.sm_theory.specs.Views.{line_in}
-use Rattle.sm_solve.specs.Leading.{both_line, both_lines}
-use Rattle.sm_list.specs.Parts.{all_numbered}
+use Rattle.sm_solve.proofs.Imports.{◌+◌, ◌≤◌, ◌++◌, List, length, map, drop, sym, ap, ◌∙◌, arith, append_assoc, numbered, CertificateLine, line_in, both_line, both_lines, all_numbered}
 use Rattle.sm_solve.proofs.LeadingLemmas.{lines_next, lines_end}
 use Rattle.sm_solve.proofs.branching.lines_of_parts.Goals as goal
 

@@ -1,10 +1,5 @@
 -- The lines so far, and behind them those of the formulas that are left, are those that are wanted.
-use Rattle.std.proofs.Common.{◌≡◌, ◌≤◌, ◌-◌, ◌++◌, ℕ, List, length, map, drop}
-use Rattle.sm_term.specs.Terms.{Tree}
-use Rattle.sm_theory.specs.Views.{line_in}
-use Rattle.sm_cert.specs.Views.{AreLinesWithin}
-use Rattle.sm_solve.specs.Leading.{both_lines}
-use Rattle.sm_list.specs.Parts.{all_numbered}
+use Rattle.sm_solve.proofs.Imports.{◌≡◌, ◌≤◌, ◌-◌, ◌++◌, ℕ, List, length, map, drop, Tree, line_in, AreLinesWithin, both_lines, all_numbered}
 use Rattle.sm_solve.proofs.branching.lines_of_parts.Given as goal
 
 abbrev pub invariant-loop-at : goal.invariant-loop-at

@@ -1,6 +1,5 @@
-use Rattle.std.proofs.Common.{[], ◌∷◌, sym, subst}
+use Rattle.sm_solve.proofs.Imports.{[], ◌∷◌, sym, subst, AreLinesWithin}
 use Rattle.sm_theory.specs.declared.line.CertLine.TheVariants as line
-use Rattle.sm_cert.specs.Views.{AreLinesWithin}
 use Rattle.sm_solve.proofs.branching.push_line.Goals as goal
 use Rattle.sm_list.proofs.RenumberLemmas.{within-append}
 

@@ -1,8 +1,5 @@
-use Rattle.std.proofs.Common.{refl, sym, subst}
+use Rattle.sm_solve.proofs.Imports.{refl, sym, subst, lines_of, AreLinesWithin, CertTree, CertTree-F, CertEnd}
 use Rattle.sm_cert.specs.declared.tree.CertEnd.TheVariants as ends
-use Rattle.sm_cert.specs.Views.{lines_of, AreLinesWithin}
-use Rattle.sm_cert.specs.declared.tree.CertTree.{CertTree, CertTree-F}
-use Rattle.sm_cert.specs.declared.tree.CertEnd.{CertEnd}
 use Rattle.sm_solve.proofs.LeadingLemmas.{split_within}
 use Rattle.sm_solve.proofs.branching.split_tree.Goals as goal
 

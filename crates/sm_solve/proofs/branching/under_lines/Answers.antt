@@ -1,6 +1,4 @@
-use Rattle.std.proofs.Common.{refl}
-use Rattle.sm_cert.specs.declared.tree.CertTree.{CertTree, CertTree-F}
-use Rattle.sm_cert.specs.declared.tree.CertEnd.{CertEnd}
+use Rattle.sm_solve.proofs.Imports.{refl, CertTree, CertTree-F, CertEnd}
 use Rattle.sm_solve.proofs.LeadingLemmas.{under_is, under_within}
 use Rattle.sm_solve.proofs.branching.under_lines.Goals as goal
 

@@ -1,18 +1,5 @@
-use Rattle.std.proofs.Common.{ℕ, IfOk, List, length, sym, subst}
-use Rattle.sm_num.specs.Combining.{Outcome}
-use Rattle.sm_num.specs.Forms.{Linear}
-use Rattle.sm_term.specs.Tables.{trees_in, sorts_in, AreBefore}
-use Rattle.sm_cc.specs.Classes.{are_apart}
-use Rattle.sm_cc.specs.Rounds.{are_equal}
-use Rattle.sm_cc.specs.Views.{ClassesValue, setting_of}
-use Rattle.sm_certify.specs.Given.{branch_of}
-use Rattle.sm_certify.proofs.GivenLemmas.{whole_before}
-use Rattle.sm_judge.specs.Forms.{forms_of}
-use Rattle.sm_judge.specs.Holding.{Seen}
-use Rattle.sm_judge.specs.Labelled.{AreLabels}
-use Rattle.sm_judge.specs.Refutations.{GivesForms}
+use Rattle.sm_solve.proofs.Imports.{ℕ, IfOk, List, length, sym, subst, Outcome, Linear, trees_in, sorts_in, AreBefore, are_apart, are_equal, ClassesValue, setting_of, branch_of, whole_before, forms_of, Seen, AreLabels, GivesForms, by_decision}
 use Rattle.sm_solve.specs.Deciding.{TellsDecision}
-use Rattle.sm_solve.specs.Walk.{by_decision}
 use Rattle.sm_solve.proofs.BranchLabelsLemmas.{labels_of_branch}
 use Rattle.sm_solve.proofs.deciding.decide_forms.Goals as goal
 

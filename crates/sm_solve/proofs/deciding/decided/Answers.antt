@@ -1,6 +1,5 @@
-use Rattle.std.proofs.Common.{subst}
+use Rattle.sm_solve.proofs.Imports.{subst, exact}
 use Rattle.sm_exact.specs.Telling.{TellsExact}
-use Rattle.sm_omega.specs.Exact.{exact}
 use Rattle.sm_solve.proofs.DecidingLemmas.{decided_shows}
 use Rattle.sm_solve.proofs.deciding.decided.Goals as goal
 

@@ -1,6 +1,4 @@
-use Rattle.std.proofs.Common.{◌++◌, length, subst}
-use Rattle.sm_list.specs.Branches.{with_parts}
-use Rattle.sm_solve.specs.Walking.{ShowsEnd}
+use Rattle.sm_solve.proofs.Imports.{◌++◌, length, subst, with_parts, ShowsEnd}
 use Rattle.sm_solve.proofs.WalkingLemmas.{led_closes}
 use Rattle.sm_solve.proofs.ending.led_end.Goals as goal
 

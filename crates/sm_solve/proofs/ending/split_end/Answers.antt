@@ -1,5 +1,4 @@
-use Rattle.std.proofs.Common.{◌++◌, [], ◌∷◌, length, subst}
-use Rattle.sm_solve.specs.Walking.{ShowsEnd}
+use Rattle.sm_solve.proofs.Imports.{◌++◌, [], ◌∷◌, length, subst, ShowsEnd}
 use Rattle.sm_solve.proofs.WalkingLemmas.{split_closes}
 use Rattle.sm_solve.proofs.ending.split_end.Goals as goal
 

@@ -1,15 +1,6 @@
 -- What is found of the facts of a node is noted.
-use Rattle.std.proofs.Common.{◌≡◌, List, [], ◌∷◌, ◌++◌, refl, sym, ap, subst, ◌∙◌}
-use Rattle.sm_syntax.specs.text.Sorts.{Sorts}
-use Rattle.sm_term.specs.declared.formula.Formula.{Formula}
+use Rattle.sm_solve.proofs.Imports.{◌≡◌, List, [], ◌∷◌, ◌++◌, refl, sym, ap, subst, ◌∙◌, Sorts, Formula, AreFormsSorted, trees_in, sorts_in, IsLedBy, classes_by, all_numbered, assertions_in, AreNamed, room_for_goal}
 use Rattle.sm_term.specs.Assertions.{Yes}
-use Rattle.sm_term.specs.Sorted.{AreFormsSorted}
-use Rattle.sm_term.specs.Tables.{trees_in, sorts_in}
-use Rattle.sm_cc.specs.BaseClasses.{IsLedBy}
-use Rattle.sm_certify.specs.Given.{classes_by}
-use Rattle.sm_list.specs.Parts.{all_numbered, assertions_in}
-use Rattle.sm_solve.specs.Naming.{AreNamed}
-use Rattle.sm_solve.specs.Sharing.{room_for_goal}
 use Rattle.sm_solve.proofs.InconsistentLemmas.{node_led, node_named, node_sorted, node_inconsistent}
 use Rattle.sm_solve.proofs.fact_base.with_inconsistent.Goals as goal
 

@@ -1,14 +1,5 @@
 -- The walk of the first branch is what its visit tells, and what the walk below it comes to.
-use Rattle.std.proofs.Common.{◌≡◌, ◌<◌, [], List, refl, sym, ap, subst, ◌∙◌, arith}
-use Rattle.sm_term.specs.declared.formula.Formula.{Formula}
-use Rattle.sm_term.specs.Assertions.{Assertion}
-use Rattle.sm_term.specs.Sorted.{AreFormsSorted}
-use Rattle.sm_term.specs.Tables.{trees_in, sorts_in}
-use Rattle.sm_certify.specs.Given.{branch_of}
-use Rattle.sm_list.specs.Parts.{all_numbered, assertions_in}
-use Rattle.sm_judge.specs.Forms.{Walked}
-use Rattle.sm_solve.specs.Walk.{walk_from, by_classes}
-use Rattle.sm_solve.specs.Walking.{TellsVisit, ShowsVisit, ShowsEnd}
+use Rattle.sm_solve.proofs.Imports.{◌≡◌, ◌<◌, [], List, refl, sym, ap, subst, ◌∙◌, arith, Formula, Assertion, AreFormsSorted, trees_in, sorts_in, branch_of, all_numbered, assertions_in, Walked, walk_from, by_classes, TellsVisit, ShowsVisit, ShowsEnd}
 use Rattle.sm_solve.proofs.WalkingLemmas.{walk_next}
 use Rattle.sm_solve.proofs.first.walk_alone.Goals as goal
 

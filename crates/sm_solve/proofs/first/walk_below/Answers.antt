@@ -1,6 +1,5 @@
 -- The walk goes on from the classes of the facts.
-use Rattle.std.proofs.Common.{sym}
-use Rattle.sm_certify.specs.Given.{classes_by}
+use Rattle.sm_solve.proofs.Imports.{sym, classes_by}
 use Rattle.sm_solve.proofs.BasesLemmas.{led_same, led_alone}
 use Rattle.sm_solve.proofs.first.walk_below.Goals as goal
 

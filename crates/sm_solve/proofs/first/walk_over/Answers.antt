@@ -1,9 +1,4 @@
-use Rattle.std.proofs.Common.{[], List, refl, ap, subst, ◌∙◌}
-use Rattle.sm_term.specs.declared.formula.Formula.{Formula}
-use Rattle.sm_term.specs.Assertions.{Assertion}
-use Rattle.sm_term.specs.Tables.{trees_in, sorts_in}
-use Rattle.sm_list.specs.Parts.{all_numbered, assertions_in}
-use Rattle.sm_solve.specs.Walking.{ShowsEnd}
+use Rattle.sm_solve.proofs.Imports.{[], List, refl, ap, subst, ◌∙◌, Formula, Assertion, trees_in, sorts_in, all_numbered, assertions_in, ShowsEnd}
 use Rattle.sm_solve.proofs.first.walk_over.Goals as goal
 
 pub returns-clause-shows : goal.returns-clause-shows

@@ -1,9 +1,7 @@
 -- As for the end of a walk.
-use Rattle.std.proofs.Common.{List, sym, subst}
-use Rattle.sm_term.specs.declared.term.TermId.{TermId}
+use Rattle.sm_solve.proofs.Imports.{List, sym, subst, TermId, AreTermsOf}
 use Rattle.sm_solve.specs.declared.goal_end.GoalEnd.{GoalEnd}
 use Rattle.sm_solve.specs.GoalEnds.{ShowsGoal}
-use Rattle.sm_list.specs.Renumbered.{AreTermsOf}
 use Rattle.sm_solve.proofs.SolvingLemmas.{renumbered_closes}
 use Rattle.sm_solve.proofs.goal_end.renumbered_goal_end.Goals as goal
 

@@ -1,13 +1,6 @@
 -- The table has no more terms than are counted, and the classes are boxed.
-use Rattle.std.proofs.Common.{◌≡◌, IfSome, Option, List, length, sym, subst, arith}
-use Rattle.std.specs.List.{range_with_len}
-use Rattle.sm_term.specs.Tables.{trees_in}
-use Rattle.sm_term.specs.declared.term.TermId.{TermId}
+use Rattle.sm_solve.proofs.Imports.{◌≡◌, IfSome, Option, List, length, sym, subst, arith, range_with_len, trees_in, TermId, AreBaseClasses, AreAllForms, IsWhole, classes_by, numbers_of}
 use Rattle.sm_cc.specs.declared.ground.NumberedBase.{NumberedBase}
-use Rattle.sm_cc.specs.BaseClasses.{AreBaseClasses}
-use Rattle.sm_judge.specs.AllForms.{AreAllForms}
-use Rattle.sm_certify.specs.Given.{IsWhole, classes_by}
-use Rattle.sm_terms.specs.Listing.{numbers_of}
 use Rattle.sm_solve.proofs.grounding.facts_base.Goals as goal
 
 pub ground_of-requires-clause-forms : goal.ground_of-requires-clause-forms

@@ -1,7 +1,5 @@
 -- All terms of the table are listed, and the facts are given of them.
-use Rattle.std.proofs.Common.{◌∙◌}
-use Rattle.sm_term.specs.Tables.{trees_in}
-use Rattle.sm_certify.proofs.GivenLemmas.{whole_before, given_of_terms}
+use Rattle.sm_solve.proofs.Imports.{◌∙◌, trees_in, whole_before, given_of_terms}
 use Rattle.sm_solve.proofs.grounding.ground_of.Goals as goal
 
 pub of-requires-clause-forms : goal.of-requires-clause-forms

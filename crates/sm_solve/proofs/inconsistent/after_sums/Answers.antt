@@ -1,8 +1,4 @@
-use Rattle.std.proofs.Common.{length, subst}
-use Rattle.sm_term.specs.Tables.{trees_in, sorts_in}
-use Rattle.sm_judge.specs.Refutations.{GivesForms}
-use Rattle.sm_judge.specs.Seeing.{seen_in}
-use Rattle.sm_judge.specs.Forms.{forms_of}
+use Rattle.sm_solve.proofs.Imports.{length, subst, trees_in, sorts_in, GivesForms, seen_in, forms_of}
 use Rattle.sm_solve.proofs.InconsistentLemmas.{inconsistent_by_forms}
 use Rattle.sm_solve.proofs.inconsistent.after_sums.Goals as goal
 

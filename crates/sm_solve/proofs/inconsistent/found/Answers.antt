@@ -1,8 +1,4 @@
-use Rattle.std.proofs.Common.{Option, IfSome, List, subst}
-use Rattle.sm_term.specs.Assertions.{Assertion}
-use Rattle.sm_term.specs.Tables.{trees_in, sorts_in}
-use Rattle.sm_cert.specs.declared.tree.CertTree.{CertTree}
-use Rattle.sm_solve.specs.Walking.{ShowsVisit, ClosesIn}
+use Rattle.sm_solve.proofs.Imports.{Option, IfSome, List, subst, Assertion, trees_in, sorts_in, CertTree, ShowsVisit, ClosesIn}
 use Rattle.sm_solve.proofs.inconsistent.found.Goals as goal
 
 pub returns-then-names_what_it_reads-clause-closes : goal.returns-then-names_what_it_reads-clause-closes

@@ -1,7 +1,5 @@
-use Rattle.std.proofs.Common.{length, rules, sym, ap, ◌∙◌}
-use Rattle.sm_term.specs.Tables.{trees_in, sorts_in}
+use Rattle.sm_solve.proofs.Imports.{length, rules, sym, ap, ◌∙◌, trees_in, sorts_in, facts_count}
 use Rattle.sm_solve.proofs.inconsistent.inconsistent_of.Goals as goal
-use Rattle.sm_judge.proofs.ClosingLemmas.{facts_count}
 
 pub returns-in-Some-clause-inconsistent : goal.returns-in-Some-clause-inconsistent
 returns-in-Some-clause-inconsistent c = λ given are. record {

@@ -1,8 +1,5 @@
 -- The certificate of the branch with all parts, led by the lines that add these.
-use Rattle.std.proofs.Common.{refl, [], subst}
-use Rattle.sm_solve.specs.declared.visiting.Visit.{Visit}
-use Rattle.sm_list.specs.Branches.{with_parts}
-use Rattle.sm_solve.specs.Walking.{ShowsVisit}
+use Rattle.sm_solve.proofs.Imports.{refl, [], subst, Visit, with_parts, ShowsVisit}
 use Rattle.sm_solve.proofs.inconsistent.visited_tree.Goals as goal
 
 pub returns-in-Closed : goal.returns-in-Closed

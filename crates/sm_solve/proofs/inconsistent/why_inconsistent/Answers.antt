@@ -1,17 +1,5 @@
-use Rattle.std.proofs.Common.{◌≡◌, ℕ, length, IfOk, IfSome, sym, ap, subst, ◌∙◌}
-use Rattle.sm_term.specs.Tables.{trees_in, sorts_in, AreBefore}
-use Rattle.sm_cc.specs.Classes.{are_apart}
-use Rattle.sm_cc.specs.Rounds.{are_equal}
-use Rattle.sm_cc.specs.Views.{ClassesValue, setting_of}
-use Rattle.sm_judge.specs.Holding.{Seen, is_closed}
-use Rattle.sm_judge.specs.Labelled.{AreLabels}
-use Rattle.sm_judge.specs.Seeing.{seen_in}
-use Rattle.sm_judge.specs.declared.eliminating.ByForms.{ByForms}
-use Rattle.sm_judge.specs.Refutations.{TellsForms}
-use Rattle.sm_solve.specs.Inconsistent.{IsInconsistentBy}
-use Rattle.sm_judge.specs.Forms.{Walked, Closes, by_forms, forms_of}
+use Rattle.sm_solve.proofs.Imports.{◌≡◌, ℕ, length, IfOk, IfSome, sym, ap, subst, ◌∙◌, trees_in, sorts_in, AreBefore, are_apart, are_equal, ClassesValue, setting_of, Seen, is_closed, AreLabels, seen_in, ByForms, TellsForms, IsInconsistentBy, Walked, Closes, by_forms, forms_of, whole_before}
 use Rattle.sm_solve.proofs.BranchLabelsLemmas.{labels_of_branch}
-use Rattle.sm_certify.proofs.GivenLemmas.{whole_before}
 use Rattle.sm_solve.proofs.inconsistent.why_inconsistent.Goals as goal
 
 pub labels-requires : goal.labels-requires

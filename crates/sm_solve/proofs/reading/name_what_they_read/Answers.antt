@@ -1,5 +1,4 @@
-use Rattle.std.proofs.Common.{◌≤◌, length, sym, subst, ◌∙◌, arith}
-use Rattle.std.proofs.lemmas.List.{take_all}
+use Rattle.sm_solve.proofs.Imports.{◌≤◌, length, sym, subst, ◌∙◌, arith, take_all}
 use Rattle.sm_solve.proofs.ReadingLemmas.{LeadTo, lead_more}
 use Rattle.sm_solve.proofs.reading.name_what_they_read.Goals as goal
 

@@ -1,9 +1,4 @@
-use Rattle.std.proofs.Common.{sym, ap, ◌∙◌, subst}
-use Rattle.sm_num.specs.Combining.{Fits}
-use Rattle.sm_term.specs.Tables.{trees_in, sorts_in}
-use Rattle.sm_judge.specs.Refutations.{GivesForms}
-use Rattle.sm_judge.specs.Seeing.{seen_in}
-use Rattle.sm_judge.specs.Forms.{forms_of}
+use Rattle.sm_solve.proofs.Imports.{sym, ap, ◌∙◌, subst, Fits, trees_in, sorts_in, GivesForms, seen_in, forms_of}
 use Rattle.sm_solve.proofs.same_forms.are_forms.Goals as goal
 
 pub returns-in-Ok : goal.returns-in-Ok

@@ -1,5 +1,4 @@
-use Rattle.std.proofs.Common.{sym, ◌∙◌, arith}
-use Rattle.std.proofs.lemmas.List.{take_all}
+use Rattle.sm_solve.proofs.Imports.{sym, ◌∙◌, arith, take_all}
 use Rattle.sm_solve.proofs.InconsistentLemmas.{same_longer}
 use Rattle.sm_solve.proofs.same_forms.are_same.Goals as goal
 

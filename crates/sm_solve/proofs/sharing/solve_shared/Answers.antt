@@ -1,15 +1,5 @@
 -- The obligation without the node is the same over the table that has grown, and the node stays.
-use Rattle.std.proofs.Common.{List}
-use Rattle.sm_syntax.specs.text.Sorts.{Sorts}
-use Rattle.sm_term.specs.Assertions.{Assertion}
-use Rattle.sm_term.specs.Formulas.{numbered}
-use Rattle.sm_term.specs.Sorted.{IsFormSorted, AreFormsSorted}
-use Rattle.sm_term.specs.Tables.{trees_in, sorts_in}
-use Rattle.sm_solve.specs.Answers.{Tells, Certifies, terms_walked, NamesOnly}
-use Rattle.sm_list.specs.Parts.{all_numbered, assertions_in}
-use Rattle.sm_solve.specs.Walk.{walk}
-use Rattle.sm_list.proofs.OwnLemmas.{facts_within_grown}
-use Rattle.sm_term.proofs.FormsLemmas.{form_kept}
+use Rattle.sm_solve.proofs.Imports.{List, Sorts, Assertion, numbered, IsFormSorted, AreFormsSorted, trees_in, sorts_in, Tells, Certifies, terms_walked, NamesOnly, all_numbered, assertions_in, walk, facts_within_grown, form_kept}
 use Rattle.sm_solve.proofs.StaysLemmas.{moved_on, moved_back}
 use Rattle.sm_solve.proofs.sharing.solve_shared.Goals as goal
 

@@ -1,17 +1,5 @@
 -- The branch over its own table is that of the facts and the contrary of the target, with all parts.
-use Rattle.std.proofs.Common.{◌++◌, ◌∷◌, [], List, length, sym, ap, subst, ◌∙◌}
-use Rattle.sm_syntax.specs.text.Sorts.{Sorts}
-use Rattle.sm_term.specs.Assertions.{negate}
-use Rattle.sm_term.specs.Formulas.{numbered, assertion_in}
-use Rattle.sm_term.specs.declared.formula.Formula.{Formula}
-use Rattle.sm_term.specs.Sorted.{AreFormsSorted}
-use Rattle.sm_term.specs.Tables.{trees_in, sorts_in}
-use Rattle.sm_term.specs.Terms.{Tree}
-use Rattle.sm_solve.specs.Answers.{Tells, NamesOnly}
-use Rattle.sm_list.specs.Branches.{with_parts, terms_of}
-use Rattle.sm_list.specs.Parts.{all_numbered, assertions_in, AreFormulasWithin}
-use Rattle.sm_solve.specs.Walk.{walk_from}
-use Rattle.sm_solve.specs.Walking.{Shows}
+use Rattle.sm_solve.proofs.Imports.{◌++◌, ◌∷◌, [], List, length, sym, ap, subst, ◌∙◌, Sorts, negate, numbered, assertion_in, Formula, AreFormsSorted, trees_in, sorts_in, Tree, Tells, NamesOnly, with_parts, terms_of, all_numbered, assertions_in, AreFormulasWithin, walk_from, Shows}
 use Rattle.sm_solve.proofs.NamingLemmas.{named_root}
 use Rattle.sm_solve.proofs.SolvingLemmas.{given_sorted, walk_own, shows_certify}
 use Rattle.sm_solve.proofs.solving.answered.Goals as goal

@@ -1,7 +1,4 @@
-use Rattle.std.proofs.Common.{◌≡◌, List, subst}
-use Rattle.sm_term.specs.Assertions.{Assertion}
-use Rattle.sm_list.specs.Branches.{with_parts}
-use Rattle.sm_list.specs.Parts.{all_numbered, assertions_in}
+use Rattle.sm_solve.proofs.Imports.{◌≡◌, List, subst, Assertion, with_parts, all_numbered, assertions_in}
 use Rattle.sm_solve.proofs.SolvingLemmas.{given_is, given_within}
 use Rattle.sm_solve.proofs.solving.given_facts.Goals as goal
 

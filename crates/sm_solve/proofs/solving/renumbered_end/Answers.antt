@@ -1,12 +1,6 @@
 -- The certificate closes the same branch under other numbers, and the leaf has the same facts.
-use Rattle.std.proofs.Common.{List, length, sym, ap, subst, ◌∙◌}
-use Rattle.sm_term.specs.declared.formula.Formula.{Formula}
-use Rattle.sm_term.specs.declared.term.TermId.{TermId}
+use Rattle.sm_solve.proofs.Imports.{List, length, sym, ap, subst, ◌∙◌, Formula, TermId, all_numbered, assertions_in, AreFormulasWithin, AreTermsOf, Opens, TellsEnd, ShowsEnd}
 use Rattle.sm_solve.specs.declared.ending.WalkEnd.{WalkEnd}
-use Rattle.sm_list.specs.Parts.{all_numbered, assertions_in, AreFormulasWithin}
-use Rattle.sm_list.specs.Renumbered.{AreTermsOf}
-use Rattle.sm_judge.specs.Forms.{Opens}
-use Rattle.sm_solve.specs.Walking.{TellsEnd, ShowsEnd}
 use Rattle.sm_solve.proofs.SolvingLemmas.{renumbered_closes}
 use Rattle.sm_solve.proofs.solving.renumbered_end.Goals as goal
 

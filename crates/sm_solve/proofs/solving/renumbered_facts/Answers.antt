@@ -1,10 +1,6 @@
-use Rattle.std.proofs.Common.{◌≤◌, List, length, ap, ◌∙◌, arith}
-use Rattle.std.proofs.lemmas.List.{take_all}
-use Rattle.sm_term.specs.declared.formula.Formula.{Formula}
-use Rattle.sm_list.specs.Parts.{all_numbered, assertions_in}
+use Rattle.sm_solve.proofs.Imports.{◌≤◌, List, length, ap, ◌∙◌, arith, take_all, Formula, all_numbered, assertions_in, within_at}
 use Rattle.sm_solve.proofs.SolvingLemmas.{renumbered_more, more_within}
 use Rattle.sm_solve.proofs.solving.renumbered_facts.Goals as goal
-use Rattle.sm_judge.proofs.ClosingLemmas.{within_at}
 
 pub loop-f-preserved : goal.loop-f-preserved
 loop-f-preserved c =

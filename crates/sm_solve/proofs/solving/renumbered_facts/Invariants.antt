@@ -1,9 +1,5 @@
 -- The formulas so far stand for those that were passed.
-use Rattle.std.proofs.Common.{◌≡◌, List, length, take}
-use Rattle.sm_syntax.specs.text.Sorts.{Sorts}
-use Rattle.sm_term.specs.Terms.{Tree}
-use Rattle.sm_list.specs.Parts.{all_numbered, assertions_in, AreFormulasWithin}
-use Rattle.sm_list.specs.Renumbered.{AreTermsOf}
+use Rattle.sm_solve.proofs.Imports.{◌≡◌, List, length, take, Sorts, Tree, all_numbered, assertions_in, AreFormulasWithin, AreTermsOf}
 use Rattle.sm_solve.proofs.solving.renumbered_facts.Given as goal
 
 abbrev pub invariant-loop-f : goal.invariant-loop-f

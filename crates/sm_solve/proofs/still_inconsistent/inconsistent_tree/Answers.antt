@@ -1,11 +1,5 @@
 -- The walk closes at its first visit, and the certificate of the facts serves.
-use Rattle.std.proofs.Common.{◌≡◌, ℕ, List, sym, subst, arith}
-use Rattle.sm_term.specs.Tables.{trees_in, sorts_in}
-use Rattle.sm_term.specs.declared.term.TermId.{TermId}
-use Rattle.sm_list.specs.Parts.{all_numbered, assertions_in}
-use Rattle.sm_list.specs.Renumbered.{AreTermsOf}
-use Rattle.sm_judge.specs.Forms.{Closes}
-use Rattle.sm_solve.specs.Walk.{walk_from}
+use Rattle.sm_solve.proofs.Imports.{◌≡◌, ℕ, List, sym, subst, arith, trees_in, sorts_in, TermId, all_numbered, assertions_in, AreTermsOf, Closes, walk_from}
 use Rattle.sm_solve.proofs.InconsistentLemmas.{visit_walks, closes_on, first_terms}
 use Rattle.sm_solve.proofs.still_inconsistent.inconsistent_tree.Goals as goal
 

@@ -1,25 +1,10 @@
 -- By labels of equal terms the contrary can't hold, or else they are exact and the forms are the known ones.
-use Rattle.std.proofs.Common.{◌≡◌, ℕ, true, Option, IfSome, Vec, Global, List, length, take, slice_set, refl, sym, ap, subst, ◌∙◌}
-use Rattle.std.proofs.lemmas.Result.{IfOk-weaker}
-use Rattle.sm_num.specs.Combining.{Outcome, Fits}
-use Rattle.sm_num.specs.Forms.{Linear}
+use Rattle.sm_solve.proofs.Imports.{◌≡◌, ℕ, true, Option, IfSome, List, length, take, slice_set, refl, sym, ap, subst, ◌∙◌, IfOk-weaker, Outcome, Fits, Linear, trees_in, sorts_in, TermId, are_apart, are_equal, setting_of, GivenFact, given_from, classes_by, branch_of, Seen, AreLabels, seen_in, Closes, by_forms, forms_of, by_classes, whole_before, given_of_terms, seen_by_classes}
+use Rattle.std.proofs.Common.{Vec, Global}
 use Rattle.sm_term.specs.declared.formula.Formula.TheVariants as tree
-use Rattle.sm_term.specs.Tables.{trees_in, sorts_in}
-use Rattle.sm_term.specs.declared.term.TermId.{TermId}
 use Rattle.sm_cc.specs.AddedTerms.{AddsOnly, AreEqualByLabels}
-use Rattle.sm_cc.specs.Classes.{are_apart}
-use Rattle.sm_cc.specs.Rounds.{are_equal}
-use Rattle.sm_cc.specs.Views.{setting_of}
-use Rattle.sm_cc.specs.declared.classes.GivenFact.{GivenFact}
-use Rattle.sm_certify.specs.Given.{given_from, classes_by, branch_of}
-use Rattle.sm_judge.specs.Holding.{Seen}
-use Rattle.sm_judge.specs.Labelled.{AreLabels}
-use Rattle.sm_judge.specs.Seeing.{seen_in}
-use Rattle.sm_judge.specs.Forms.{Closes, by_forms, forms_of}
-use Rattle.sm_solve.specs.Walk.{by_classes}
 use Rattle.sm_solve.proofs.AtGoalLemmas.{count_of}
 use Rattle.sm_solve.proofs.BranchLabelsLemmas.{labels_of_branch}
-use Rattle.sm_certify.proofs.GivenLemmas.{whole_before, given_of_terms, seen_by_classes}
 use Rattle.sm_solve.proofs.InconsistentLemmas.{closed_walks, closes_either}
 use Rattle.sm_solve.proofs.still_inconsistent.is_inconsistent_over.Goals as goal
 

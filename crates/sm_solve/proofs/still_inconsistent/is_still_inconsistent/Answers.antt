@@ -1,12 +1,4 @@
-use Rattle.std.proofs.Common.{ℕ, List, length, ap, sym, subst, ◌∙◌}
-use Rattle.sm_num.specs.Combining.{Fits}
-use Rattle.sm_num.specs.Forms.{Linear}
-use Rattle.sm_term.specs.Tables.{trees_in, sorts_in}
-use Rattle.sm_list.specs.Branches.{with_parts}
-use Rattle.sm_certify.specs.Given.{branch_of, seen_by}
-use Rattle.sm_list.specs.Parts.{all_numbered, assertions_in}
-use Rattle.sm_solve.specs.Inconsistent.{IsInconsistentBy}
-use Rattle.sm_judge.specs.Forms.{by_forms}
+use Rattle.sm_solve.proofs.Imports.{ℕ, List, length, ap, sym, subst, ◌∙◌, Fits, Linear, trees_in, sorts_in, with_parts, branch_of, seen_by, all_numbered, assertions_in, IsInconsistentBy, by_forms}
 use Rattle.sm_solve.proofs.InconsistentLemmas.{closed_walks, closed_below, sums_later}
 use Rattle.sm_solve.proofs.still_inconsistent.is_still_inconsistent.Goals as goal
 

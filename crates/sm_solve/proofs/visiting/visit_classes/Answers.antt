@@ -1,16 +1,6 @@
-use Rattle.std.proofs.Common.{◌≡◌, true, false, is_some, Option, length, IfOk, sym, ap, subst, ◌∙◌}
-use Rattle.sm_term.specs.Tables.{trees_in, sorts_in, AreBefore}
-use Rattle.sm_cc.specs.Rounds.{are_equal}
-use Rattle.sm_cc.specs.Views.{ClassesValue, setting_of}
+use Rattle.sm_solve.proofs.Imports.{◌≡◌, true, false, is_some, Option, length, IfOk, sym, ap, subst, ◌∙◌, trees_in, sorts_in, AreBefore, are_equal, ClassesValue, setting_of, branch_of, is_closed, AreLabels, all_numbered, assertions_in, Walked, TellsVisit, whole_before}
 use Rattle.sm_judge.specs.declared.closing.Closing.{Closing}
-use Rattle.sm_certify.specs.Given.{branch_of}
-use Rattle.sm_judge.specs.Holding.{is_closed}
-use Rattle.sm_judge.specs.Labelled.{AreLabels}
-use Rattle.sm_list.specs.Parts.{all_numbered, assertions_in}
-use Rattle.sm_judge.specs.Forms.{Walked}
-use Rattle.sm_solve.specs.Walking.{TellsVisit}
 use Rattle.sm_solve.proofs.BranchLabelsLemmas.{labels_of_branch}
-use Rattle.sm_certify.proofs.GivenLemmas.{whole_before}
 use Rattle.sm_solve.proofs.WalkingLemmas.{closed_told, open_told}
 use Rattle.sm_solve.proofs.visiting.visit_classes.Goals as goal
 

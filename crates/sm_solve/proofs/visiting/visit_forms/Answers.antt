@@ -1,17 +1,4 @@
-use Rattle.std.proofs.Common.{◌≡◌, ℕ, length, IfOk, sym, subst}
-use Rattle.sm_term.specs.Tables.{trees_in, sorts_in}
-use Rattle.sm_cc.specs.Classes.{are_apart}
-use Rattle.sm_cc.specs.Rounds.{are_equal}
-use Rattle.sm_cc.specs.Views.{setting_of}
-use Rattle.sm_judge.specs.declared.eliminating.ByForms.{ByForms}
-use Rattle.sm_certify.specs.Given.{branch_of}
-use Rattle.sm_judge.specs.Holding.{Seen, split_of}
-use Rattle.sm_list.specs.Parts.{all_numbered, assertions_in}
-use Rattle.sm_judge.specs.Refutations.{TellsForms}
-use Rattle.sm_judge.specs.Seeing.{seen_in}
-use Rattle.sm_judge.specs.Forms.{Walked, by_forms, forms_of}
-use Rattle.sm_solve.specs.Walk.{by_no_split, by_parts}
-use Rattle.sm_solve.specs.Walking.{TellsVisit}
+use Rattle.sm_solve.proofs.Imports.{◌≡◌, ℕ, length, IfOk, sym, subst, trees_in, sorts_in, are_apart, are_equal, setting_of, ByForms, branch_of, Seen, split_of, all_numbered, assertions_in, TellsForms, seen_in, Walked, by_forms, forms_of, by_no_split, by_parts, TellsVisit}
 use Rattle.sm_solve.proofs.visiting.visit_forms.Goals as goal
 
 pub returns-in-GoesOn-clause-tells : goal.returns-in-GoesOn-clause-tells

@@ -1,15 +1,5 @@
 -- A split names no terms but those of the branch; without one the decision of its forms tells.
-use Rattle.std.proofs.Common.{◌≡◌, length, subst, ◌∙◌}
-use Rattle.sm_term.specs.Tables.{trees_in, sorts_in}
-use Rattle.sm_cc.specs.Classes.{are_apart}
-use Rattle.sm_cc.specs.Rounds.{are_equal}
-use Rattle.sm_cc.specs.Views.{setting_of}
-use Rattle.sm_certify.specs.Given.{branch_of}
-use Rattle.sm_judge.specs.Holding.{Seen}
-use Rattle.sm_list.specs.Parts.{all_numbered, assertions_in}
-use Rattle.sm_judge.specs.Seeing.{seen_in}
-use Rattle.sm_judge.specs.Splits.{IsToldWithin, SplitsBranch}
-use Rattle.sm_solve.specs.Walk.{by_no_split}
+use Rattle.sm_solve.proofs.Imports.{◌≡◌, length, subst, ◌∙◌, trees_in, sorts_in, are_apart, are_equal, setting_of, branch_of, Seen, all_numbered, assertions_in, seen_in, IsToldWithin, SplitsBranch, by_no_split}
 use Rattle.sm_solve.proofs.NamingLemmas.{split_names}
 use Rattle.sm_solve.proofs.WalkingLemmas.{split_is}
 use Rattle.sm_solve.proofs.visiting.visit_split.Goals as goal

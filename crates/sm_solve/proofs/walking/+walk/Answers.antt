@@ -1,24 +1,10 @@
 -- The walk goes on as the visit of the branch tells, and both parts begin from the same facts and the same base.
-use Rattle.std.proofs.Common.{◌≡◌, ◌+◌, ◌-◌, ◌*◌, ◌<◌, ℕ, Some, List, [], ◌∷◌, ◌++◌, length, take, IfOk, sym, ap, subst, ◌∙◌, arith}
-use Rattle.std.proofs.lemmas.List.{length-append}
-use Rattle.sm_term.specs.Assertions.{Assertion}
-use Rattle.sm_term.specs.Formulas.{numbered, assertion_in}
-use Rattle.sm_term.specs.declared.formula.Formula.{Formula}
-use Rattle.sm_term.specs.Sorted.{AreFormsSorted}
-use Rattle.sm_term.specs.Tables.{trees_in, sorts_in}
-use Rattle.sm_solve.specs.declared.visiting.Visit.{Visit}
-use Rattle.sm_certify.specs.Given.{branch_of}
-use Rattle.sm_list.specs.Parts.{all_numbered, assertions_in, AreFormulasWithin}
-use Rattle.sm_judge.specs.Splits.{split_told}
-use Rattle.sm_judge.specs.Forms.{Walked}
-use Rattle.sm_solve.specs.Naming.{AreNamed, NamesNoMore}
-use Rattle.sm_solve.specs.Walk.{walk_from, by_classes}
-use Rattle.sm_solve.specs.Walking.{by_split, TellsVisit, ShowsVisit, IsVisitCounted, TellsEnd, ShowsEnd, IsEndCounted}
+use Rattle.sm_solve.proofs.Imports.{◌≡◌, ◌+◌, ◌-◌, ◌*◌, ◌<◌, ℕ, List, [], ◌∷◌, ◌++◌, length, take, IfOk, sym, ap, subst, ◌∙◌, arith, length-append, Assertion, numbered, assertion_in, Formula, AreFormsSorted, trees_in, sorts_in, Visit, branch_of, all_numbered, assertions_in, AreFormulasWithin, split_told, Walked, AreNamed, NamesNoMore, walk_from, by_classes, by_split, TellsVisit, ShowsVisit, IsVisitCounted, TellsEnd, ShowsEnd, IsEndCounted, facts_count}
+use Rattle.std.proofs.Common.{Some}
 use Rattle.sm_solve.proofs.BasesLemmas.{led_same, led_longer}
 use Rattle.sm_solve.proofs.NamingLemmas.{named_more}
 use Rattle.sm_solve.proofs.SortedLemmas.{sorted_more, told_sorted}
 use Rattle.sm_solve.proofs.WalkingLemmas.{walk_next, cut_back}
-use Rattle.sm_judge.proofs.ClosingLemmas.{facts_count}
 use Rattle.sm_solve.proofs.walking.+walk.Goals as goal
 
 pub walk_from-visit_branch-requires-clause-led : goal.walk_from-visit_branch-requires-clause-led

@@ -1,7 +1,4 @@
-use Rattle.std.proofs.Common.{◌-◌, ◌/◌, ◌++◌, List, map, reverse, ap, ◌∙◌}
-use Rattle.sm_syntax.specs.declared.copies.CopyName.{CopyName}
-use Rattle.sm_syntax.specs.trees.Copies.{copy_named}
-use Rattle.sm_suggest.specs.Combinations.{choices}
+use Rattle.sm_suggest.proofs.Imports.{◌-◌, ◌/◌, ◌++◌, List, map, reverse, ap, ◌∙◌, CopyName, copy_named, choices}
 use Rattle.sm_suggest.proofs.ChoicesLemmas.{digit_taken}
 use Rattle.sm_suggest.proofs.choosing.choices.Goals as goal
 

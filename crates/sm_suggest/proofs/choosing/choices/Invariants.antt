@@ -1,7 +1,5 @@
 -- The digits that are left, and then those that were taken, turned round, are the digits of the whole.
-use Rattle.std.proofs.Common.{◌≡◌, ◌++◌, map, reverse}
-use Rattle.sm_syntax.specs.trees.Copies.{copy_named}
-use Rattle.sm_suggest.specs.Combinations.{choices}
+use Rattle.sm_suggest.proofs.Imports.{◌≡◌, ◌++◌, map, reverse, copy_named, choices}
 use Rattle.sm_suggest.proofs.choosing.choices.Given as goal
 
 abbrev pub invariant-loop-left : goal.invariant-loop-left

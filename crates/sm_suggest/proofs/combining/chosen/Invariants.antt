@@ -1,8 +1,5 @@
 -- The fillings so far, and then those of the holes that are left, are all.
-use Rattle.std.proofs.Common.{◌≡◌, ◌++◌, map, drop}
-use Rattle.sm_syntax.specs.trees.Copies.{copy_named}
-use Rattle.sm_text.specs.Tasks.{lists_of}
-use Rattle.sm_suggest.specs.Combinations.{chosen}
+use Rattle.sm_suggest.proofs.Imports.{◌≡◌, ◌++◌, map, drop, copy_named, lists_of, chosen}
 use Rattle.sm_suggest.proofs.CombinedLemmas.{entry}
 use Rattle.sm_suggest.proofs.combining.chosen.Given as goal
 

@@ -1,11 +1,4 @@
-use Rattle.std.proofs.Common.{◌≡◌, ℕ, List, length, map, sym, ap, ◌∙◌, arith}
-use Rattle.sm_syntax.specs.claim.ConflictFree.{Copy}
-use Rattle.sm_syntax.specs.text.Conditions.{holes_of}
-use Rattle.sm_syntax.specs.trees.Copies.{copy_named}
-use Rattle.sm_syntax.specs.trees.Views.{code_of}
-use Rattle.sm_text.specs.Tasks.{lists_of}
-use Rattle.sm_text.specs.declared.task.Task.{Task}
-use Rattle.sm_suggest.specs.Combinations.{choices, chosen}
+use Rattle.sm_suggest.proofs.Imports.{◌≡◌, ℕ, List, length, map, sym, ap, ◌∙◌, arith, Copy, holes_of, copy_named, code_of, lists_of, Task, choices, chosen}
 use Rattle.sm_suggest.proofs.ChoicesLemmas.{as_many}
 use Rattle.sm_suggest.proofs.CombinedLemmas.{combined}
 use Rattle.sm_suggest.proofs.combining.combine_fillings.Goals as goal

@@ -1,7 +1,4 @@
-use Rattle.std.proofs.Common.{subst, sym}
-use Rattle.sm_text.specs.Tasks.{parts_of}
-use Rattle.sm_suggest.specs.Combinations.{combination}
-use Rattle.sm_suggest.specs.Fit.{IsFit}
+use Rattle.sm_suggest.proofs.Imports.{subst, sym, parts_of, combination, IsFit}
 use Rattle.sm_suggest.proofs.FirstLemmas.{answered_at}
 use Rattle.sm_suggest.proofs.FitCombinations.{combinations_are_fit}
 use Rattle.sm_suggest.proofs.suggesting.is_accepted.Goals as goal

@@ -1,8 +1,5 @@
-use Rattle.std.proofs.Common.{◌≡◌, ℕ, ◌<◌, Bool, false, length, subst, ap, arith}
+use Rattle.sm_suggest.proofs.Imports.{◌≡◌, ℕ, ◌<◌, Bool, false, length, subst, ap, arith, parts_of, combination, combination_count, hole_count, MayAnswer}
 use borrow.Author.Count.{below_more}
-use Rattle.sm_text.specs.Tasks.{parts_of}
-use Rattle.sm_suggest.specs.Combinations.{combination, combination_count, hole_count}
-use Rattle.sm_suggest.specs.First.{MayAnswer}
 use Rattle.sm_suggest.proofs.FirstLemmas.{counted}
 use Rattle.sm_suggest.proofs.suggesting.suggest.Goals as goal
 

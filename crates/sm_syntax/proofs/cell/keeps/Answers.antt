@@ -1,6 +1,5 @@
 -- Where all three tests pass, the three parts make Keeps.
-use Rattle.std.proofs.Common.{rules, refl}
-use Rattle.sm_syntax.specs.claim.Keeps.{KeepsChange, AddsNothing}
+use Rattle.sm_syntax.proofs.Imports.{rules, refl, KeepsChange, AddsNothing}
 use Rattle.sm_syntax.proofs.cell.keeps.Goals as goal
 
 pub returns-else-not-adds_nothing-clause-kept : goal.returns-else-not-adds_nothing-clause-kept

@@ -1,6 +1,4 @@
-use Rattle.std.proofs.Common.{nat_eq, arith}
-use Rattle.std.proofs.lemmas.Grind.{common_steps}
-use Rattle.std.specs.HashMap.{get}
+use Rattle.sm_syntax.proofs.Imports.{nat_eq, arith, common_steps, get}
 use Rattle.sm_syntax.proofs.Uses.{first_sort_fault-drop, reports_or}
 use Rattle.sm_syntax.proofs.checks.+check_block.Goals as goal
 

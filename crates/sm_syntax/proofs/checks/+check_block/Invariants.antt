@@ -1,9 +1,4 @@
-use Rattle.std.proofs.Common.{◌≡◌, drop, map, nat_eq}
-use Rattle.std.specs.HashMap.{get}
-use Rattle.sm_syntax.specs.text.Conditions.{first_sort_fault}
-use Rattle.sm_syntax.specs.text.Uses.{names_used}
-use Rattle.sm_syntax.specs.claim.Syntax.{End}
-use Rattle.sm_syntax.specs.trees.Views.{sequence, statement_of, code_of}
+use Rattle.sm_syntax.proofs.Imports.{◌≡◌, drop, map, nat_eq, get, first_sort_fault, names_used, End, sequence, statement_of, code_of}
 use Rattle.sm_syntax.proofs.checks.+check_block.Given as goal
 
 abbrev pub invariant-check_block-loop-s : goal.invariant-check_block-loop-s

@@ -1,5 +1,4 @@
-use Rattle.std.proofs.Common.{◌+◌, ◌*◌, max}
-use Rattle.sm_syntax.specs.declared.tree.Expr.{size-Expr}
+use Rattle.sm_syntax.proofs.Imports.{◌+◌, ◌*◌, max, size-Expr}
 use Rattle.sm_syntax.proofs.checks.+check_expr.Given as goal
 
 abbrev pub decreases-check_expr : goal.decreases-check_expr

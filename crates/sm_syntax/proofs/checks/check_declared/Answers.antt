@@ -1,8 +1,6 @@
-use Rattle.std.proofs.Common.{ℕ, ◌∙◌, List, map, ap, add-one, drop-cons}
-use Rattle.sm_syntax.specs.declared.tree.Name.{Name}
+use Rattle.sm_syntax.proofs.Imports.{ℕ, ◌∙◌, List, map, ap, add-one, drop-cons, Name, first_repeated}
 use Rattle.sm_syntax.specs.declared.tree.Sort.{Sort}
 use Rattle.sm_syntax.specs.declared.tree.Sort.TheVariants.{Num}
-use Rattle.sm_syntax.specs.text.Conditions.{first_repeated}
 use Rattle.sm_syntax.proofs.Repeats.{sorted_numbers, first_repeated-new, added_new}
 use Rattle.sm_syntax.proofs.checks.check_declared.Goals as goal
 

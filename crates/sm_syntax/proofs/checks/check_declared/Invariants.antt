@@ -1,7 +1,5 @@
-use Rattle.std.proofs.Common.{◌≡◌, ℕ, [], map, drop}
+use Rattle.sm_syntax.proofs.Imports.{◌≡◌, ℕ, [], map, drop, first_repeated, declared_of}
 use Rattle.sm_syntax.specs.declared.tree.Sort.{Sort}
-use Rattle.sm_syntax.specs.text.Conditions.{first_repeated}
-use Rattle.sm_syntax.specs.trees.Programs.{declared_of}
 use Rattle.sm_syntax.proofs.Repeats.{sorted_numbers}
 use Rattle.sm_syntax.proofs.checks.check_declared.Given as goal
 

@@ -1,10 +1,8 @@
 use denote.Enum.Bare.{sameb}
-use Rattle.std.proofs.Common.{◌≡◌, ℕ, true, false, Option, Some, None, refl, sym, ap, ◌∙◌, arith}
-use Rattle.std.proofs.lemmas.Grind.{common_steps}
+use Rattle.sm_syntax.proofs.Imports.{◌≡◌, ℕ, true, false, Option, Some, None, refl, sym, ap, ◌∙◌, arith, common_steps, WrongSort, sort_refusal}
 use Rattle.sm_syntax.specs.contracts.tree.Sort.{the_type}
 use Rattle.sm_syntax.specs.declared.tree.Sort.{Sort}
 use Rattle.sm_syntax.specs.declared.tree.Sort.TheVariants.{Num, Arr}
-use Rattle.sm_syntax.specs.text.Conditions.{WrongSort, sort_refusal}
 use Rattle.sm_syntax.proofs.Uses.{first_sort_fault-one}
 use Rattle.sm_syntax.proofs.checks.check_name.Goals as goal
 

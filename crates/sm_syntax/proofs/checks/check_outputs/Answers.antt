@@ -1,7 +1,4 @@
-use Rattle.std.proofs.Common.{◌∙◌, nat_eq, List, sym, ap, add-one, drop-cons}
-use Rattle.std.specs.HashMap.{get}
-use Rattle.sm_syntax.specs.declared.tree.Name.{Name}
-use Rattle.sm_syntax.specs.text.Conditions.{first_output_fault}
+use Rattle.sm_syntax.proofs.Imports.{◌∙◌, nat_eq, List, sym, ap, add-one, drop-cons, get, Name, first_output_fault}
 use Rattle.sm_syntax.proofs.Repeats.{name_numbers, first_output_fault-new, added_new}
 use Rattle.sm_syntax.proofs.checks.check_outputs.Goals as goal
 

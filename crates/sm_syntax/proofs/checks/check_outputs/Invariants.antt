@@ -1,7 +1,4 @@
-use Rattle.std.proofs.Common.{◌≡◌, [], drop, nat_eq}
-use Rattle.std.specs.HashMap.{get}
-use Rattle.sm_syntax.specs.text.Conditions.{first_output_fault}
-use Rattle.sm_syntax.specs.trees.Programs.{outputs_of}
+use Rattle.sm_syntax.proofs.Imports.{◌≡◌, [], drop, nat_eq, get, first_output_fault, outputs_of}
 use Rattle.sm_syntax.proofs.Repeats.{name_numbers}
 use Rattle.sm_syntax.proofs.checks.check_outputs.Given as goal
 

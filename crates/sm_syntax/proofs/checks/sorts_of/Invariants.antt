@@ -1,6 +1,4 @@
-use Rattle.std.proofs.Common.{◌≡◌, ℕ, drop}
-use Rattle.sm_syntax.specs.text.Parts.{sort_of}
-use Rattle.sm_syntax.specs.trees.Programs.{declared_of}
+use Rattle.sm_syntax.proofs.Imports.{◌≡◌, ℕ, drop, sort_of, declared_of}
 use Rattle.sm_syntax.proofs.Repeats.{sorted_numbers, sorts_after}
 use Rattle.sm_syntax.proofs.checks.sorts_of.Given as goal
 

@@ -1,9 +1,5 @@
-use Rattle.std.proofs.Common.{◌≡◌, subst, arith}
-use Rattle.std.proofs.lemmas.Grind.{common_steps}
-use Rattle.sm_syntax.specs.text.Conditions.{size_fault, program_fault}
-use Rattle.sm_syntax.specs.trees.Faults.{Reports}
-use Rattle.sm_syntax.specs.trees.Programs.{declared_of, outputs_of}
-use Rattle.sm_syntax.specs.trees.Views.{code_of}
+use Rattle.sm_syntax.proofs.Imports.{◌≡◌, subst, arith, common_steps, size_fault, Reports, declared_of, outputs_of, code_of}
+use Rattle.sm_syntax.specs.text.Conditions.{program_fault}
 use Rattle.sm_syntax.proofs.Uses.{conditions}
 use Rattle.sm_syntax.proofs.checks.well_formed_block.Goals as goal
 

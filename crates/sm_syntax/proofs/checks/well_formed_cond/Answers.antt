@@ -1,10 +1,5 @@
-use Rattle.std.proofs.Common.{◌≡◌, Some, ap, subst, arith}
-use Rattle.sm_syntax.specs.text.Conditions.{first_sort_fault, size_fault, ill_assumed}
-use Rattle.sm_syntax.specs.text.Uses.{names_tested}
-use Rattle.sm_syntax.specs.trees.Faults.{Reports}
-use Rattle.sm_syntax.specs.trees.Programs.{declared_of}
-use Rattle.sm_syntax.specs.text.Sorts.{Sorts}
-use Rattle.sm_syntax.specs.trees.Views.{condition_of}
+use Rattle.sm_syntax.proofs.Imports.{◌≡◌, Some, ap, subst, arith, first_sort_fault, size_fault, names_tested, Reports, declared_of, Sorts, condition_of}
+use Rattle.sm_syntax.specs.text.Conditions.{ill_assumed}
 use Rattle.sm_syntax.proofs.Uses.{conditions}
 use Rattle.sm_syntax.proofs.checks.well_formed_cond.Goals as goal
 

@@ -1,6 +1,5 @@
 -- The copies so far stand for the statements so far.
-use Rattle.std.proofs.Common.{◌≡◌, map, take}
-use Rattle.sm_syntax.specs.trees.Views.{statement_of}
+use Rattle.sm_syntax.proofs.Imports.{◌≡◌, map, take, statement_of}
 use Rattle.sm_syntax.proofs.copy.+copy_statement.Given as goal
 
 abbrev pub invariant-copy_block-loop-s : goal.invariant-copy_block-loop-s

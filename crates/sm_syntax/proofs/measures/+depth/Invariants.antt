@@ -1,7 +1,4 @@
-use Rattle.std.proofs.Common.{◌≡◌, ◌-◌, ◌^◌, ◌≤◌, map, drop, max, min}
-use Rattle.sm_syntax.specs.text.Conditions.{code_depth}
-use Rattle.sm_syntax.specs.claim.Syntax.{End}
-use Rattle.sm_syntax.specs.trees.Views.{sequence, statement_of, code_of}
+use Rattle.sm_syntax.proofs.Imports.{◌≡◌, ◌-◌, ◌^◌, ◌≤◌, map, drop, max, min, code_depth, End, sequence, statement_of, code_of}
 use Rattle.sm_syntax.proofs.measures.+depth.Given as goal
 
 abbrev pub invariant-depth-loop-s : goal.invariant-depth-loop-s

@@ -1,5 +1,4 @@
-use Rattle.std.proofs.Common.{◌+◌, ◌*◌, max}
-use Rattle.sm_syntax.specs.declared.tree.Expr.{size-Expr}
+use Rattle.sm_syntax.proofs.Imports.{◌+◌, ◌*◌, max, size-Expr}
 use Rattle.sm_syntax.proofs.measures.+expression_depth.Given as goal
 
 abbrev pub decreases-depth_of_expr : goal.decreases-depth_of_expr

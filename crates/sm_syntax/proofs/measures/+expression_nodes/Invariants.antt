@@ -1,5 +1,4 @@
-use Rattle.std.proofs.Common.{◌+◌, ◌*◌, max}
-use Rattle.sm_syntax.specs.declared.tree.Expr.{size-Expr}
+use Rattle.sm_syntax.proofs.Imports.{◌+◌, ◌*◌, max, size-Expr}
 use Rattle.sm_syntax.proofs.measures.+expression_nodes.Given as goal
 
 abbrev pub decreases-nodes_of_expr : goal.decreases-nodes_of_expr

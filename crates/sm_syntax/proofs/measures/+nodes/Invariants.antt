@@ -1,7 +1,4 @@
-use Rattle.std.proofs.Common.{◌≡◌, ◌+◌, ◌-◌, ◌^◌, ◌≤◌, map, drop, min}
-use Rattle.sm_syntax.specs.text.Conditions.{code_nodes}
-use Rattle.sm_syntax.specs.claim.Syntax.{End}
-use Rattle.sm_syntax.specs.trees.Views.{sequence, statement_of, code_of}
+use Rattle.sm_syntax.proofs.Imports.{◌≡◌, ◌+◌, ◌-◌, ◌^◌, ◌≤◌, map, drop, min, code_nodes, End, sequence, statement_of, code_of}
 use Rattle.sm_syntax.proofs.measures.+nodes.Given as goal
 
 abbrev pub invariant-nodes-loop-s : goal.invariant-nodes-loop-s

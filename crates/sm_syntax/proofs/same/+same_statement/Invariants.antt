@@ -1,6 +1,5 @@
 -- The statements so far are the same in both blocks.
-use Rattle.std.proofs.Common.{◌≡◌, length, map, take}
-use Rattle.sm_syntax.specs.trees.Views.{statement_of}
+use Rattle.sm_syntax.proofs.Imports.{◌≡◌, length, map, take, statement_of}
 use Rattle.sm_syntax.proofs.same.+same_statement.Given as goal
 
 abbrev pub invariant-same_block-loop-i : goal.invariant-same_block-loop-i

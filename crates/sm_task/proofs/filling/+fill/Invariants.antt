@@ -1,9 +1,5 @@
 -- What is filled so far, and then the rest filled, is the block filled.
-use Rattle.std.proofs.Common.{◌≡◌, map, drop}
-use Rattle.sm_syntax.specs.claim.Fill.{fill}
-use Rattle.sm_syntax.specs.trees.Programs.{fillings_of}
-use Rattle.sm_syntax.specs.claim.Syntax.{End}
-use Rattle.sm_syntax.specs.trees.Views.{sequence, statement_of, code_of}
+use Rattle.sm_task.proofs.Imports.{◌≡◌, map, drop, fill, fillings_of, End, sequence, statement_of, code_of}
 use Rattle.sm_task.proofs.filling.+fill.Given as goal
 
 abbrev pub invariant-fill_block-loop-s : goal.invariant-fill_block-loop-s

@@ -1,7 +1,5 @@
 -- At first all statements of the block are left.
-use Rattle.std.proofs.Common.{map, ap, ◌∙◌, List}
-use Rattle.sm_syntax.specs.claim.Syntax.{Code}
-use Rattle.sm_syntax.specs.trees.Views.{sequence, statement_of}
+use Rattle.sm_task.proofs.Imports.{map, ap, ◌∙◌, List, Code, sequence, statement_of}
 use Rattle.sm_syntax.specs.declared.tree.Stmt.{Stmt}
 use Rattle.sm_syntax.proofs.Blocks.{block_then}
 use Rattle.sm_task.proofs.filling.append_block.Goals as goal

@@ -1,7 +1,5 @@
 -- The list, and then the statements that are left, are the list at first and then the block.
-use Rattle.std.proofs.Common.{◌≡◌, map, drop}
-use Rattle.sm_syntax.specs.claim.Syntax.{Code, append}
-use Rattle.sm_syntax.specs.trees.Views.{sequence, statement_of, code_of}
+use Rattle.sm_task.proofs.Imports.{◌≡◌, map, drop, Code, append, sequence, statement_of, code_of}
 use Rattle.sm_task.proofs.filling.append_block.Given as goal
 
 abbrev pub invariant-loop-s : goal.invariant-loop-s

@@ -1,9 +1,5 @@
 -- The filling is the first among those that are left.
-use Rattle.std.proofs.Common.{◌≡◌, map, drop}
-use Rattle.sm_syntax.specs.declared.program.Filling.{Filling}
-use Rattle.sm_syntax.specs.claim.Fill.{filling}
-use Rattle.sm_syntax.specs.trees.Programs.{fillings_of}
-use Rattle.sm_syntax.specs.trees.Views.{code_of}
+use Rattle.sm_task.proofs.Imports.{◌≡◌, map, drop, Filling, filling, fillings_of, code_of}
 use Rattle.sm_task.proofs.filling.filling_at.Given as goal
 
 abbrev pub invariant-loop-f : goal.invariant-loop-f

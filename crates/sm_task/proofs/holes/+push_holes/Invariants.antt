@@ -1,7 +1,4 @@
-use Rattle.std.proofs.Common.{◌≡◌, ◌++◌, drop, map}
-use Rattle.sm_syntax.specs.text.Conditions.{holes_of}
-use Rattle.sm_syntax.specs.claim.Syntax.{End}
-use Rattle.sm_syntax.specs.trees.Views.{sequence, statement_of, code_of}
+use Rattle.sm_task.proofs.Imports.{◌≡◌, ◌++◌, drop, map, holes_of, End, sequence, statement_of, code_of}
 use Rattle.sm_task.proofs.holes.+push_holes.Given as goal
 
 abbrev pub invariant-push_holes-loop-s : goal.invariant-push_holes-loop-s

@@ -1,5 +1,4 @@
-use Rattle.std.proofs.Common.{arith}
-use Rattle.std.proofs.lemmas.Grind.{common_steps}
+use Rattle.sm_task.proofs.Imports.{arith, common_steps}
 use Rattle.sm_task.proofs.Numbers.{filled_holes-codes}
 use Rattle.sm_task.proofs.holes.filled_holes.Goals as goal
 

@@ -1,5 +1,4 @@
-use Rattle.std.proofs.Common.{◌≡◌, map, take}
-use Rattle.sm_syntax.specs.declared.program.Filling.{Filling}
+use Rattle.sm_task.proofs.Imports.{◌≡◌, map, take, Filling}
 use Rattle.sm_task.proofs.holes.filled_holes.Given as goal
 
 abbrev pub invariant-loop-f : goal.invariant-loop-f

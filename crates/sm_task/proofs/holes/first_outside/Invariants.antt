@@ -1,5 +1,4 @@
-use Rattle.std.proofs.Common.{◌≡◌, drop}
-use Rattle.sm_syntax.specs.text.Conditions.{first_outside}
+use Rattle.sm_task.proofs.Imports.{◌≡◌, drop, first_outside}
 use Rattle.sm_task.proofs.holes.first_outside.Given as goal
 
 abbrev pub invariant-loop-hole : goal.invariant-loop-hole

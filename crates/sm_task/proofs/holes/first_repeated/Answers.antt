@@ -1,5 +1,4 @@
-use Rattle.std.proofs.Common.{◌∙◌, ap, add-one, drop-cons}
-use Rattle.sm_syntax.specs.text.Conditions.{first_repeated}
+use Rattle.sm_task.proofs.Imports.{◌∙◌, ap, add-one, drop-cons, first_repeated}
 use Rattle.sm_syntax.proofs.Repeats.{first_repeated-new, added_new}
 use Rattle.sm_task.proofs.holes.first_repeated.Goals as goal
 

@@ -1,5 +1,4 @@
-use Rattle.std.proofs.Common.{arith}
-use Rattle.std.proofs.lemmas.Grind.{common_steps}
+use Rattle.sm_task.proofs.Imports.{arith, common_steps}
 use Rattle.sm_task.proofs.Numbers.{holes_inside-codes}
 use Rattle.sm_task.proofs.holes.holes_inside.Goals as goal
 

@@ -1,8 +1,4 @@
-use Rattle.std.proofs.Common.{◌≡◌, take}
-use Rattle.std.specs.List.{flat_map}
-use Rattle.sm_syntax.specs.declared.program.Filling.{Filling}
-use Rattle.sm_syntax.specs.text.Conditions.{holes_of}
-use Rattle.sm_syntax.specs.trees.Views.{code_of}
+use Rattle.sm_task.proofs.Imports.{◌≡◌, take, flat_map, Filling, holes_of, code_of}
 use Rattle.sm_task.proofs.holes.holes_inside.Given as goal
 
 abbrev pub invariant-loop-f : goal.invariant-loop-f

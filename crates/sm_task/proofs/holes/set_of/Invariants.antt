@@ -1,6 +1,5 @@
-use Rattle.std.proofs.Common.{◌≡◌, ℕ, nat_eq, take}
+use Rattle.sm_task.proofs.Imports.{◌≡◌, ℕ, nat_eq, take, is_in}
 use Rattle.std.specs.HashSet.{contains}
-use Rattle.sm_syntax.specs.text.Conditions.{is_in}
 use Rattle.sm_task.proofs.holes.set_of.Given as goal
 
 abbrev pub invariant-loop-x : goal.invariant-loop-x

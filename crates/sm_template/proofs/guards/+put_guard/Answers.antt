@@ -1,16 +1,6 @@
 -- The terms of a comparison's sides, and the second of two conditions over the table with the first.
-use Rattle.std.proofs.Common.{rules, sym, subst}
-use Rattle.sm_syntax.specs.text.Sorts.{IsWellSortedExpression, IsWellSortedCondition}
-use Rattle.sm_syntax.specs.trees.Copies.{copy_named}
-use Rattle.sm_syntax.specs.trees.Views.{expression_of, condition_of}
-use Rattle.sm_syntax.specs.declared.tree.Cond.{Cond}
-use Rattle.sm_deps.proofs.MembersLemmas.{on_ok}
-use Rattle.sm_term.specs.Tables.{trees_in, sorts_in, tree_at}
-use Rattle.sm_term.proofs.ExpressionLemmas.{within_more}
+use Rattle.sm_template.proofs.Imports.{rules, sym, subst, IsWellSortedExpression, IsWellSortedCondition, copy_named, expression_of, condition_of, Cond, on_ok, trees_in, sorts_in, tree_at, within_more, grows-twice, AddsBounds, weaker, guard_templates}
 use Rattle.sm_term.proofs.FormsLemmas.{tested_more}
-use Rattle.sm_term.proofs.TablesLemmas.{grows-twice}
-use Rattle.sm_template.specs.Bounds.{AddsBounds}
-use Rattle.sm_template.specs.Guards.{weaker, guard_templates}
 use Rattle.sm_template.proofs.BoundsMade.{bounds_after}
 use Rattle.sm_template.proofs.GuardsLemmas.{places_stay, store_sorted, weaker_is, first_term, second_term}
 use Rattle.sm_template.proofs.guards.+put_guard.Goals as goal

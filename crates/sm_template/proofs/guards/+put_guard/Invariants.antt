@@ -1,6 +1,5 @@
 -- Conditions become smaller.
-use Rattle.std.proofs.Common.{◌+◌, ◌*◌, max}
-use Rattle.sm_syntax.specs.declared.tree.Cond.{size-Cond}
+use Rattle.sm_template.proofs.Imports.{◌+◌, ◌*◌, max, size-Cond}
 use Rattle.sm_template.proofs.guards.+put_guard.Given as goal
 
 abbrev pub decreases-put_guard : goal.decreases-put_guard

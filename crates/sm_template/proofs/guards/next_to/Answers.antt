@@ -1,14 +1,6 @@
 -- The number, 1 and their sum.
-use Rattle.std.proofs.Common.{◌≡◌, Some, pos, refl, IfOk, slice_get, ap, subst, ◌∙◌}
-use Rattle.std.proofs.lemmas.Bool.{and_from}
-use Rattle.std.proofs.lemmas.Option.{slice_get-get_or}
-use Rattle.sm_syntax.specs.text.Sorts.{Sorts}
-use Rattle.sm_syntax.specs.declared.tree.Sort.TheVariants.{Num}
-use Rattle.sm_term.specs.Terms.{Tree, Lit, Add}
-use Rattle.sm_term.specs.Sorted.{tree_sort}
-use Rattle.sm_term.specs.Tables.{trees_in, sorts_in, tree_at}
-use Rattle.sm_term.specs.declared.term.TermId.{TermId}
-use Rattle.sm_term.proofs.ExpressionLemmas.{stays_got, tree_got, sort_got}
+use Rattle.sm_template.proofs.Imports.{◌≡◌, Some, refl, IfOk, slice_get, ap, subst, ◌∙◌, and_from, slice_get-get_or, Sorts, Num, Tree, Lit, Add, tree_sort, trees_in, sorts_in, tree_at, TermId, stays_got, tree_got, sort_got}
+use Rattle.std.proofs.Common.{pos}
 use Rattle.sm_template.proofs.guards.next_to.Goals as goal
 
 pub made-requires-2-clause-fits : goal.made-requires-2-clause-fits

@@ -1,22 +1,7 @@
 -- One place more.
-use Rattle.std.proofs.Common.{◌≡◌, List, [], ◌∷◌, ◌++◌, length, map, take, get_or, sym, ap, subst, ◌∙◌}
-use Rattle.std.proofs.lemmas.List.{take_all, map-append, map_more}
-use Rattle.sm_syntax.specs.declared.tree.Name.{Name}
-use Rattle.sm_syntax.specs.text.Parts.{sort_of}
-use Rattle.sm_syntax.specs.text.Sorts.{Sorts}
-use Rattle.sm_syntax.specs.declared.tree.Sort.{Sort}
-use Rattle.sm_syntax.specs.declared.tree.Sort.TheVariants.{Num}
-use Rattle.sm_syntax.specs.trees.Copies.{copy_named}
-use Rattle.sm_term.specs.Terms.{Tree, Slot}
-use Rattle.sm_term.specs.Tables.{trees_in, sorts_in, tree_at, AreBefore}
-use Rattle.sm_term.specs.declared.term.TermId.{TermId}
-use Rattle.sm_term.proofs.TablesLemmas.{grows-twice}
-use Rattle.sm_term.proofs.ExpressionLemmas.{tree_got, there}
+use Rattle.sm_template.proofs.Imports.{◌≡◌, List, [], ◌∷◌, ◌++◌, length, map, take, get_or, sym, ap, subst, ◌∙◌, take_all, map-append, map_more, Name, sort_of, Sorts, Sort, Num, copy_named, Tree, Slot, trees_in, sorts_in, tree_at, AreBefore, TermId, grows-twice, tree_got, there, AreNumbered, trees_stay, before_append, widens_grown, longer, places_of}
 use Rattle.sm_term.proofs.TreesLemmas.{before-later}
-use Rattle.sm_plan.specs.Starts.{AreNumbered}
-use Rattle.sm_plan.proofs.StartsMade.{pairs, trees_stay, before_append}
-use Rattle.sm_plan.proofs.TablesWiden.{widens_grown, longer}
-use Rattle.sm_template.specs.Bounds.{places_of}
+use Rattle.sm_plan.proofs.StartsMade.{pairs}
 use Rattle.sm_template.proofs.PlacesMade.{places_made}
 use Rattle.sm_template.proofs.SitesLemmas.{all_declared}
 use Rattle.sm_template.proofs.TemplatesMade.{name_at}

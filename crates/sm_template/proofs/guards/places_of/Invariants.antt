@@ -1,12 +1,5 @@
 -- The numbers so far are those of the first places.
-use Rattle.std.proofs.Common.{◌≡◌, length, map, take}
-use Rattle.sm_syntax.specs.declared.tree.Name.{Name}
-use Rattle.sm_syntax.specs.declared.tree.Sort.{Sort}
-use Rattle.sm_syntax.specs.trees.Copies.{copy_named}
-use Rattle.sm_term.specs.Terms.{Slot}
-use Rattle.sm_term.specs.Tables.{trees_in, AreBefore}
-use Rattle.sm_term.specs.TableLaws.{AddsTerms}
-use Rattle.sm_plan.proofs.StartsMade.{trees_of}
+use Rattle.sm_template.proofs.Imports.{◌≡◌, length, map, take, Name, Sort, copy_named, Slot, trees_in, AreBefore, AddsTerms, trees_of}
 use Rattle.sm_template.proofs.guards.places_of.Given as goal
 
 abbrev pub invariant-loop-d : goal.invariant-loop-d

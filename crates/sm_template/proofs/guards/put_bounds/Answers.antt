@@ -1,9 +1,5 @@
 -- One inequality more.
-use Rattle.std.proofs.Common.{refl, ap, subst}
-use Rattle.std.proofs.lemmas.List.{take_all}
-use Rattle.sm_term.specs.Tables.{trees_in}
-use Rattle.sm_template.specs.AddedForms.{AddsForms}
-use Rattle.sm_template.specs.Bounds.{bounds_in}
+use Rattle.sm_template.proofs.Imports.{refl, ap, subst, take_all, trees_in, AddsForms, bounds_in}
 use Rattle.sm_template.proofs.BoundsMade.{bound_added}
 use Rattle.sm_template.proofs.guards.put_bounds.Goals as goal
 

@@ -1,8 +1,5 @@
 -- The first inequalities are there.
-use Rattle.std.proofs.Common.{take}
-use Rattle.sm_term.specs.Tables.{TableValue, trees_in, sorts_in}
-use Rattle.sm_template.specs.AddedForms.{AddsForms}
-use Rattle.sm_template.specs.Bounds.{AreBoundsReady, bounds_in}
+use Rattle.sm_template.proofs.Imports.{take, TableValue, trees_in, sorts_in, AddsForms, AreBoundsReady, bounds_in}
 use Rattle.sm_template.proofs.guards.put_bounds.Given as goal
 
 abbrev pub invariant-loop-b : goal.invariant-loop-b

@@ -1,16 +1,6 @@
 -- What the guard of the copy's loop suggests, over the table that has the places.
-use Rattle.std.proofs.Common.{◌≡◌, true, if◌then◌else◌, [], sym, ap, subst, ◌∙◌}
-use Rattle.sm_syntax.specs.claim.Syntax.{Condition}
-use Rattle.sm_syntax.specs.trees.Copies.{copy_named}
-use Rattle.sm_syntax.specs.trees.Views.{condition_of}
-use Rattle.sm_deps.proofs.MembersLemmas.{on_ok}
-use Rattle.sm_term.proofs.TablesLemmas.{grows-twice}
+use Rattle.sm_template.proofs.Imports.{◌≡◌, true, if◌then◌else◌, [], sym, ap, subst, ◌∙◌, Condition, copy_named, condition_of, on_ok, grows-twice, set_of, guard_in, loop_guard, rest_code, AddsBounds, guard_templates}
 use Rattle.sm_plan.specs.Copies as sets
-use Rattle.sm_plan.specs.Masks.{set_of}
-use Rattle.sm_plan.specs.Statements.{guard_in, loop_guard}
-use Rattle.sm_plan.specs.Views.{rest_code}
-use Rattle.sm_template.specs.Bounds.{AddsBounds}
-use Rattle.sm_template.specs.Guards.{guard_templates}
 use Rattle.sm_template.proofs.BoundsMade.{bounds_after}
 use Rattle.sm_template.proofs.guards.put_loop.Goals as goal
 

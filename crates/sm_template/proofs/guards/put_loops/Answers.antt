@@ -1,14 +1,6 @@
 -- Copy by copy.
-use Rattle.std.proofs.Common.{List, sym, subst, ◌∙◌}
-use Rattle.sm_syntax.specs.claim.ConflictFree.{Copy, O, A, B, M}
-use Rattle.sm_syntax.specs.text.Sorts.{Sorts, IsWellSorted}
-use Rattle.sm_syntax.specs.trees.Copies.{of_copy}
-use Rattle.sm_term.specs.Assertions.{Assertion}
-use Rattle.sm_term.proofs.TablesLemmas.{grows-twice}
-use Rattle.sm_plan.specs.Masks.{set_of}
-use Rattle.sm_plan.specs.Statements.{loop_guard}
-use Rattle.sm_plan.specs.Views.{rest_code}
-use Rattle.sm_template.specs.Guards.{guard_templates}
+use Rattle.sm_template.proofs.Imports.{List, sym, subst, ◌∙◌, Copy, Sorts, IsWellSorted, of_copy, Assertion, grows-twice, set_of, loop_guard, rest_code, guard_templates}
+use Rattle.sm_syntax.specs.claim.ConflictFree.{O, A, B, M}
 use Rattle.sm_template.proofs.GuardsLemmas.{four_bounds}
 use Rattle.sm_template.proofs.guards.put_loops.Goals as goal
 

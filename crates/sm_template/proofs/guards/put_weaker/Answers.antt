@@ -1,12 +1,6 @@
 -- The inequality over the table that has one more.
-use Rattle.std.proofs.Common.{[], ◌∷◌, sym, subst}
-use Rattle.sm_syntax.specs.declared.tree.Cmp.{Cmp}
-use Rattle.sm_deps.proofs.MembersLemmas.{on_ok}
+use Rattle.sm_template.proofs.Imports.{[], ◌∷◌, sym, subst, Cmp, on_ok, trees_in, tree_at, there, AddsBounds, weaker}
 use Rattle.sm_term.specs.Assertions as plain
-use Rattle.sm_term.specs.Tables.{trees_in, tree_at}
-use Rattle.sm_term.proofs.ExpressionLemmas.{there}
-use Rattle.sm_template.specs.Bounds.{AddsBounds}
-use Rattle.sm_template.specs.Guards.{weaker}
 use Rattle.sm_template.proofs.BoundsMade.{has_stays, next_has, next_added}
 use Rattle.sm_template.proofs.guards.put_weaker.Goals as goal
 

@@ -1,9 +1,5 @@
 -- One statement more.
-use Rattle.std.proofs.Common.{◌+◌, ℤ, List, map, drop, sym, ap, ◌∙◌}
-use Rattle.sm_syntax.specs.claim.Syntax.{End}
-use Rattle.sm_syntax.specs.trees.Views.{sequence, statement_of}
-use Rattle.sm_template.specs.FirstLiterals.{with_literals}
-use Rattle.sm_template.specs.Literals.{literals_used}
+use Rattle.sm_template.proofs.Imports.{◌+◌, ℤ, List, map, drop, sym, ap, ◌∙◌, End, sequence, statement_of, with_literals, literals_used}
 use Rattle.sm_template.proofs.LiteralsLemmas.{with_literals-append, literals_used-drop, literals_used-end}
 use Rattle.sm_template.proofs.literals.+add_block.Goals as goal
 

@@ -1,9 +1,5 @@
 -- The literals so far, with those of the statements that are left, are those of the start with the block's.
-use Rattle.std.proofs.Common.{◌≡◌, map, drop}
-use Rattle.sm_syntax.specs.claim.Syntax.{End}
-use Rattle.sm_syntax.specs.trees.Views.{sequence, statement_of, code_of}
-use Rattle.sm_template.specs.FirstLiterals.{with_literals}
-use Rattle.sm_template.specs.Literals.{literals_used}
+use Rattle.sm_template.proofs.Imports.{◌≡◌, map, drop, End, sequence, statement_of, code_of, with_literals, literals_used}
 use Rattle.sm_template.proofs.literals.+add_block.Given as goal
 
 abbrev pub invariant-add_block-loop-s : goal.invariant-add_block-loop-s

@@ -1,10 +1,5 @@
 -- One filling more.
-use Rattle.std.proofs.Common.{◌∙◌, ℤ, List, take, sym, ap}
-use Rattle.std.proofs.lemmas.List.{take_all}
-use Rattle.sm_syntax.specs.declared.program.Filling.{Filling}
-use Rattle.sm_syntax.specs.trees.Views.{code_of}
-use Rattle.sm_template.specs.FirstLiterals.{with_literals}
-use Rattle.sm_template.specs.Literals.{literals_used, literals_filled}
+use Rattle.sm_template.proofs.Imports.{◌∙◌, ℤ, List, take, sym, ap, take_all, Filling, code_of, with_literals, literals_used, literals_filled}
 use Rattle.sm_template.proofs.LiteralsLemmas.{with_literals-append, filled_by, filled_more}
 use Rattle.sm_template.proofs.literals.add_fillings.Goals as goal
 

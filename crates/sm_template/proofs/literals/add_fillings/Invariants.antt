@@ -1,7 +1,5 @@
 -- The literals of the first fillings are taken.
-use Rattle.std.proofs.Common.{◌≡◌, take}
-use Rattle.sm_template.specs.FirstLiterals.{with_literals}
-use Rattle.sm_template.specs.Literals.{literals_filled}
+use Rattle.sm_template.proofs.Imports.{◌≡◌, take, with_literals, literals_filled}
 use Rattle.sm_template.proofs.LiteralsLemmas.{filled_by}
 use Rattle.sm_template.proofs.literals.add_fillings.Given as goal
 

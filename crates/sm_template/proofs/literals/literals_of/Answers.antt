@@ -1,11 +1,6 @@
 -- The literals of the four lists.
-use Rattle.std.proofs.Common.{ℤ, List, ap, ◌∙◌}
-use Rattle.sm_syntax.specs.claim.ConflictFree.{Copy, O, A, B, M}
-use Rattle.sm_syntax.specs.claim.Fill.{Fillings}
-use Rattle.sm_syntax.specs.trees.Copies.{of_copy}
-use Rattle.sm_syntax.specs.trees.Programs.{fillings_of}
-use Rattle.sm_template.specs.FirstLiterals.{with_literals}
-use Rattle.sm_template.specs.Literals.{literals_filled}
+use Rattle.sm_template.proofs.Imports.{ℤ, List, ap, ◌∙◌, Copy, Fillings, of_copy, fillings_of, with_literals, literals_filled}
+use Rattle.sm_syntax.specs.claim.ConflictFree.{O, A, B, M}
 use Rattle.sm_template.proofs.LiteralsLemmas.{literals_of_four}
 use Rattle.sm_template.proofs.literals.literals_of.Goals as goal
 

@@ -1,11 +1,6 @@
 -- The kinds with one literal more.
-use Rattle.std.proofs.Common.{◌≡◌, ◌∙◌, ℤ, to_z, of_z, arith, List, ◌++◌, pos, take, get_or, sym, ap}
-use Rattle.std.specs.Int.{w128}
-use Rattle.std.proofs.lemmas.Int.{to_z-of_z}
-use Rattle.std.proofs.lemmas.List.{append_assoc}
-use Rattle.sm_syntax.specs.declared.copies.CopyName.{CopyName}
-use Rattle.sm_template.specs.declared.shapes.Shape.{Shape}
-use Rattle.sm_template.specs.NameShapes.{above_by, above_any}
+use Rattle.sm_template.proofs.Imports.{◌≡◌, ◌∙◌, ℤ, to_z, of_z, arith, List, ◌++◌, take, get_or, sym, ap, w128, to_z-of_z, append_assoc, CopyName, Shape, above_by, above_any}
+use Rattle.std.proofs.Common.{pos}
 use Rattle.sm_template.proofs.FrontLemmas.{flat_more}
 use Rattle.sm_template.proofs.shapes.put_above.Goals as goal
 

@@ -1,6 +1,5 @@
 -- The kinds with the first literals are there.
-use Rattle.std.proofs.Common.{◌≡◌, ◌++◌, take}
-use Rattle.sm_template.specs.NameShapes.{above_any}
+use Rattle.sm_template.proofs.Imports.{◌≡◌, ◌++◌, take, above_any}
 use Rattle.sm_template.proofs.shapes.put_above.Given as goal
 
 abbrev pub invariant-loop-v : goal.invariant-loop-v

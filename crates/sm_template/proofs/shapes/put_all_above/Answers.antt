@@ -1,11 +1,6 @@
 -- The kinds of the six pairs, one after the other.
-use Rattle.std.proofs.Common.{◌≡◌, ◌∙◌, List, [], ◌++◌, sym}
-use Rattle.std.proofs.lemmas.List.{append-nil}
-use Rattle.sm_syntax.specs.declared.copies.CopyName.{CopyName}
+use Rattle.sm_template.proofs.Imports.{◌≡◌, ◌∙◌, List, [], ◌++◌, sym, append-nil, CopyName, on_ok, Shape, above_any}
 use Rattle.sm_syntax.specs.declared.copies.CopyName.TheVariants.{O, A, B, M}
-use Rattle.sm_deps.proofs.MembersLemmas.{on_ok}
-use Rattle.sm_template.specs.declared.shapes.Shape.{Shape}
-use Rattle.sm_template.specs.NameShapes.{above_any}
 use Rattle.sm_template.proofs.FrontLemmas.{put_behind}
 use Rattle.sm_template.proofs.shapes.put_all_above.Goals as goal
 

@@ -1,16 +1,6 @@
 -- The inequalities stand behind the templates.
-use Rattle.std.proofs.Common.{ℕ, List, subst}
-use Rattle.std.specs.List.{flat_map}
-use Rattle.sm_syntax.specs.claim.ConflictFree.{Copy}
-use Rattle.sm_syntax.specs.trees.Copies.{of_copy}
-use Rattle.sm_term.specs.Tables.{TableValue, trees_in, sorts_in}
-use Rattle.sm_plan.specs.Masks.{set_of}
-use Rattle.sm_plan.specs.Statements.{loop_guard}
-use Rattle.sm_plan.specs.Views.{rest_code}
+use Rattle.sm_template.proofs.Imports.{ℕ, List, subst, flat_map, Copy, of_copy, TableValue, trees_in, sorts_in, set_of, loop_guard, rest_code, AddsForms, AreBoundsReady, bounds_in, guard_templates}
 use Rattle.sm_moves.specs.CopySets.{members}
-use Rattle.sm_template.specs.AddedForms.{AddsForms}
-use Rattle.sm_template.specs.Bounds.{AreBoundsReady, bounds_in}
-use Rattle.sm_template.specs.Guards.{guard_templates}
 use Rattle.sm_template.proofs.SitesLemmas.{guards_put}
 use Rattle.sm_template.proofs.site_templates.put_guards.Goals as goal
 

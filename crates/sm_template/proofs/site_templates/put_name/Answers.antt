@@ -1,9 +1,5 @@
 -- The kinds of a name are those of its sort.
-use Rattle.std.proofs.Common.{◌∙◌, ℕ, List, map, sym, ap, subst, OnOk}
-use Rattle.sm_syntax.specs.declared.tree.Sort.{Sort}
-use Rattle.sm_term.specs.Assertions.{Assertion}
-use Rattle.sm_template.specs.AddedForms.{AddsForms}
-use Rattle.sm_template.specs.NameShapes.{shape_form, AreShapesFit}
+use Rattle.sm_template.proofs.Imports.{◌∙◌, ℕ, List, map, sym, ap, subst, OnOk, Sort, Assertion, AddsForms, shape_form, AreShapesFit}
 use Rattle.sm_template.proofs.NameShapesLemmas.{name_forms, shapes_fit}
 use Rattle.sm_template.proofs.site_templates.put_name.Goals as goal
 

@@ -1,16 +1,5 @@
 -- The templates of one name more.
-use Rattle.std.proofs.Common.{◌∙◌, List, get_or, refl, sym, ap, subst}
-use Rattle.std.specs.List.{flat_map}
-use Rattle.std.proofs.lemmas.List.{take_all}
-use Rattle.sm_syntax.specs.declared.tree.Name.{Name}
-use Rattle.sm_syntax.specs.text.Sorts.{Sorts}
-use Rattle.sm_syntax.specs.declared.tree.Sort.{Sort}
-use Rattle.sm_syntax.specs.declared.tree.Sort.TheVariants.{Num}
-use Rattle.sm_term.specs.Tables.{sorts_in}
-use Rattle.sm_term.proofs.TablesLemmas.{grows-not, grows-twice}
-use Rattle.sm_plan.specs.SortedStates.{AreOutputsDeclared}
-use Rattle.sm_template.specs.AddedForms.{AddsForms}
-use Rattle.sm_template.specs.Templates.{name_templates}
+use Rattle.sm_template.proofs.Imports.{◌∙◌, List, get_or, refl, sym, ap, subst, flat_map, take_all, Name, Sorts, Sort, Num, sorts_in, grows-not, grows-twice, AreOutputsDeclared, AddsForms, name_templates}
 use Rattle.sm_template.proofs.AddedLemmas.{added_none}
 use Rattle.sm_template.proofs.TemplatesMade.{names_of, name_at, name_added}
 use Rattle.sm_template.proofs.site_templates.put_names.Goals as goal

@@ -1,9 +1,5 @@
 -- The templates of the first names are there.
-use Rattle.std.proofs.Common.{take}
-use Rattle.std.specs.List.{flat_map}
-use Rattle.sm_term.specs.TableLaws.{AddsTerms}
-use Rattle.sm_template.specs.AddedForms.{AddsForms}
-use Rattle.sm_template.specs.Templates.{name_templates}
+use Rattle.sm_template.proofs.Imports.{take, flat_map, AddsTerms, AddsForms, name_templates}
 use Rattle.sm_template.proofs.TemplatesMade.{names_of}
 use Rattle.sm_template.proofs.site_templates.put_names.Given as goal
 

@@ -1,11 +1,5 @@
 -- One template more.
-use Rattle.std.proofs.Common.{◌≡◌, ◌∙◌, Some, map, refl, ap, subst}
-use Rattle.std.proofs.lemmas.List.{take_all}
-use Rattle.sm_syntax.specs.text.Sorts.{Sorts}
-use Rattle.sm_term.specs.Tables.{sorts_in}
-use Rattle.sm_term.proofs.TablesLemmas.{grows-not, grows-twice}
-use Rattle.sm_template.specs.AddedForms.{AddsForms}
-use Rattle.sm_template.specs.NameShapes.{shape_form}
+use Rattle.sm_template.proofs.Imports.{◌≡◌, ◌∙◌, Some, map, refl, ap, subst, take_all, Sorts, sorts_in, grows-not, grows-twice, AddsForms, shape_form}
 use Rattle.sm_template.proofs.AddedLemmas.{added_none}
 use Rattle.sm_template.proofs.TemplatesMade.{fit_at, shape_added}
 use Rattle.sm_template.proofs.site_templates.put_shapes.Goals as goal

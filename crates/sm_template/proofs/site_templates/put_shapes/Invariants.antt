@@ -1,8 +1,5 @@
 -- The templates of the first kinds are there.
-use Rattle.std.proofs.Common.{map, take}
-use Rattle.sm_term.specs.TableLaws.{AddsTerms}
-use Rattle.sm_template.specs.AddedForms.{AddsForms}
-use Rattle.sm_template.specs.NameShapes.{shape_form}
+use Rattle.sm_template.proofs.Imports.{map, take, AddsTerms, AddsForms, shape_form}
 use Rattle.sm_template.proofs.site_templates.put_shapes.Given as goal
 
 abbrev pub invariant-loop-shape : goal.invariant-loop-shape

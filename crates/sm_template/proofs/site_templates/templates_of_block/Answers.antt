@@ -1,12 +1,5 @@
 -- The templates of the names that the code writes, of which none stands twice.
-use Rattle.std.proofs.Common.{sym, subst}
-use Rattle.sm_syntax.specs.claim.ConflictFree.{Copy}
-use Rattle.sm_syntax.specs.claim.Syntax.{Code}
-use Rattle.sm_syntax.specs.trees.Copies.{of_copy}
-use Rattle.sm_syntax.specs.trees.Programs.{declared_of}
-use Rattle.sm_term.specs.Tables.{sorts_in}
-use Rattle.sm_plan.specs.SortedStates.{AreOutputsDeclared}
-use Rattle.sm_plan.specs.Views.{rest_code}
+use Rattle.sm_template.proofs.Imports.{sym, subst, Copy, Code, of_copy, declared_of, sorts_in, AreOutputsDeclared, rest_code}
 use Rattle.sm_template.proofs.SitesLemmas.{written_declared, block_made}
 use Rattle.sm_template.proofs.site_templates.templates_of_block.Goals as goal
 

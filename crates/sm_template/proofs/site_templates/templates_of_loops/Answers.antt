@@ -1,23 +1,6 @@
 -- The templates of the names that the bodies write, and behind them what the guards suggest.
-use Rattle.std.proofs.Common.{◌++◌, ◌∙◌, sym, subst}
-use Rattle.std.specs.List.{flat_map}
-use Rattle.sm_syntax.specs.claim.ConflictFree.{Copy}
-use Rattle.sm_syntax.specs.claim.Syntax.{Code}
-use Rattle.sm_syntax.specs.text.Sorts.{Sorts, IsWellSorted}
-use Rattle.sm_syntax.specs.trees.Copies.{of_copy}
-use Rattle.sm_syntax.specs.trees.Programs.{declared_of}
-use Rattle.sm_term.specs.Tables.{sorts_in}
-use Rattle.sm_term.proofs.TablesLemmas.{grows-twice}
-use Rattle.sm_plan.specs.Masks.{set_of}
-use Rattle.sm_plan.specs.SortedStates.{AreOutputsDeclared}
-use Rattle.sm_plan.specs.Statements.{loop_guard, loop_body}
-use Rattle.sm_plan.specs.Views.{rest_code}
-use Rattle.sm_plan.proofs.TablesWiden.{widens_grown}
-use Rattle.sm_moves.specs.CopySets.{members, only_in}
-use Rattle.sm_template.specs.Distinct.{distinct}
-use Rattle.sm_template.specs.Guards.{guard_templates}
-use Rattle.sm_template.specs.SameFormulas.{same_formula}
-use Rattle.sm_template.specs.Templates.{name_templates}
+use Rattle.sm_template.proofs.Imports.{◌++◌, ◌∙◌, sym, subst, flat_map, Copy, Code, Sorts, IsWellSorted, of_copy, declared_of, sorts_in, grows-twice, set_of, AreOutputsDeclared, loop_guard, loop_body, rest_code, widens_grown, only_in, distinct, guard_templates, same_formula, name_templates}
+use Rattle.sm_moves.specs.CopySets.{members}
 use Rattle.sm_template.proofs.AddedLemmas.{added_then}
 use Rattle.sm_template.proofs.SitesLemmas.{written_declared, new_forms, loop_made}
 use Rattle.sm_template.proofs.site_templates.templates_of_loops.Goals as goal

@@ -1,18 +1,5 @@
 -- The slot, the literal and their sum.
-use Rattle.std.proofs.Common.{◌≡◌, Some, refl, IfOk, slice_get, ap, subst, ◌∙◌}
-use Rattle.std.specs.Int.{w128}
-use Rattle.std.proofs.lemmas.Bool.{and_from}
-use Rattle.std.proofs.lemmas.Int.{to_z-of_z}
-use Rattle.sm_syntax.specs.text.Sorts.{Sorts}
-use Rattle.sm_syntax.specs.declared.tree.Sort.TheVariants.{Num}
-use Rattle.sm_syntax.specs.trees.Copies.{copy_named}
-use Rattle.sm_term.specs.Terms.{Tree, Lit, Slot, Add}
-use Rattle.sm_term.specs.Sorted.{sort_named}
-use Rattle.sm_term.specs.Tables.{trees_in, sorts_in, tree_at}
-use Rattle.sm_term.specs.declared.term.TermId.{TermId}
-use Rattle.sm_term.proofs.ExpressionLemmas.{stays_got, tree_got, sort_got}
-use Rattle.sm_term.proofs.TablesLemmas.{grows-twice}
-use Rattle.sm_plan.proofs.SortedTerms.{sort_is}
+use Rattle.sm_template.proofs.Imports.{◌≡◌, Some, refl, IfOk, slice_get, ap, subst, ◌∙◌, w128, and_from, to_z-of_z, Sorts, Num, copy_named, Tree, Lit, Slot, Add, sort_named, trees_in, sorts_in, tree_at, TermId, stays_got, tree_got, sort_got, grows-twice, sort_is}
 use Rattle.sm_template.proofs.terms.above.Goals as goal
 
 pub made-requires-2-clause-fits : goal.made-requires-2-clause-fits

@@ -1,17 +1,6 @@
 -- The six places, of which the first four stay.
-use Rattle.std.proofs.Common.{◌≡◌, ◌∙◌, ℕ, Some, ap}
-use Rattle.sm_syntax.specs.text.Sorts.{Sorts}
-use Rattle.sm_syntax.specs.declared.tree.Sort.{Sort}
-use Rattle.sm_deps.proofs.MembersLemmas.{if_ok}
+use Rattle.sm_template.proofs.Imports.{◌≡◌, ◌∙◌, ℕ, Some, ap, Sorts, Sort, if_ok, numbered, Formula, sorts_in, stays_got, grows-twice, place, IsFormMade, adds_nothing}
 use Rattle.sm_term.specs.Formulas as over
-use Rattle.sm_term.specs.Formulas.{numbered}
-use Rattle.sm_term.specs.declared.formula.Formula.{Formula}
-use Rattle.sm_term.specs.Tables.{sorts_in}
-use Rattle.sm_term.proofs.ExpressionLemmas.{stays_got}
-use Rattle.sm_term.proofs.TablesLemmas.{grows-twice}
-use Rattle.sm_plan.specs.States.{place}
-use Rattle.sm_template.specs.AddedForms.{IsFormMade}
-use Rattle.sm_template.specs.NameShapes.{adds_nothing}
 use Rattle.sm_template.proofs.TermsMade.{adds_made}
 use Rattle.sm_template.proofs.terms.adds_nothing.Goals as goal
 

@@ -1,15 +1,5 @@
 -- The side's term, read at the cell.
-use Rattle.std.proofs.Common.{◌≡◌, Some, refl, IfOk, slice_get, ap, subst, ◌∙◌}
-use Rattle.std.proofs.lemmas.Bool.{and_from}
-use Rattle.sm_syntax.specs.text.Sorts.{Sorts}
-use Rattle.sm_syntax.specs.declared.tree.Sort.TheVariants.{Num, Arr}
-use Rattle.sm_term.specs.Terms.{Tree, Cell, Read}
-use Rattle.sm_term.specs.Sorted.{tree_sort}
-use Rattle.sm_term.specs.Tables.{trees_in, sorts_in, tree_at}
-use Rattle.sm_term.specs.declared.term.TermId.{TermId}
-use Rattle.sm_term.proofs.ExpressionLemmas.{stays_got, tree_got, sort_got}
-use Rattle.sm_term.proofs.TablesLemmas.{grows-twice}
-use Rattle.sm_template.specs.NameShapes.{side_tree}
+use Rattle.sm_template.proofs.Imports.{◌≡◌, Some, refl, IfOk, slice_get, ap, subst, ◌∙◌, and_from, Sorts, Num, Arr, Tree, Cell, Read, tree_sort, trees_in, sorts_in, tree_at, TermId, stays_got, tree_got, sort_got, grows-twice, side_tree}
 use Rattle.sm_template.proofs.NameShapesLemmas.{side_sorted}
 use Rattle.sm_template.proofs.terms.cell.Goals as goal
 

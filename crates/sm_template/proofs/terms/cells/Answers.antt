@@ -1,7 +1,5 @@
 -- The first term stays where the table grows.
-use Rattle.std.proofs.Common.{◌∙◌, ap}
-use Rattle.sm_syntax.specs.text.Sorts.{Sorts}
-use Rattle.sm_term.proofs.ExpressionLemmas.{stays_got}
+use Rattle.sm_template.proofs.Imports.{◌∙◌, ap, Sorts, stays_got}
 use Rattle.sm_template.proofs.terms.cells.Goals as goal
 
 pub cell-requires-2-clause-declared : goal.cell-requires-2-clause-declared

@@ -1,17 +1,6 @@
 -- The four places, of which the first two stay.
-use Rattle.std.proofs.Common.{◌≡◌, ◌∙◌, ℕ, Some, ap}
-use Rattle.sm_syntax.specs.text.Sorts.{Sorts}
-use Rattle.sm_syntax.specs.declared.tree.Sort.{Sort}
-use Rattle.sm_syntax.specs.trees.Copies.{copy_named}
-use Rattle.sm_deps.proofs.MembersLemmas.{if_ok}
+use Rattle.sm_template.proofs.Imports.{◌≡◌, ◌∙◌, ℕ, Some, ap, Sorts, Sort, copy_named, if_ok, numbered, Formula, sorts_in, stays_got, place, IsFormMade, keeps_change}
 use Rattle.sm_term.specs.Formulas as over
-use Rattle.sm_term.specs.Formulas.{numbered}
-use Rattle.sm_term.specs.declared.formula.Formula.{Formula}
-use Rattle.sm_term.specs.Tables.{sorts_in}
-use Rattle.sm_term.proofs.ExpressionLemmas.{stays_got}
-use Rattle.sm_plan.specs.States.{place}
-use Rattle.sm_template.specs.AddedForms.{IsFormMade}
-use Rattle.sm_template.specs.NameShapes.{keeps_change}
 use Rattle.sm_template.proofs.TermsMade.{keeps_made}
 use Rattle.sm_template.proofs.terms.keeps.Goals as goal
 

@@ -1,14 +1,6 @@
 -- An equation of the terms of two sides, or of their cells.
-use Rattle.std.proofs.Common.{◌≡◌, ◌∙◌, Some, refl, sym, ap, subst}
-use Rattle.sm_syntax.specs.text.Sorts.{Sorts}
-use Rattle.sm_syntax.specs.declared.tree.Sort.TheVariants.{Num}
-use Rattle.sm_term.specs.declared.formula.Formula.{Formula}
+use Rattle.sm_template.proofs.Imports.{◌≡◌, ◌∙◌, Some, refl, sym, ap, subst, Sorts, Num, Formula, sorts_in, Cell, Read, Shape, IsFormMade, side_tree, shape_form, FitsShape}
 use Rattle.sm_term.specs.declared.formula.Formula.TheVariants as form
-use Rattle.sm_term.specs.Tables.{sorts_in}
-use Rattle.sm_term.specs.Terms.{Cell, Read}
-use Rattle.sm_template.specs.declared.shapes.Shape.{Shape}
-use Rattle.sm_template.specs.AddedForms.{IsFormMade}
-use Rattle.sm_template.specs.NameShapes.{side_tree, shape_form, FitsShape}
 use Rattle.sm_template.proofs.NameShapesLemmas.{side_sorted}
 use Rattle.sm_template.proofs.TermsMade.{equation_made}
 use Rattle.sm_template.proofs.terms.shaped.Goals as goal

@@ -1,10 +1,6 @@
 -- One name more.
-use Rattle.std.proofs.Common.{◌∙◌, List, get_or, ap, sym}
-use Rattle.std.proofs.lemmas.List.{take_all}
-use Rattle.sm_syntax.specs.declared.tree.Name.{Name}
-use Rattle.sm_syntax.specs.text.Conditions.{is_in}
-use Rattle.sm_deps.specs.Members.{members, either}
-use Rattle.sm_deps.proofs.MembersLemmas.{either-false, members-insert}
+use Rattle.sm_template.proofs.Imports.{◌∙◌, List, get_or, ap, sym, take_all, Name, is_in, either, either-false, members-insert}
+use Rattle.sm_deps.specs.Members.{members}
 use Rattle.sm_template.proofs.WrittenLemmas.{numbers_of, name_put}
 use Rattle.sm_template.proofs.written.add_names.Goals as goal
 

@@ -1,7 +1,6 @@
 -- The first names are there.
-use Rattle.std.proofs.Common.{◌≡◌, take}
-use Rattle.sm_syntax.specs.text.Conditions.{is_in}
-use Rattle.sm_deps.specs.Members.{members, either}
+use Rattle.sm_template.proofs.Imports.{◌≡◌, take, is_in, either}
+use Rattle.sm_deps.specs.Members.{members}
 use Rattle.sm_template.proofs.WrittenLemmas.{numbers_of}
 use Rattle.sm_template.proofs.written.add_names.Given as goal
 

@@ -1,8 +1,5 @@
 -- One declared name more, which is of the set or isn't.
-use Rattle.std.proofs.Common.{◌∙◌, ℕ, true, false, List, get_or, ap}
-use Rattle.sm_syntax.specs.declared.tree.Name.{Name}
-use Rattle.sm_syntax.specs.declared.tree.Sort.{Sort}
-use Rattle.sm_syntax.specs.declared.tree.Sort.TheVariants.{Num}
+use Rattle.sm_template.proofs.Imports.{◌∙◌, ℕ, true, false, List, get_or, ap, Name, Sort, Num}
 use Rattle.sm_deps.specs.Members.{members}
 use Rattle.sm_template.proofs.TemplatesMade.{names_of}
 use Rattle.sm_template.proofs.WrittenLemmas.{contained, declared_more, declared_less}

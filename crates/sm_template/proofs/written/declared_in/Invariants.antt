@@ -1,7 +1,5 @@
 -- Those of the set are there, of the first names.
-use Rattle.std.proofs.Common.{◌≡◌, ℕ, take}
-use Rattle.std.specs.List.{filter}
-use Rattle.sm_syntax.specs.declared.tree.Sort.{Sort}
+use Rattle.sm_template.proofs.Imports.{◌≡◌, ℕ, take, filter, Sort}
 use Rattle.sm_deps.specs.Members.{members}
 use Rattle.sm_template.proofs.TemplatesMade.{names_of}
 use Rattle.sm_template.proofs.written.declared_in.Given as goal

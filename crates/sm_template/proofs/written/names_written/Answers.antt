@@ -1,12 +1,7 @@
 -- The declared names of the union.
-use Rattle.std.proofs.Common.{◌≡◌, ℕ, Bool, ap, ◌∙◌}
-use Rattle.std.specs.List.{filter}
+use Rattle.sm_template.proofs.Imports.{◌≡◌, ℕ, Bool, ap, ◌∙◌, filter, Sort, declared_of, if_ok, names_written}
 use Rattle.sm_syntax.specs.declared.program.Decls.{Decls}
-use Rattle.sm_syntax.specs.declared.tree.Sort.{Sort}
-use Rattle.sm_syntax.specs.trees.Programs.{declared_of}
 use Rattle.sm_deps.specs.Members.{members}
-use Rattle.sm_deps.proofs.MembersLemmas.{if_ok}
-use Rattle.sm_template.specs.Written.{names_written}
 use Rattle.sm_template.proofs.written.names_written.Goals as goal
 
 pub returns : goal.returns

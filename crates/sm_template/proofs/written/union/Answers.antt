@@ -1,9 +1,5 @@
 -- The names of the four lists.
-use Rattle.std.proofs.Common.{ℕ, Bool, ap, ◌∙◌}
-use Rattle.sm_syntax.specs.text.Conditions.{is_in}
-use Rattle.sm_syntax.specs.trees.Programs.{outputs_of}
-use Rattle.sm_deps.specs.Members.{either}
-use Rattle.sm_deps.proofs.MembersLemmas.{members-empty}
+use Rattle.sm_template.proofs.Imports.{ℕ, Bool, ap, ◌∙◌, is_in, outputs_of, either, members-empty}
 use Rattle.sm_template.proofs.WrittenLemmas.{union_is}
 use Rattle.sm_template.proofs.written.union.Goals as goal
 

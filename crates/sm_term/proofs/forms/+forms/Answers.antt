@@ -1,12 +1,8 @@
 -- The second of two is made over the table with the first, and the first stays.
-use Rattle.std.proofs.Common.{rules, length, ap, sym, subst, ◌∙◌}
-use Rattle.sm_syntax.specs.trees.Views.{condition_of}
+use Rattle.sm_term.proofs.Imports.{rules, length, ap, sym, subst, ◌∙◌, condition_of, store_in, numbered, assertion_in, IsFormulaWithin, trees_in, sorts_in}
 use Rattle.sm_term.specs.Assertions as plain
 use Rattle.sm_term.specs.Symbolic as symbolic
-use Rattle.sm_term.specs.SymStores.{store_in}
-use Rattle.sm_term.specs.Formulas.{numbered, assertion_in, IsFormulaWithin}
 use Rattle.sm_term.proofs.FormulasLemmas.{contrary_negates}
-use Rattle.sm_term.specs.Tables.{trees_in, sorts_in}
 use Rattle.sm_term.proofs.ExpressionLemmas.{within_more, sorted_more}
 use Rattle.sm_term.proofs.FormsLemmas.{contrary_within, tested_more, assertion-more, form_kept, formed-more}
 use Rattle.sm_term.proofs.forms.+forms.Goals as goal

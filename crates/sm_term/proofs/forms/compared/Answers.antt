@@ -1,9 +1,6 @@
 -- The formula compares the two terms.
-use Rattle.std.proofs.Common.{length, ap, ◌∙◌}
-use Rattle.sm_syntax.specs.trees.Views.{expression_of}
-use Rattle.sm_term.specs.Sorted.{tree_sort}
+use Rattle.sm_term.proofs.Imports.{length, ap, ◌∙◌, expression_of, tree_sort, trees_in, sorts_in}
 use Rattle.sm_term.specs.Symbolic as plain
-use Rattle.sm_term.specs.Tables.{trees_in, sorts_in}
 use Rattle.sm_term.proofs.ExpressionLemmas.{tree_got, number_made, there}
 use Rattle.sm_term.proofs.forms.compared.Goals as goal
 

@@ -1,6 +1,5 @@
 -- A body that is there stays at its place, and another goes last.
-use Rattle.std.proofs.Common.{◌++◌, ◌∷◌, [], if◌then◌else◌, refl, sym, ap, ◌∙◌}
-use Rattle.sm_term.specs.Bodies.{same_body-Decides}
+use Rattle.sm_term.proofs.Imports.{◌++◌, ◌∷◌, [], if◌then◌else◌, refl, sym, ap, ◌∙◌, same_body-Decides}
 use Rattle.sm_term.proofs.intern.number_of_body.Goals as goal
 
 pub returns-in-Some-clause-values : goal.returns-in-Some-clause-values

@@ -1,6 +1,5 @@
 -- A term that is there stays at its place, and another goes last.
-use Rattle.std.proofs.Common.{◌++◌, ◌∷◌, [], if◌then◌else◌, sym, ap, ◌∙◌}
-use Rattle.sm_term.specs.RowLaws.{same_term-Decides, same_term-equiv}
+use Rattle.sm_term.proofs.Imports.{◌++◌, ◌∷◌, [], if◌then◌else◌, sym, ap, ◌∙◌, same_term-Decides, same_term-equiv}
 use Rattle.sm_term.proofs.intern.number_of_term.Goals as goal
 
 pub returns-in-Some-clause-values : goal.returns-in-Some-clause-values

@@ -1,7 +1,5 @@
 -- The first parts have been moved.
-use Rattle.std.proofs.Common.{◌≡◌, map, take}
-use Rattle.sm_term.specs.Rows.{parts_in_list}
-use Rattle.sm_term.specs.Moves.{moved_part}
+use Rattle.sm_term.proofs.Imports.{◌≡◌, map, take, parts_in_list, moved_part}
 use Rattle.sm_term.proofs.moves.all_here.Given as goal
 
 abbrev pub invariant-loop-part : goal.invariant-loop-part

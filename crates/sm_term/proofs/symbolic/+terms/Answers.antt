@@ -1,14 +1,6 @@
-use Rattle.std.proofs.Common.{rules, ◌≡◌, true, Some, length, slice_get, IfOk, ap, sym, subst, ◌∙◌}
-use Rattle.sm_syntax.specs.text.Sorts.{IsWellSortedExpression}
-use Rattle.sm_syntax.specs.declared.tree.Sort.TheVariants.{Num, Arr}
-use Rattle.sm_syntax.specs.trees.Views.{expression_of}
+use Rattle.sm_term.proofs.Imports.{rules, ◌≡◌, true, Some, length, slice_get, IfOk, ap, sym, subst, ◌∙◌, IsWellSortedExpression, Num, Arr, expression_of, tree_sort, pair_tree, store_in, term_fits, trees_in, sorts_in, codes_in, tree_at, tree_in, IsTermWithin}
 use Rattle.sm_term.specs.Terms as tree
-use Rattle.sm_term.specs.Sorted.{tree_sort}
-use Rattle.sm_term.specs.Pairs.{pair_tree}
 use Rattle.sm_term.specs.Symbolic as plain
-use Rattle.sm_term.specs.SymStores.{store_in}
-use Rattle.sm_term.specs.Fitting.{term_fits}
-use Rattle.sm_term.specs.Tables.{trees_in, sorts_in, codes_in, tree_at, tree_in, IsTermWithin}
 use Rattle.sm_term.proofs.PairsLemmas.{pair_within, pair_fits, pair_made}
 use Rattle.sm_term.proofs.ExpressionLemmas.{store-more, stays_got, tree_got, sort_got, within_more, sorted_more, well-more, made-more, number_made, there}
 use Rattle.sm_term.proofs.symbolic.+terms.Goals as goal

@@ -1,12 +1,6 @@
 -- The array is over the table before, and the index stays.
-use Rattle.std.proofs.Common.{◌≡◌, pos, Some, slice_get, IfOk, sym, subst}
-use Rattle.std.proofs.lemmas.Bool.{and_from}
-use Rattle.std.proofs.lemmas.Option.{slice_get-get_or}
-use Rattle.sm_syntax.specs.declared.tree.Sort.TheVariants.{Num, Arr}
+use Rattle.sm_term.proofs.Imports.{◌≡◌, pos, Some, slice_get, IfOk, sym, subst, and_from, slice_get-get_or, Num, Arr, tree_sort, store_in, trees_in, sorts_in, tree_at}
 use Rattle.sm_term.specs.Terms as tree
-use Rattle.sm_term.specs.Sorted.{tree_sort}
-use Rattle.sm_term.specs.SymStores.{store_in}
-use Rattle.sm_term.specs.Tables.{trees_in, sorts_in, tree_at}
 use Rattle.sm_term.proofs.ExpressionLemmas.{named_declared, stays_got, tree_got, sort_got, name_made, there}
 use Rattle.sm_term.proofs.symbolic.element_term.Goals as goal
 

@@ -1,6 +1,4 @@
-use Rattle.std.proofs.Common.{◌≡◌, ◌≤◌, length, Some, IfOk, slice_get, sym, ap, ◌∙◌, subst, arith}
-use Rattle.std.proofs.lemmas.Option.{slice_get-get_or}
-use Rattle.sm_term.specs.Tables.{trees_in}
+use Rattle.sm_term.proofs.Imports.{◌≡◌, ◌≤◌, length, Some, IfOk, slice_get, sym, ap, ◌∙◌, subst, arith, slice_get-get_or, trees_in}
 use Rattle.sm_term.proofs.ExpressionLemmas.{name_stored, name_started}
 use Rattle.sm_term.proofs.symbolic.named_term.Goals as goal
 

@@ -1,7 +1,5 @@
 -- The first bodies have been copied.
-use Rattle.std.proofs.Common.{◌≡◌, map, take}
-use Rattle.sm_syntax.specs.trees.Views.{code_of}
-use Rattle.sm_term.specs.Bodies.{body_code}
+use Rattle.sm_term.proofs.Imports.{◌≡◌, map, take, code_of, body_code}
 use Rattle.sm_term.proofs.tails.copied_blocks.Given as goal
 
 abbrev pub invariant-loop-body : goal.invariant-loop-body

@@ -1,6 +1,5 @@
 -- The first terms have been copied.
-use Rattle.std.proofs.Common.{◌≡◌, map, take}
-use Rattle.sm_term.specs.RowLaws.{contents_of}
+use Rattle.sm_term.proofs.Imports.{◌≡◌, map, take, contents_of}
 use Rattle.sm_term.proofs.tails.copied_terms.Given as goal
 
 abbrev pub invariant-loop-term : goal.invariant-loop-term

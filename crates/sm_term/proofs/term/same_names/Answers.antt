@@ -1,6 +1,4 @@
-use Rattle.std.proofs.Common.{sym, ◌∙◌, nat_eq}
-use Rattle.std.specs.Cmp.Derive.Mapped.{pointwise-map}
-use Rattle.sm_syntax.specs.declared.tree.Name.{Name}
+use Rattle.sm_term.proofs.Imports.{sym, ◌∙◌, nat_eq, pointwise-map, Name}
 use Rattle.sm_term.proofs.term.same_names.Goals as goal
 
 pub returns : goal.returns

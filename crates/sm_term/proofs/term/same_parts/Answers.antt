@@ -1,5 +1,4 @@
-use Rattle.std.proofs.Common.{sym, ◌∙◌, nat_eq}
-use Rattle.std.specs.Cmp.Derive.Mapped.{pointwise-map}
+use Rattle.sm_term.proofs.Imports.{sym, ◌∙◌, nat_eq, pointwise-map}
 use Rattle.sm_term.specs.declared.term.TermId.{TermId}
 use Rattle.sm_term.proofs.term.same_parts.Goals as goal
 

@@ -1,9 +1,5 @@
 -- The step that is taken is one of those that were left.
-use Rattle.std.proofs.Common.{◌≡◌, ◌<◌, ◌+◌, ◌++◌, ◌∷◌, [], List, true, length, nat_eq, sym, subst, ap, ◌∙◌, arith}
-use Rattle.std.specs.List.{list_any}
-use Rattle.sm_term.specs.Tables.{trees_in, tree_at}
-use Rattle.sm_terms.specs.declared.listing.Step.{Step}
-use Rattle.sm_terms.specs.Listing.{trees_at, AreStepsWithin, cost_of_step, cost_of_steps}
+use Rattle.sm_terms.proofs.Imports.{◌≡◌, ◌<◌, ◌+◌, ◌++◌, ◌∷◌, [], List, true, length, nat_eq, sym, subst, ap, ◌∙◌, arith, list_any, trees_in, tree_at, Step, trees_at, AreStepsWithin, cost_of_step, cost_of_steps}
 use Rattle.sm_terms.proofs.ListingLemmas.{steps_within-split, cost-append, listed_tells}
 use Rattle.sm_terms.proofs.WithTermLemmas.{same_with_term}
 use Rattle.sm_terms.proofs.listing.list_term.Goals as goal

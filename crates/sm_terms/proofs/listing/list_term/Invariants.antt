@@ -1,7 +1,5 @@
 -- The steps that are left make the terms that are wanted.
-use Rattle.sm_term.specs.Tables.{trees_in, tree_at}
-use Rattle.sm_theory.specs.TermsOfFormulas.{with_term}
-use Rattle.sm_terms.specs.Listing.{trees_at, Leads, cost_of_steps}
+use Rattle.sm_terms.proofs.Imports.{trees_in, tree_at, with_term, trees_at, Leads, cost_of_steps}
 use Rattle.sm_terms.proofs.listing.list_term.Given as goal
 
 abbrev pub invariant-loop-step : goal.invariant-loop-step

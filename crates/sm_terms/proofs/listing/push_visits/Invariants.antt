@@ -1,6 +1,5 @@
 -- The visits of the terms behind a place are pushed.
-use Rattle.std.proofs.Common.{◌≡◌, ◌≤◌, ◌++◌, length, drop}
-use Rattle.sm_terms.specs.Listing.{visits}
+use Rattle.sm_terms.proofs.Imports.{◌≡◌, ◌≤◌, ◌++◌, length, drop, visits}
 use Rattle.sm_terms.proofs.listing.push_visits.Given as goal
 
 abbrev pub invariant-loop-left : goal.invariant-loop-left

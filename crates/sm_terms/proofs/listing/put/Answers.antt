@@ -1,7 +1,5 @@
 -- The number is listed, and so its tree.
-use Rattle.std.proofs.Common.{ℕ, List, sym, subst}
-use Rattle.sm_term.specs.Tables.{trees_in}
-use Rattle.sm_terms.specs.Listing.{Leads}
+use Rattle.sm_terms.proofs.Imports.{ℕ, List, sym, subst, trees_in, Leads}
 use Rattle.sm_terms.proofs.ListingLemmas.{put_leads}
 use Rattle.sm_terms.proofs.listing.put.Goals as goal
 

@@ -1,13 +1,6 @@
 -- A term that is listed is passed over, any other waits for its arguments.
-use Rattle.std.proofs.Common.{◌≡◌, ◌<◌, ◌+◌, ◌++◌, ◌∷◌, [], List, true, length, nat_eq, sym, ap, subst, ◌∙◌, arith}
-use Rattle.std.specs.List.{list_any}
-use Rattle.sm_term.specs.Tables.{trees_in, sorts_in, codes_in}
-use Rattle.sm_term.specs.Heads.{arguments_of}
-use Rattle.sm_euf.specs.Arguments.{argument_numbers}
+use Rattle.sm_terms.proofs.Imports.{◌≡◌, ◌<◌, ◌+◌, ◌++◌, ◌∷◌, [], List, true, length, nat_eq, sym, ap, subst, ◌∙◌, arith, list_any, trees_in, sorts_in, codes_in, arguments_of, argument_numbers, Step, Visit, Put, Leads, visits, cost_of_step, cost_of_steps}
 use Rattle.sm_euf.proofs.ArgumentsLemmas.{arguments_are, parts_before}
-use Rattle.sm_terms.specs.declared.listing.Step.{Step}
-use Rattle.sm_terms.specs.declared.listing.Step.TheVariants.{Visit, Put}
-use Rattle.sm_terms.specs.Listing.{Leads, visits, cost_of_step, cost_of_steps}
 use Rattle.sm_terms.proofs.ListingLemmas.{skip_leads, skip_less, open_leads, open_less}
 use Rattle.sm_terms.proofs.listing.visit.Goals as goal
 

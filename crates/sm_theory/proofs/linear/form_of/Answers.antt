@@ -1,15 +1,6 @@
 -- By the kind of the term.
-use Rattle.std.proofs.Common.{◌≡◌, ℕ, pos, negsuc, nat_eq, if◌then◌else◌, subst, sym}
-use Rattle.std.specs.HashMap.{get}
-use Rattle.std.proofs.lemmas.Result.{IfOk-weaker}
-use Rattle.sm_num.specs.Forms.{Linear}
+use Rattle.sm_theory.proofs.Imports.{◌≡◌, ℕ, pos, negsuc, nat_eq, if◌then◌else◌, subst, sym, get, IfOk-weaker, Linear, combined, fits_form, trees_in, codes_in, tree_in, tree_at, Term, linear_of, constant_form, atom_form, or_atom, scaled_form, product_form, IsKeptFor}
 use Rattle.sm_num.specs.declared.kind.Kind.TheVariants.{Eq}
-use Rattle.sm_num.specs.Combining.{combined}
-use Rattle.sm_num.specs.Range.{fits_form}
-use Rattle.sm_term.specs.Tables.{trees_in, codes_in, tree_in, tree_at}
-use Rattle.sm_term.specs.declared.term.Term.{Term}
-use Rattle.sm_theory.specs.LinearTerms.{linear_of, constant_form, atom_form, or_atom, scaled_form, product_form}
-use Rattle.sm_theory.specs.Standing.{IsKeptFor}
 use Rattle.sm_theory.proofs.FormsOfTermsLemmas.{lit_kept, neg_kept, add_kept, sub_kept, mul_kept, atom_kept, is_atom}
 use Rattle.sm_theory.proofs.linear.form_of.Goals as goal
 

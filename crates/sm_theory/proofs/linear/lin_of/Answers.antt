@@ -1,13 +1,6 @@
 -- The walk goes down to a part that has no form, or up with one form more.
-use Rattle.std.proofs.Common.{◌≡◌, ◌+◌, ◌*◌, ℕ, List, [], ◌∷◌, ◌++◌, nat_eq, Some, None, Option, refl, sym, ap, subst, ◌∙◌, arith}
+use Rattle.sm_theory.proofs.Imports.{◌≡◌, ◌+◌, ◌*◌, ℕ, List, [], ◌∷◌, ◌++◌, nat_eq, Some, None, Option, refl, sym, ap, subst, ◌∙◌, arith, get, lookup, Linear, trees_in, tree_at, linear_of, IsKeptFor, IsFound, IsWay, AreOpen, missing_below}
 use Rattle.std.proofs.lemmas.Grind.{common_steps}
-use Rattle.std.specs.HashMap.{get}
-use Rattle.std.specs.Map.{lookup}
-use Rattle.sm_num.specs.Forms.{Linear}
-use Rattle.sm_term.specs.Tables.{trees_in, tree_at}
-use Rattle.sm_theory.specs.LinearTerms.{linear_of}
-use Rattle.sm_theory.specs.Standing.{IsKeptFor}
-use Rattle.sm_theory.specs.FormsOfTerms.{IsFound, IsWay, AreOpen, missing_below}
 use Rattle.sm_theory.proofs.WalkLemmas.{way_below, way_pushed, way_popped, open_pushed, open_popped, way_open, forms_gain, missing_less, way_start}
 use Rattle.sm_theory.proofs.linear.lin_of.Goals as goal
 use Rattle.sm_lemmas.proofs.Numbers.{rounds_less, sum_less}

@@ -1,8 +1,5 @@
 -- The way down from the term, and the forms that are there.
-use Rattle.std.proofs.Common.{◌≡◌, ◌+◌, ◌*◌, None, nat_eq}
-use Rattle.std.specs.HashMap.{get}
-use Rattle.sm_term.specs.Tables.{trees_in}
-use Rattle.sm_theory.specs.FormsOfTerms.{AreFormsOf, IsWay, AreOpen, missing_below}
+use Rattle.sm_theory.proofs.Imports.{◌≡◌, ◌+◌, ◌*◌, None, nat_eq, get, trees_in, AreFormsOf, IsWay, AreOpen, missing_below}
 use Rattle.sm_theory.proofs.linear.lin_of.Given as goal
 
 abbrev pub invariant-walk : goal.invariant-walk

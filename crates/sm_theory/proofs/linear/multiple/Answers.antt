@@ -1,13 +1,9 @@
 -- A multiple is a sum with nothing.
-use Rattle.std.proofs.Common.{ℕ, ℤ, pos, rules, sym, subst}
-use Rattle.std.proofs.lemmas.Int.{to_z-of_z}
+use Rattle.sm_theory.proofs.Imports.{ℕ, ℤ, pos, rules, sym, subst, to_z-of_z, Linear, Outcome, combined, constant_form, scaled_form}
 use Rattle.std.specs.Int.{w128}
 use mir.Val.{SFits}
-use Rattle.sm_num.specs.Forms.{Linear}
 use Rattle.sm_num.specs.declared.kind.Kind.TheVariants.{Eq}
-use Rattle.sm_num.specs.Combining.{Outcome, combined}
 use Rattle.sm_num.specs.Errors.{Returns}
-use Rattle.sm_theory.specs.LinearTerms.{constant_form, scaled_form}
 use Rattle.sm_theory.proofs.LinearNumbers.{scaled_is_combined}
 use Rattle.sm_theory.proofs.linear.multiple.Goals as goal
 

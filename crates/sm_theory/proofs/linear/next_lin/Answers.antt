@@ -1,15 +1,6 @@
 -- By the kind of the term. Its parts stand before it.
-use Rattle.std.proofs.Common.{◌≡◌, ℕ, ◌<◌, pos, negsuc, if◌then◌else◌, List, length, get_or, slice_get, Some, subst, sym, ap, ◌∙◌}
-use Rattle.std.proofs.lemmas.Option.{slice_get-get_or}
-use Rattle.std.proofs.lemmas.Result.{IfOk-weaker}
-use Rattle.sm_num.specs.Forms.{Linear}
+use Rattle.sm_theory.proofs.Imports.{◌≡◌, ℕ, ◌<◌, pos, negsuc, if◌then◌else◌, List, length, get_or, slice_get, Some, subst, sym, ap, ◌∙◌, slice_get-get_or, IfOk-weaker, Linear, combined, fits_form, trees_in, sorts_in, codes_in, tree_in, tree_at, IsTermWithin, Term, linear_of, constant_form, atom_form, or_atom, scaled_form, product_form, IsKeptFor}
 use Rattle.sm_num.specs.declared.kind.Kind.TheVariants.{Eq}
-use Rattle.sm_num.specs.Combining.{combined}
-use Rattle.sm_num.specs.Range.{fits_form}
-use Rattle.sm_term.specs.Tables.{trees_in, sorts_in, codes_in, tree_in, tree_at, IsTermWithin}
-use Rattle.sm_term.specs.declared.term.Term.{Term}
-use Rattle.sm_theory.specs.LinearTerms.{linear_of, constant_form, atom_form, or_atom, scaled_form, product_form}
-use Rattle.sm_theory.specs.Standing.{IsKeptFor}
 use Rattle.sm_theory.proofs.FormsOfTermsLemmas.{lit_kept, neg_kept, add_kept, sub_kept, mul_kept, atom_kept, is_atom}
 use Rattle.sm_theory.proofs.linear.next_lin.Goals as goal
 

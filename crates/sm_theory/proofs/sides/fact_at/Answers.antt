@@ -1,8 +1,5 @@
-use Rattle.std.proofs.Common.{◌≡◌, ℕ, List, Option, Some, None, slice_get, option_copied, Bor, sym, ap, subst, ◌∙◌}
-use Rattle.std.proofs.lemmas.Option.{slice_get-get_or, slice_get_past}
+use Rattle.sm_theory.proofs.Imports.{◌≡◌, ℕ, List, Option, Some, None, slice_get, option_copied, Bor, sym, ap, subst, ◌∙◌, slice_get-get_or, slice_get_past, FactStands, Fact, OptionStands}
 use Rattle.std.specs.Slice.{IsItemAt}
-use Rattle.sm_theory.specs.Views.{FactStands, Fact}
-use Rattle.sm_theory.specs.Sides.{OptionStands}
 use Rattle.sm_theory.proofs.SidesLemmas.{fact_found}
 use Rattle.sm_theory.proofs.sides.fact_at.Goals as goal
 

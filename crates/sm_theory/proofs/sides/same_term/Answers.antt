@@ -1,5 +1,4 @@
-use Rattle.std.proofs.Common.{◌∙◌}
-use Rattle.sm_term.specs.Tables.{trees_in}
+use Rattle.sm_theory.proofs.Imports.{◌∙◌, trees_in}
 use Rattle.sm_theory.proofs.SidesLemmas.{numbers_tell}
 use Rattle.sm_theory.proofs.sides.same_term.Goals as goal
 

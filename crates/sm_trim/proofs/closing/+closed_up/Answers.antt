@@ -1,14 +1,4 @@
-use Rattle.std.proofs.Common.{◌≡◌, ◌∙◌, ℕ, suc, List, refl, ap, sym, arith}
-use Rattle.sm_theory.specs.Lines.{CertificateLine}
-use Rattle.sm_theory.specs.Moved.{moved_line}
-use Rattle.sm_theory.specs.Views.{line_in}
-use Rattle.sm_cert.specs.Certificates.{Certificate, Split}
-use Rattle.sm_cert.specs.Views.{lines_before, certificate_in}
-use Rattle.sm_cert.proofs.CheckLemmas.{tree_split}
-use Rattle.sm_trim.specs.declared.left.LeftLine.{LeftLine}
-use Rattle.sm_trim.specs.declared.left.LeftTree.{LeftTree}
-use Rattle.sm_trim.specs.Pruned.{LeftSplit, new_number, numbered_on, closed_up}
-use Rattle.sm_trim.specs.Views.{left_before, pruned_in}
+use Rattle.sm_trim.proofs.Imports.{◌≡◌, ◌∙◌, ℕ, suc, List, refl, ap, sym, arith, CertificateLine, moved_line, line_in, Certificate, Split, lines_before, certificate_in, tree_split, LeftLine, LeftTree, LeftSplit, new_number, numbered_on, closed_up, left_before, pruned_in}
 use Rattle.sm_trim.proofs.TreesLemmas.{left_split}
 use Rattle.sm_trim.proofs.closing.+closed_up.Goals as goal
 

@@ -1,10 +1,4 @@
-use Rattle.std.proofs.Common.{◌≡◌, ◌∙◌, ◌+◌, ◌-◌, ◌<◌, ℕ, List, length, take, ap, sym, arith}
-use Rattle.sm_theory.specs.Moved.{moved_line}
-use Rattle.sm_theory.specs.Views.{line_in}
-use Rattle.sm_theory.specs.declared.line.CertLine.{CertLine}
-use Rattle.sm_cert.specs.Views.{lines_before}
-use Rattle.sm_trim.specs.Pruned.{new_number, closed_up}
-use Rattle.sm_trim.specs.Views.{left_before}
+use Rattle.sm_trim.proofs.Imports.{◌≡◌, ◌∙◌, ◌+◌, ◌-◌, ◌<◌, ℕ, List, length, take, ap, sym, arith, moved_line, line_in, CertLine, lines_before, new_number, closed_up, left_before}
 use Rattle.sm_trim.proofs.LinesLemmas.{begins_on}
 use Rattle.sm_trim.proofs.TreesLemmas.{closed_more}
 use Rattle.sm_trim.proofs.closing.close_lines.Goals as goal

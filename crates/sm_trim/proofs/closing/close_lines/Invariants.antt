@@ -1,9 +1,5 @@
 -- The lines so far have new numbers, and those of the facts before them are kept.
-use Rattle.std.proofs.Common.{◌≡◌, ◌≤◌, List, length, take}
-use Rattle.sm_term.specs.Terms.{Tree}
-use Rattle.sm_cert.specs.Views.{lines_before}
-use Rattle.sm_trim.specs.Pruned.{Pruned, closed_up}
-use Rattle.sm_trim.specs.Views.{left_before}
+use Rattle.sm_trim.proofs.Imports.{◌≡◌, ◌≤◌, List, length, take, Tree, lines_before, Pruned, closed_up, left_before}
 use Rattle.sm_trim.proofs.closing.close_lines.Given as goal
 
 abbrev pub invariant-loop-i : goal.invariant-loop-i

@@ -1,8 +1,4 @@
-use Rattle.std.proofs.Common.{◌≡◌, ◌∙◌, []}
-use Rattle.std.proofs.lemmas.Result.{IfOk-weaker}
-use Rattle.sm_theory.specs.Moved.{moved_line}
-use Rattle.sm_theory.specs.Views.{line_in}
-use Rattle.sm_trim.specs.Pruned.{new_number}
+use Rattle.sm_trim.proofs.Imports.{◌≡◌, ◌∙◌, [], IfOk-weaker, moved_line, line_in, new_number}
 use Rattle.sm_trim.proofs.LinesLemmas.{copied}
 use Rattle.sm_trim.proofs.lines.copy_line.Goals as goal
 

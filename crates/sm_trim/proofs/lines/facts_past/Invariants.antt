@@ -1,7 +1,5 @@
 -- The facts after all lines are those after the lines from here on.
-use Rattle.std.proofs.Common.{◌≡◌, List, drop}
-use Rattle.sm_term.specs.Terms.{Tree}
-use Rattle.sm_trim.specs.Views.{facts_past}
+use Rattle.sm_trim.proofs.Imports.{◌≡◌, List, drop, Tree, facts_past}
 use Rattle.sm_trim.proofs.lines.facts_past.Given as goal
 
 abbrev pub invariant-loop-line : goal.invariant-loop-line

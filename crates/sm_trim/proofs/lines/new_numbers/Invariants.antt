@@ -1,6 +1,5 @@
 -- The new numbers of the facts so far.
-use Rattle.std.proofs.Common.{◌≡◌, take, map}
-use Rattle.sm_trim.specs.Pruned.{new_number}
+use Rattle.sm_trim.proofs.Imports.{◌≡◌, take, map, new_number}
 use Rattle.sm_trim.proofs.lines.new_numbers.Given as goal
 
 abbrev pub invariant-loop-n : goal.invariant-loop-n

@@ -1,6 +1,5 @@
 -- The numbers so far stand behind the list, and there are none past the end.
-use Rattle.std.proofs.Common.{◌≡◌, ◌-◌, ◌≤◌, ◌++◌, max}
-use Rattle.std.specs.List.{range_with_len}
+use Rattle.sm_trim.proofs.Imports.{◌≡◌, ◌-◌, ◌≤◌, ◌++◌, max, range_with_len}
 use Rattle.sm_trim.proofs.lines.push_numbers.Given as goal
 
 abbrev pub invariant-loop-n : goal.invariant-loop-n

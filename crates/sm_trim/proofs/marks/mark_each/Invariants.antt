@@ -1,7 +1,5 @@
 -- The facts so far are marked.
-use Rattle.std.proofs.Common.{nat_eq, take}
-use Rattle.std.specs.List.{list_any}
-use Rattle.sm_trim.specs.Views.{MarksMore}
+use Rattle.sm_trim.proofs.Imports.{nat_eq, take, list_any, MarksMore}
 use Rattle.sm_trim.proofs.marks.mark_each.Given as goal
 
 abbrev pub invariant-loop-fact : goal.invariant-loop-fact

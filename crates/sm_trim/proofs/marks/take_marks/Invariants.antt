@@ -1,7 +1,5 @@
 -- The marks so far are taken off.
-use Rattle.std.proofs.Common.{◌≡◌, ◌≤◌, ◌+◌, ◌-◌, ℕ, Bool}
-use Rattle.sm_trim.specs.Used.{some_pass}
-use Rattle.sm_trim.specs.Views.{AreMarks}
+use Rattle.sm_trim.proofs.Imports.{◌≡◌, ◌≤◌, ◌+◌, ◌-◌, ℕ, Bool, some_pass, AreMarks}
 use Rattle.sm_trim.proofs.marks.take_marks.Given as goal
 
 abbrev pub invariant-loop-left : goal.invariant-loop-left

@@ -1,12 +1,4 @@
-use Rattle.std.proofs.Common.{◌≡◌, ◌∙◌, ℕ, suc, List, IfOk, ap, sym, subst, arith}
-use Rattle.sm_theory.specs.Views.{line_in}
-use Rattle.sm_theory.specs.declared.line.CertLine.{CertLine}
-use Rattle.sm_cert.specs.Certificates.{Certificate, Split}
-use Rattle.sm_cert.specs.Views.{lines_before, certificate_in}
-use Rattle.sm_cert.specs.declared.tree.CertTree.{CertTree}
-use Rattle.sm_cert.proofs.CheckLemmas.{tree_split}
-use Rattle.sm_trim.specs.Pruned.{pruned}
-use Rattle.sm_trim.specs.Views.{facts_past, Leaves}
+use Rattle.sm_trim.proofs.Imports.{◌≡◌, ◌∙◌, ℕ, suc, List, IfOk, ap, sym, subst, arith, line_in, CertLine, Certificate, Split, lines_before, certificate_in, CertTree, tree_split, pruned, facts_past, Leaves}
 use Rattle.sm_trim.proofs.pruning.+pruned.Goals as goal
 
 pub returns-in_ok-below-in-Split : goal.returns-in_ok-below-in-Split

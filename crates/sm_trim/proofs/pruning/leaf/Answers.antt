@@ -1,5 +1,4 @@
-use Rattle.std.proofs.Common.{refl}
-use Rattle.sm_theory.specs.Views.{line_in}
+use Rattle.sm_trim.proofs.Imports.{refl, line_in}
 use Rattle.sm_trim.proofs.TreesLemmas.{leaf_leaves}
 use Rattle.sm_trim.proofs.pruning.leaf.Goals as goal
 

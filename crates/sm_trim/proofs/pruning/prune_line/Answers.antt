@@ -1,8 +1,4 @@
-use Rattle.std.proofs.Common.{◌∙◌, ◌+◌, ℕ, refl, sym, ap, subst}
-use Rattle.sm_theory.specs.Views.{line_in}
-use Rattle.sm_trim.specs.Used.{some_pass}
-use Rattle.sm_trim.specs.Pruned.{needs}
-use Rattle.sm_trim.specs.Views.{AreMarks}
+use Rattle.sm_trim.proofs.Imports.{◌∙◌, ◌+◌, ℕ, refl, sym, ap, subst, line_in, some_pass, needs, AreMarks}
 use Rattle.sm_trim.proofs.TreesLemmas.{line_in_place}
 use Rattle.sm_trim.proofs.pruning.prune_line.Goals as goal
 

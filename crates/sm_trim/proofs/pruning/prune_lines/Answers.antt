@@ -1,7 +1,4 @@
-use Rattle.std.proofs.Common.{◌≡◌, ◌+◌, ◌-◌, ◌<◌, ℕ, length, take, drop, subst, arith}
-use Rattle.sm_cert.specs.Views.{lines_before}
-use Rattle.sm_trim.specs.Pruned.{pruned}
-use Rattle.sm_trim.specs.Views.{facts_past, Leaves}
+use Rattle.sm_trim.proofs.Imports.{◌≡◌, ◌+◌, ◌-◌, ◌<◌, ℕ, length, take, drop, subst, arith, lines_before, pruned, facts_past, Leaves}
 use Rattle.sm_trim.proofs.TreesLemmas.{pruned_more}
 use Rattle.sm_trim.proofs.pruning.prune_lines.Goals as goal
 

@@ -1,10 +1,5 @@
 -- What is left of the lines from here on.
-use Rattle.std.proofs.Common.{◌≤◌, ℕ, List, length, take, drop}
-use Rattle.sm_term.specs.Terms.{Tree}
-use Rattle.sm_cert.specs.Certificates.{Certificate}
-use Rattle.sm_cert.specs.Views.{lines_before}
-use Rattle.sm_trim.specs.Pruned.{pruned}
-use Rattle.sm_trim.specs.Views.{facts_past, Leaves}
+use Rattle.sm_trim.proofs.Imports.{◌≤◌, ℕ, List, length, take, drop, Tree, Certificate, lines_before, pruned, facts_past, Leaves}
 use Rattle.sm_trim.proofs.pruning.prune_lines.Given as goal
 
 abbrev pub invariant-loop-i : goal.invariant-loop-i

@@ -1,7 +1,4 @@
-use Rattle.std.proofs.Common.{◌∙◌, sym, ap}
-use Rattle.sm_theory.specs.Views.{line_in}
-use Rattle.sm_trim.specs.Pruned.{Pruned, LeftSplit, needs}
-use Rattle.sm_trim.specs.Views.{pruned_in}
+use Rattle.sm_trim.proofs.Imports.{◌∙◌, sym, ap, line_in, Pruned, LeftSplit, needs, pruned_in}
 use Rattle.sm_trim.proofs.TreesLemmas.{first_in_place, second_in_place, both_in_place}
 use Rattle.sm_trim.proofs.pruning.split.Goals as goal
 

@@ -1,8 +1,4 @@
-use Rattle.std.proofs.Common.{◌≡◌, IfOk, subst}
-use Rattle.sm_theory.specs.Lines.{CertificateLine}
-use Rattle.sm_trim.specs.Pruned.{LeftSplit}
-use Rattle.sm_trim.specs.Views.{pruned_in}
-use Rattle.sm_trim.specs.declared.left.LeftTree.{LeftTree}
+use Rattle.sm_trim.proofs.Imports.{◌≡◌, IfOk, subst, CertificateLine, LeftSplit, pruned_in, LeftTree}
 use Rattle.sm_trim.proofs.pruning.split_by.Goals as goal
 
 pub returns : goal.returns

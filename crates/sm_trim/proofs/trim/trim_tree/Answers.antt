@@ -1,10 +1,4 @@
-use Rattle.std.proofs.Common.{◌≡◌, ◌≤◌}
-use Rattle.std.specs.List.{Contains}
-use Rattle.sm_cert.specs.Certificates.{Closes, lines_in}
-use Rattle.sm_cert.specs.Views.{certificate_in, lines_of, AreLinesWithin}
-use Rattle.sm_cert.specs.declared.tree.CertTree.{CertTree}
-use Rattle.sm_trim.specs.Used.{IsUsed}
-use Rattle.sm_trim.specs.Named.{terms_in, EachNamesFew}
+use Rattle.sm_trim.proofs.Imports.{◌≡◌, ◌≤◌, Contains, Closes, lines_in, certificate_in, lines_of, AreLinesWithin, CertTree, IsUsed, terms_in, EachNamesFew}
 use Rattle.sm_trim.proofs.TrimLemmas.{ok_so, closes_so, used_so, stays_so, terms_so, shorter_so, few_so, within_so}
 use Rattle.sm_trim.proofs.trim.trim_tree.Goals as goal
 

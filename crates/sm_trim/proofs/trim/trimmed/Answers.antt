@@ -1,9 +1,4 @@
-use Rattle.std.proofs.Common.{◌≡◌, ◌∙◌, ℕ, List, [], ap}
-use Rattle.std.proofs.lemmas.Result.{IfOk-weaker}
-use Rattle.sm_cert.specs.Views.{certificate_in}
-use Rattle.sm_trim.specs.Pruned.{closed_up}
-use Rattle.sm_trim.specs.Views.{pruned_in}
-use Rattle.sm_trim.specs.Laws.{trimmed}
+use Rattle.sm_trim.proofs.Imports.{◌≡◌, ◌∙◌, ℕ, List, [], ap, IfOk-weaker, certificate_in, closed_up, pruned_in, trimmed}
 use Rattle.sm_trim.proofs.trim.trimmed.Goals as goal
 
 pub returns : goal.returns

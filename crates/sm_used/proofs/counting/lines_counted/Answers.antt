@@ -1,7 +1,5 @@
 -- One line more is read and counted.
-use Rattle.std.proofs.Common.{◌∙◌, eqb-true, length, sym, subst}
-use Rattle.std.proofs.lemmas.List.{nil_from_length}
-use Rattle.sm_proof.specs.Lines.{line_of}
+use Rattle.sm_used.proofs.Imports.{◌∙◌, eqb-true, length, sym, subst, nil_from_length, line_of}
 use Rattle.sm_used.proofs.CountedLemmas.{Reads, goes_all, goes_more, reads_all, reads_more}
 use Rattle.sm_used.proofs.counting.lines_counted.Goals as goal
 

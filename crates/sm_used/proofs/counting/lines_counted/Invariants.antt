@@ -1,8 +1,5 @@
 -- The lines so far are read and counted, and the others are left.
-use Rattle.std.proofs.Common.{Ok, Bool, length}
-use Rattle.sm_proof.specs.Passing.{Progress}
-use Rattle.sm_proof.specs.Verdicts.{Subject, Underway}
-use Rattle.sm_check.specs.Checkers.{IsAt}
+use Rattle.sm_used.proofs.Imports.{Ok, Bool, length, Progress, Subject, Underway, IsAt}
 use Rattle.sm_used.proofs.CountedLemmas.{Goes, Reads}
 use Rattle.sm_used.proofs.counting.lines_counted.Given as goal
 

@@ -1,6 +1,5 @@
 -- A line that is taken leads on.
-use Rattle.sm_proof.specs.Lines.{line_of}
-use Rattle.sm_proof.specs.Verdicts.{Underway}
+use Rattle.sm_used.proofs.Imports.{line_of, Underway}
 use Rattle.sm_used.proofs.CountedLemmas.{leads_on}
 use Rattle.sm_used.proofs.counting.next_row.Goals as goal
 

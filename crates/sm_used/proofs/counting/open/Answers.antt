@@ -1,8 +1,5 @@
 -- A version line that is taken leads to the start.
-use Rattle.std.proofs.Common.{◌∷◌, List, ℕ, subst}
-use Rattle.sm_proof.specs.Lines.{Header, ProofLine, line_of}
-use Rattle.sm_proof.specs.Cases.{AreRead}
-use Rattle.sm_proof.specs.Verdicts.{Unopened, lines_in}
+use Rattle.sm_used.proofs.Imports.{◌∷◌, List, ℕ, subst, Header, ProofLine, line_of, AreRead, Unopened, lines_in}
 use Rattle.sm_used.proofs.CountedLemmas.{leads_in, read_first}
 use Rattle.sm_used.proofs.counting.open.Goals as goal
 

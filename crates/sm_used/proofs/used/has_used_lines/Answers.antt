@@ -1,9 +1,6 @@
 -- Where each line of a certificate is used, and each term and formula named, each line is used.
 use Rattle.std.proofs.lemmas.Result.{IfOk-weaker}
-use Rattle.std.proofs.Common.{◌≡◌, true}
-use Rattle.sm_proof.specs.Verdicts.{subject_of}
-use Rattle.sm_prune.specs.UsedLines.{HasUsedLines}
-use Rattle.sm_text.specs.Tasks.{parts_of}
+use Rattle.sm_used.proofs.Imports.{◌≡◌, true, subject_of, HasUsedLines, parts_of}
 use Rattle.sm_used.proofs.CountedLemmas.{rows_used}
 use Rattle.sm_used.proofs.used.has_used_lines.Goals as goal
 

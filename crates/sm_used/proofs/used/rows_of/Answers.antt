@@ -1,7 +1,5 @@
 -- The lines behind the version line are read and counted.
-use Rattle.std.proofs.Common.{Ok}
-use Rattle.sm_proof.specs.Verdicts.{subject_of}
-use Rattle.sm_text.specs.Tasks.{parts_of}
+use Rattle.sm_used.proofs.Imports.{Ok, subject_of, parts_of}
 use Rattle.sm_used.proofs.CountedLemmas.{rows_told}
 use Rattle.sm_used.proofs.used.rows_of.Goals as goal
 

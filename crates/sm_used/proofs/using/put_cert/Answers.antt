@@ -1,9 +1,6 @@
 -- A line of each kind is used, by what its function tells.
-use Rattle.std.proofs.Common.{◌≡◌, true, ◌∙◌, sym, if◌then◌else◌, IfOk}
-use Rattle.std.specs.Prelude.{IsTrue}
-use Rattle.sm_proof.specs.Lines.{Cert, numbered_line}
-use Rattle.sm_prune.specs.UsedLines.{IsCertUsed}
-use Rattle.sm_used.specs.Names.{Know}
+use Rattle.sm_used.proofs.Imports.{◌≡◌, true, ◌∙◌, sym, if◌then◌else◌, IsTrue, Cert, numbered_line, IsCertUsed, Know}
+use Rattle.std.proofs.Common.{IfOk}
 use Rattle.sm_used.proofs.UsedLemmas.{both_told, closing_used, split_used, plain_used, known_behind}
 use Rattle.sm_used.proofs.using.put_cert.Goals as goal
 

@@ -1,7 +1,5 @@
 -- The names of the branch have those of the line too.
-use Rattle.std.proofs.Common.{Bool, ◌||◌, ◌∙◌, ap}
-use Rattle.sm_proof.specs.Lines.{line_of}
-use Rattle.sm_prune.specs.UsedLines.{line_names_fact}
+use Rattle.sm_used.proofs.Imports.{Bool, ◌||◌, ◌∙◌, ap, line_of, line_names_fact}
 use Rattle.sm_used.proofs.BranchLemmas.{plain_known}
 use Rattle.sm_used.proofs.using.put_plain.Goals as goal
 

@@ -1,8 +1,5 @@
 -- The names of both parts, and those of the line, are those of the branch.
-use Rattle.std.proofs.Common.{◌||◌, suc, ◌∙◌, ap}
-use Rattle.sm_proof.specs.Lines.{ProofLine}
-use Rattle.sm_prune.specs.UsedLines.{line_names_fact}
-use Rattle.sm_used.specs.Names.{is_in}
+use Rattle.sm_used.proofs.Imports.{◌||◌, suc, ◌∙◌, ap, ProofLine, line_names_fact, is_in}
 use Rattle.sm_used.proofs.BranchLemmas.{split_known, both_known}
 use Rattle.sm_used.proofs.using.put_split.Goals as goal
 

@@ -1,6 +1,5 @@
 -- No hole so far.
-use Rattle.std.proofs.Common.{◌≡◌, ◌<◌, ℕ, false}
-use Rattle.sm_why.specs.Sites.{begins_hole}
+use Rattle.sm_why.proofs.Imports.{◌≡◌, ◌<◌, ℕ, false, begins_hole}
 use Rattle.sm_why.proofs.sites.first_token.Given as goal
 
 abbrev pub invariant-loop-k : goal.invariant-loop-k

@@ -1,11 +1,5 @@
 -- No trial, one trial more, and all of them.
-use Rattle.std.proofs.Common.{◌≡◌, ◌+◌, ℕ, suc, subst, arith}
-use Rattle.std.specs.Prelude.{◌↔◌, IsTrue}
-use Rattle.sm_syntax.specs.claim.Stores.{Store}
-use Rattle.sm_syntax.specs.text.Parts.{sort_of, task_of}
-use Rattle.sm_task.specs.Tasks.{parts_of}
-use Rattle.sm_replay.specs.Trials.{trial}
-use Rattle.sm_why.specs.Trials.{AreCounted, EndsFrom}
+use Rattle.sm_why.proofs.Imports.{◌≡◌, ◌+◌, ℕ, suc, subst, arith, ◌↔◌, IsTrue, Store, sort_of, task_of, parts_of, trial, AreCounted, EndsFrom}
 use Rattle.sm_why.proofs.TrialsCounted.{none_counted, one_at_most, one_more}
 use Rattle.sm_why.proofs.trials.ending.Goals as goal
 

@@ -1,6 +1,5 @@
 use Rattle.sm_eval.specs.StoredValues.{meaning}
-use Rattle.sm_syntax.specs.text.Parts.{task_of}
-use Rattle.sm_task.specs.Tasks.{parts_of}
+use Rattle.sm_why.proofs.Imports.{task_of, parts_of}
 use Rattle.sm_why.proofs.TrialsCounted.{ended_ok}
 use Rattle.sm_why.proofs.trials.ends_from.Goals as goal
 

@@ -1,10 +1,8 @@
-use Rattle.std.proofs.Common.{◌≡◌, ◌∙◌, Result, Ok, Err, IfOk, refl, sym, ap}
-use Rattle.clap.specs.Simple.{App, app_of}
-use Rattle.clap.specs.declared.builder.command.Command.{Command}
-use Rattle.sm_words.specs.Command.{about_command, batch_command, check_command, command_of, explain_command, gen_command, print_command, replay_command, suggest_command, trim_command, verify_command}
-use Rattle.sm_words.specs.declared.about.About.TheVariants.{Help, Version}
+use Rattle.sm_words.proofs.Imports.{◌≡◌, ◌∙◌, Result, Ok, Err, IfOk, refl, sym, ap, App, Command, command_of, Help, Version, About}
+use Rattle.clap.specs.Simple.{app_of}
+use Rattle.sm_words.specs.Command.{about_command, batch_command, check_command, explain_command, gen_command, print_command, replay_command, suggest_command, trim_command, verify_command}
 use Rattle.sm_words.specs.declared.command.Verb.{Verb}
-use Rattle.sm_words.specs.declared.command.Verb.TheVariants.{Check, Verify, Replay, Print, Suggest, Gen, Explain, Batch, Trim, About}
+use Rattle.sm_words.specs.declared.command.Verb.TheVariants.{Check, Verify, Replay, Print, Suggest, Gen, Explain, Batch, Trim}
 use Rattle.sm_words.proofs.command.command_of.Goals as goal
 
 -- a command that is made as that of a verb

@@ -1,7 +1,6 @@
-use Rattle.std.proofs.Common.{◌≡◌, ◌<◌, ◌≤◌, ◌+◌, ◌∙◌, ℕ, List, map, length, drop, get_or, add-one, drop-cons, ap}
+use Rattle.sm_words.proofs.Imports.{◌≡◌, ◌<◌, ◌≤◌, ◌+◌, ◌∙◌, ℕ, List, map, length, drop, get_or, add-one, drop-cons, ap, App, with_rule, rule_by, with_rules}
 use Rattle.std.proofs.Math.ListN.{drop_of_length-le}
-use Rattle.clap.specs.Simple.{App, app_of, new_app, with_rule}
-use Rattle.sm_words.specs.Command.{rule_by, with_rules}
+use Rattle.clap.specs.Simple.{app_of, new_app}
 use Rattle.sm_words.specs.declared.command.Argument.{Argument}
 use Rattle.sm_words.proofs.command.command_with.Goals as goal
 

@@ -1,6 +1,5 @@
-use Rattle.std.proofs.Common.{◌≡◌, map, drop}
+use Rattle.sm_words.proofs.Imports.{◌≡◌, map, drop, rule_by, with_rules}
 use Rattle.clap.specs.Words.{app_of, new_app}
-use Rattle.sm_words.specs.Command.{rule_by, with_rules}
 use Rattle.sm_words.proofs.command.command_with.Given as goal
 
 -- what is left of the arguments leads to all of them

@@ -1,5 +1,4 @@
-use Rattle.std.proofs.Common.{◌≡◌, drop}
-use Rattle.std.specs.Str.{all_ascii_digits}
+use Rattle.sm_words.proofs.Imports.{◌≡◌, drop, all_ascii_digits}
 use Rattle.sm_words.proofs.numbers.has_digits.Given as goal
 
 -- what is left of the bytes decides for all of them

@@ -1,7 +1,5 @@
-use Rattle.std.proofs.Common.{◌≡◌, Ok, Err, map}
-use Rattle.std.specs.String.{string_bytes}
+use Rattle.sm_words.proofs.Imports.{◌≡◌, Ok, Err, map, string_bytes, Usage}
 use Rattle.sm_words.proofs.Given.{parses}
-use Rattle.sm_words.specs.declared.words.WordsError.TheVariants.{Usage}
 use Rattle.sm_words.proofs.words.matches_of.Goals as goal
 
 pub returns-in-Ok-clause-taken : goal.returns-in-Ok-clause-taken

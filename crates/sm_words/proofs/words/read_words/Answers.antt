@@ -1,7 +1,5 @@
-use Rattle.std.proofs.Common.{◌≡◌, ◌∙◌, ◌≤◌, List, [], ◌∷◌, Option, Some, map, length, get_or, sym, ap, subst, arith}
-use Rattle.std.specs.String.{string_bytes}
-use Rattle.clap.specs.Walk.{Text}
-use Rattle.sm_words.specs.Words.{verb_of, IsRefused, IsUsage, Verb}
+use Rattle.sm_words.proofs.Imports.{◌≡◌, ◌∙◌, ◌≤◌, List, [], ◌∷◌, Option, Some, map, length, get_or, sym, ap, subst, arith, string_bytes, Text, verb_of, IsRefused, IsUsage}
+use Rattle.sm_words.specs.Words.{Verb}
 use Rattle.sm_words.proofs.words.read_words.Goals as goal
 
 -- words that the command of the first of them refuses are words that no command takes

@@ -1,5 +1,4 @@
-use Rattle.std.proofs.Common.{map}
-use Rattle.std.specs.String.{string_bytes}
+use Rattle.sm_words.proofs.Imports.{map, string_bytes}
 use Rattle.sm_words.proofs.words.request_by.Goals as goal
 
 pub returns-clause-ok : goal.returns-clause-ok

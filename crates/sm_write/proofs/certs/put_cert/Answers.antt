@@ -1,11 +1,5 @@
 -- The line has the numbers that its terms have in the file.
-use Rattle.std.proofs.Common.{◌≡◌, ℕ, ◌++◌, ap, ◌∙◌, subst, nat_eq}
-use Rattle.std.specs.Prelude.{OnOk}
-use Rattle.std.specs.HashMap.{get}
-use Rattle.sm_proof.specs.Lines.{NumberedLine, Cert}
-use Rattle.sm_write.specs.Bytes.{line_text}
-use Rattle.sm_write.specs.LineTerms.{first_term}
-use Rattle.sm_write.specs.Written.{line_with, number_in, written}
+use Rattle.sm_write.proofs.Imports.{◌≡◌, ℕ, ◌++◌, ap, ◌∙◌, subst, nat_eq, OnOk, get, NumberedLine, Cert, line_text, first_term, line_with, number_in, written}
 use Rattle.sm_write.proofs.LinesWith.{written_with}
 use Rattle.sm_write.proofs.certs.put_cert.Goals as goal
 

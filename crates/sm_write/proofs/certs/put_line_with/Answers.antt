@@ -1,13 +1,5 @@
 -- The first word is that of the line.
-use Rattle.std.proofs.Common.{◌≡◌, List, ℕ, ◌++◌, refl, ap, sym, subst, ◌∙◌}
-use Rattle.std.specs.Prelude.{OnOk}
-use Rattle.sm_proof.specs.FieldRanges.{numbers_of}
-use Rattle.sm_proof.specs.HeadWords.{head_word}
-use Rattle.sm_proof.specs.Lines.{NumberedLine, Cert}
-use Rattle.sm_proof.specs.Named.{line_head}
-use Rattle.sm_proof.specs.declared.word.Head.{Head}
-use Rattle.sm_write.specs.Bytes.{one_word}
-use Rattle.sm_write.specs.Written.{line_with}
+use Rattle.sm_write.proofs.Imports.{◌≡◌, List, ℕ, ◌++◌, refl, ap, sym, subst, ◌∙◌, OnOk, numbers_of, head_word, NumberedLine, Cert, line_head, Head, one_word, line_with}
 use Rattle.sm_write.proofs.BytesLemmas.{one_word_line}
 use Rattle.sm_write.proofs.LinesWith.{head_with}
 use Rattle.sm_write.proofs.certs.put_line_with.Goals as goal

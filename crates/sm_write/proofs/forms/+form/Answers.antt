@@ -1,11 +1,8 @@
 -- By the kind of the formula.
-use Rattle.std.proofs.Common.{rules, sym, subst}
+use Rattle.sm_write.proofs.Imports.{rules, sym, subst, numbered, Formula, WritesForm, value_of}
 use Rattle.std.specs.Prelude.{IfOk}
-use Rattle.sm_term.specs.Formulas.{numbered, Yes, No, Eq, Ne, Le, Lt, And, Or}
-use Rattle.sm_term.specs.declared.formula.Formula.{Formula}
+use Rattle.sm_term.specs.Formulas.{Yes, No, Eq, Ne, Le, Lt, And, Or}
 use Rattle.sm_proof.specs.declared.line.FormLine.TheVariants as line
-use Rattle.sm_write.specs.FormsWritten.{WritesForm}
-use Rattle.sm_write.specs.Values.{value_of}
 use Rattle.sm_write.proofs.FormSteps.{form_written, yes_makes, no_makes, eq_makes, ne_makes, le_makes, lt_makes, and_makes, or_makes}
 use Rattle.sm_write.proofs.forms.+form.Goals as goal
 

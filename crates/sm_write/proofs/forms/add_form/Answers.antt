@@ -1,6 +1,5 @@
 -- The line makes the formula.
-use Rattle.std.proofs.Common.{refl}
-use Rattle.sm_write.specs.Values.{value_of}
+use Rattle.sm_write.proofs.Imports.{refl, value_of}
 use Rattle.sm_write.proofs.WriterSteps.{stands_form}
 use Rattle.sm_write.proofs.forms.add_form.Goals as goal
 

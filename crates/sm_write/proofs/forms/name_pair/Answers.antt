@@ -1,8 +1,5 @@
 -- The first term keeps its number while the second gets one.
-use Rattle.std.proofs.Common.{◌≡◌, ℕ, Some, slice_get, sym, subst, arith}
-use Rattle.sm_term.specs.Tables.{trees_in, tree_at}
-use Rattle.sm_write.specs.Values.{value_of}
-use Rattle.sm_write.specs.Written.{IsNamed}
+use Rattle.sm_write.proofs.Imports.{◌≡◌, ℕ, Some, slice_get, sym, subst, arith, trees_in, tree_at, value_of, IsNamed}
 use Rattle.sm_write.proofs.WalkedLemmas.{kept_twice, set_later}
 use Rattle.sm_write.proofs.WriterSteps.{adds_twice}
 use Rattle.sm_write.proofs.WrittenLines.{number_leads, number_short}

@@ -1,14 +1,7 @@
 -- Each certificate is written for the goal that is next, and where there are none there is no goal either.
-use Rattle.std.proofs.Common.{◌≡◌, ℕ, List, [], ◌∷◌, length, map, ap, sym, subst, arith}
-use Rattle.sm_term.specs.Tables.{trees_in}
-use Rattle.sm_cert.specs.Views.{certificate_in}
-use Rattle.sm_cert.specs.declared.tree.CertTree.{CertTree}
-use Rattle.sm_write.specs.GoalsWritten.{LeavesGoals}
-use Rattle.sm_write.specs.TreesWithin.{AreTreesWithin}
-use Rattle.sm_write.specs.Values.{value_of}
+use Rattle.sm_write.proofs.Imports.{◌≡◌, ℕ, List, [], ◌∷◌, length, map, ap, sym, subst, arith, trees_in, certificate_in, CertTree, LeavesGoals, AreTreesWithin, value_of, no_items}
 use Rattle.sm_write.proofs.GoalsLemmas.{goals_more, goals_short}
 use Rattle.sm_write.proofs.goals.write_goals.Goals as goal
-use Rattle.sm_lemmas.proofs.Lists.{no_items}
 
 pub returns-in-None-clause-written : goal.returns-in-None-clause-written
 returns-in-None-clause-written c =

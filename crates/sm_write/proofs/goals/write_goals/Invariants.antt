@@ -1,10 +1,5 @@
 -- The goals that are left, with certificates for them that name terms of the table.
-use Rattle.std.proofs.Common.{length, map}
-use Rattle.sm_term.specs.Tables.{trees_in}
-use Rattle.sm_cert.specs.Views.{certificate_in}
-use Rattle.sm_write.specs.GoalsWritten.{LeavesGoals}
-use Rattle.sm_write.specs.TreesWithin.{AreTreesWithin}
-use Rattle.sm_write.specs.Values.{value_of}
+use Rattle.sm_write.proofs.Imports.{length, map, trees_in, certificate_in, LeavesGoals, AreTreesWithin, value_of}
 use Rattle.sm_write.proofs.goals.write_goals.Given as goal
 
 abbrev pub invariant-loop-n : goal.invariant-loop-n

@@ -1,11 +1,5 @@
 -- The first term keeps its number while the second gets one.
-use Rattle.std.proofs.Common.{ℕ, ◌<◌, Option, length, sym, subst, IfSome}
-use Rattle.sm_term.specs.Tables.{trees_in, tree_at}
-use Rattle.sm_term.specs.declared.term.TermId.{TermId}
-use Rattle.sm_write.specs.LineTerms.{first_term}
-use Rattle.sm_write.specs.Seen.{IsBuilt, Seen}
-use Rattle.sm_write.specs.Values.{value_of}
-use Rattle.sm_write.specs.Written.{IsNamed}
+use Rattle.sm_write.proofs.Imports.{ℕ, ◌<◌, Option, length, sym, subst, IfSome, trees_in, tree_at, TermId, first_term, IsBuilt, Seen, value_of, IsNamed}
 use Rattle.sm_write.proofs.LineTermsLemmas.{first_named, second_named, first_each, second_each, line_named, some_kept}
 use Rattle.sm_write.proofs.WalkedLemmas.{extends_twice, set_later}
 use Rattle.sm_write.proofs.lines.name_line.Goals as goal

@@ -1,8 +1,5 @@
 -- The term that there is.
-use Rattle.std.proofs.Common.{Option, subst, IfSome}
-use Rattle.sm_term.specs.Tables.{trees_in, tree_at}
-use Rattle.sm_term.specs.declared.term.TermId.{TermId}
-use Rattle.sm_write.specs.Seen.{IsBuilt, Seen}
+use Rattle.sm_write.proofs.Imports.{Option, subst, IfSome, trees_in, tree_at, TermId, IsBuilt, Seen}
 use Rattle.sm_write.proofs.lines.name_some.Goals as goal
 
 pub returns-in-Some-clause-extends : goal.returns-in-Some-clause-extends

@@ -1,6 +1,5 @@
 -- The line stands behind those of its terms, and it is told whether it is a line `exact`.
-use Rattle.std.proofs.Common.{◌≡◌, Bool, ◌||◌, refl, sym, ap, ◌∙◌}
-use Rattle.sm_write.specs.Values.{value_of}
+use Rattle.sm_write.proofs.Imports.{◌≡◌, Bool, ◌||◌, refl, sym, ap, ◌∙◌, value_of}
 use Rattle.sm_write.proofs.WrittenLines.{written_exact}
 use Rattle.sm_write.proofs.lines.write_line.Goals as goal
 use Rattle.sm_write.proofs.lines.write_line.Goals.{then-is_exact, else-is_exact}

@@ -1,6 +1,5 @@
 -- By the kind of the term.
-use Rattle.std.proofs.Common.{rules, nat_eq}
-use Rattle.std.specs.HashMap.{get}
+use Rattle.sm_write.proofs.Imports.{rules, nat_eq, get}
 use Rattle.sm_term.specs.declared.term.Term.TheVariants as row
 use Rattle.sm_write.proofs.NamingLemmas.{is_row, write_line, neg_line}
 use Rattle.sm_write.proofs.naming.step_of.Goals as goal

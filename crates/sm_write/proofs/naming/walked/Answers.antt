@@ -1,12 +1,7 @@
 -- The walk goes down to a part that has no number, or up with one number more.
-use Rattle.std.proofs.Common.{◌≡◌, ◌+◌, ◌<◌, ℕ, List, [], ◌∷◌, ◌++◌, nat_eq, length, sym, subst, arith}
+use Rattle.sm_write.proofs.Imports.{◌≡◌, ◌+◌, ◌<◌, ℕ, List, [], ◌∷◌, ◌++◌, nat_eq, length, sym, subst, arith, get, trees_in, IsWay, AreOpen, unknown_below, IsStep, value_of}
 use Rattle.std.proofs.lemmas.Grind.{common_steps}
-use Rattle.std.specs.HashMap.{get}
-use Rattle.sm_term.specs.Tables.{trees_in}
-use Rattle.sm_plan.specs.Filling.{IsWay, AreOpen, unknown_below}
 use Rattle.sm_plan.proofs.FillingWalk.{way_below, way_pushed, way_popped, open_pushed, open_popped, way_open, unknown_less, way_start}
-use Rattle.sm_write.specs.Naming.{IsStep}
-use Rattle.sm_write.specs.Values.{value_of}
 use Rattle.sm_write.proofs.WalkedLemmas.{walk_down, walk_written, walk_up, gained_at}
 use Rattle.sm_write.proofs.naming.walked.Goals as goal
 use Rattle.sm_lemmas.proofs.Numbers.{rounds_less}

@@ -1,9 +1,5 @@
 -- The way down from the term, and what was written.
-use Rattle.std.proofs.Common.{◌≡◌, ◌+◌, ◌*◌, None, nat_eq}
-use Rattle.std.specs.HashMap.{get}
-use Rattle.sm_plan.specs.Filling.{IsWay, AreOpen, unknown_below}
-use Rattle.sm_write.specs.Values.{value_of}
-use Rattle.sm_write.specs.Walked.{Walks}
+use Rattle.sm_write.proofs.Imports.{◌≡◌, ◌+◌, ◌*◌, None, nat_eq, get, IsWay, AreOpen, unknown_below, value_of, Walks}
 use Rattle.sm_write.proofs.naming.walked.Given as goal
 
 abbrev pub invariant-walk : goal.invariant-walk

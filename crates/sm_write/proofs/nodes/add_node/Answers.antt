@@ -1,6 +1,5 @@
 -- The line is taken, and there is one node more.
-use Rattle.std.proofs.Common.{suc, refl, ap, sym, ◌∙◌}
-use Rattle.sm_write.specs.Values.{value_of}
+use Rattle.sm_write.proofs.Imports.{suc, refl, ap, sym, ◌∙◌, value_of}
 use Rattle.sm_write.proofs.NodeSteps.{node_stands}
 use Rattle.sm_write.proofs.nodes.add_node.Goals as goal
 

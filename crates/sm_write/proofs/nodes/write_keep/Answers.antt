@@ -1,13 +1,7 @@
 -- A loop and a block keep the formula that was written.
-use Rattle.std.proofs.Common.{IfOk, sym, subst}
-use Rattle.std.proofs.lemmas.Result.{IfOk-weaker}
-use Rattle.sm_term.specs.Formulas.{numbered}
-use Rattle.sm_term.specs.Tables.{trees_in, sorts_in}
-use Rattle.sm_plan.specs.ReadyStates.{IsNodeReady}
-use Rattle.sm_plan.specs.declared.node.NodeRow.{NodeRow}
+use Rattle.sm_write.proofs.Imports.{sym, subst, IfOk-weaker, numbered, trees_in, sorts_in, IsNodeReady, NodeRow, WritesKeep, value_of}
+use Rattle.std.proofs.Common.{IfOk}
 use Rattle.sm_plan.specs.declared.node.NodeRow.TheVariants as row
-use Rattle.sm_write.specs.NodesWritten.{WritesKeep}
-use Rattle.sm_write.specs.Values.{value_of}
 use Rattle.sm_write.proofs.NodesNamed.{keep_form}
 use Rattle.sm_write.proofs.nodes.write_keep.Goals as goal
 

@@ -1,17 +1,6 @@
 -- What the node opened waits before the others.
-use Rattle.std.proofs.Common.{List, reverse, sym, ◌∙◌, subst}
-use Rattle.std.specs.Prelude.{Vec}
-use Rattle.std.specs.declared.alloc.Global.{Global}
+use Rattle.sm_write.proofs.Imports.{List, reverse, sym, ◌∙◌, subst, Vec, Global, numbered_at, Cursor, below, plans_ready, IsUnderway, ArePlacedReady, PlacedState, value_of, opened_ready, opened_fewer, plans_of}
 use Rattle.sm_plan.specs.declared.opening.Opened.{Opened}
-use Rattle.sm_expand.specs.Cursors.{numbered_at}
-use Rattle.sm_expand.specs.declared.cursor.Cursor.{Cursor}
-use Rattle.sm_expand.specs.NumberedPlans.{below}
-use Rattle.sm_expand.proofs.PlansWiden.{plans_ready}
-use Rattle.sm_write.specs.Underway.{IsUnderway}
-use Rattle.sm_expand.specs.PlacedStates.{ArePlacedReady}
-use Rattle.sm_expand.specs.declared.placed.PlacedState.{PlacedState}
-use Rattle.sm_write.specs.Values.{value_of}
-use Rattle.sm_expand.proofs.PlacedLemmas.{opened_ready, opened_fewer, plans_of}
 use Rattle.sm_write.proofs.TreesStay.{trees_wider}
 use Rattle.sm_write.proofs.UnderwayLemmas.{opening_left, goals_done}
 use Rattle.sm_write.proofs.WaitingStays.{all_ready}

@@ -1,12 +1,5 @@
 -- Nodes are written while a state waits.
-use Rattle.std.proofs.Common.{◌≡◌, List, [], ◌∷◌, ◌++◌, reverse, sym, ap, ◌∙◌, subst}
-use Rattle.std.proofs.lemmas.List.{nil_from_length}
-use Rattle.sm_plan.proofs.TablesWiden.{widens_same, widens_twice}
-use Rattle.sm_write.specs.Underway.{IsUnderway}
-use Rattle.sm_expand.specs.PlacedStates.{ArePlacedReady}
-use Rattle.sm_expand.specs.declared.placed.PlacedState.{PlacedState}
-use Rattle.sm_write.specs.Values.{value_of}
-use Rattle.sm_expand.proofs.PlacedLemmas.{popped}
+use Rattle.sm_write.proofs.Imports.{◌≡◌, List, [], ◌∷◌, ◌++◌, reverse, sym, ap, ◌∙◌, subst, nil_from_length, widens_same, widens_twice, IsUnderway, ArePlacedReady, PlacedState, value_of, popped}
 use Rattle.sm_write.proofs.UnderwayLemmas.{underway_whole}
 use Rattle.sm_write.proofs.plans.write_nodes.Goals as goal
 

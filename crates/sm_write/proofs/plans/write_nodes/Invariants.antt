@@ -1,12 +1,5 @@
 -- What waits can be written, and a table only widens.
-use Rattle.std.proofs.Common.{length, reverse}
-use Rattle.sm_term.specs.Tables.{trees_in}
-use Rattle.sm_term.specs.TableLaws.{ExtendsTable}
-use Rattle.sm_proof.specs.Verdicts.{Subject}
-use Rattle.sm_write.specs.TreesWithin.{AreTreesWithin}
-use Rattle.sm_write.specs.Underway.{IsUnderway}
-use Rattle.sm_expand.specs.PlacedStates.{ArePlacedReady, weight}
-use Rattle.sm_write.specs.Values.{value_of}
+use Rattle.sm_write.proofs.Imports.{length, reverse, trees_in, ExtendsTable, Subject, AreTreesWithin, IsUnderway, ArePlacedReady, weight, value_of}
 use Rattle.sm_write.proofs.plans.write_nodes.Given as goal
 
 abbrev pub invariant-loop-next : goal.invariant-loop-next

@@ -1,7 +1,5 @@
 -- The node's row, its lines, and what it opens.
-use Rattle.sm_term.specs.Tables.{trees_in, sorts_in}
-use Rattle.sm_plan.proofs.TablesWiden.{widens_same}
-use Rattle.sm_expand.specs.Cursors.{numbered_at}
+use Rattle.sm_write.proofs.Imports.{trees_in, sorts_in, widens_same, numbered_at}
 use Rattle.sm_expand.proofs.NodeOpened.{head_ready}
 use Rattle.sm_write.proofs.plans.write_opening.Goals as goal
 

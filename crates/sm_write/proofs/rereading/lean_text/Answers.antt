@@ -1,11 +1,8 @@
 -- What is left of the lines leads where they led.
-use Rattle.std.proofs.Common.{◌≡◌, List, map, ap, sym, subst, ◌∙◌, IfOk}
-use Rattle.std.specs.List.{list_any}
-use Rattle.std.proofs.lemmas.Result.{IfOk-weaker}
-use Rattle.sm_proof.specs.Lines.{ProofLine, line_of}
-use Rattle.sm_proof.specs.Versions.{is_exact}
+use Rattle.sm_write.proofs.Imports.{◌≡◌, List, map, ap, sym, subst, ◌∙◌, list_any, IfOk-weaker, ProofLine, is_exact, AreReadable, bytes_of}
+use Rattle.std.proofs.Common.{IfOk}
+use Rattle.sm_proof.specs.Lines.{line_of}
 use Rattle.sm_prune.specs.Laws.{LeadAlike}
-use Rattle.sm_prune.specs.Texts.{AreReadable, bytes_of}
 use Rattle.sm_write.specs.Lean.{IsLean}
 use Rattle.sm_write.proofs.rereading.lean_text.Goals as goal
 

@@ -1,6 +1,4 @@
-use Rattle.std.proofs.Common.{◌≡◌, ◌<◌, ℕ, List, [], length, sym, subst, ◌∙◌, rules, arith}
-use Rattle.std.proofs.lemmas.List.{nil_from_length}
-use Rattle.sm_proof.specs.declared.line.Line.{Line}
+use Rattle.sm_write.proofs.Imports.{◌≡◌, ◌<◌, ℕ, List, [], length, sym, subst, ◌∙◌, rules, arith, nil_from_length, Line}
 use Rattle.sm_write.proofs.RereadingLemmas.{AreSoFar, none_so_far, one_so_far, all_so_far}
 use Rattle.sm_write.proofs.rereading.lines_of.Goals as goal
 

@@ -1,6 +1,5 @@
 -- The numbers so far are low.
-use Rattle.std.proofs.Common.{take}
-use Rattle.sm_write.specs.Writable.{AreShortNumbers}
+use Rattle.sm_write.proofs.Imports.{take, AreShortNumbers}
 use Rattle.sm_write.proofs.short.are_low.Given as goal
 
 abbrev pub invariant-loop-n : goal.invariant-loop-n

@@ -1,9 +1,6 @@
 -- By the kind of the line.
-use Rattle.std.proofs.Common.{◌≡◌, ℕ, List, [], ◌∷◌, ◌++◌, sym, subst}
-use Rattle.std.specs.Prelude.{OnOk}
+use Rattle.sm_write.proofs.Imports.{◌≡◌, ℕ, List, [], ◌∷◌, ◌++◌, sym, subst, OnOk, Line, line_text}
 use Rattle.sm_proof.specs.Lines.{line_of}
-use Rattle.sm_proof.specs.declared.line.Line.{Line}
-use Rattle.sm_write.specs.Bytes.{line_text}
 use Rattle.sm_write.proofs.BytesLemmas.{version_line}
 use Rattle.sm_write.proofs.spelling.put_any.Goals as goal
 

@@ -1,10 +1,6 @@
 -- The line has the numbers of its terms.
-use Rattle.std.proofs.Common.{◌≡◌, ℕ, ◌++◌, ap, ◌∙◌, subst}
-use Rattle.std.specs.Prelude.{OnOk}
-use Rattle.sm_proof.specs.Lines.{NumberedLine, Cert, numbered_line}
-use Rattle.sm_write.specs.Bytes.{line_text}
-use Rattle.sm_write.specs.LineTerms.{first_term}
-use Rattle.sm_write.specs.Written.{line_with, number_or}
+use Rattle.sm_write.proofs.Imports.{◌≡◌, ℕ, ◌++◌, ap, ◌∙◌, subst, OnOk, NumberedLine, Cert, line_text, first_term, line_with, number_or}
+use Rattle.sm_proof.specs.Lines.{numbered_line}
 use Rattle.sm_write.proofs.LinesWith.{numbered_with}
 use Rattle.sm_write.proofs.spelling.put_numbered.Goals as goal
 

@@ -1,8 +1,5 @@
-use Rattle.std.proofs.Common.{◌≡◌, ◌∙◌, ◌+◌, ◌∷◌, ◌++◌, ℕ, List, drop, map, ap, sym, subst}
-use Rattle.std.proofs.lemmas.List.{drop_more}
+use Rattle.sm_write.proofs.Imports.{◌≡◌, ◌∙◌, ◌+◌, ◌∷◌, ◌++◌, ℕ, List, drop, map, ap, sym, subst, drop_more, Line, bytes_of}
 use Rattle.sm_proof.specs.Lines.{line_of}
-use Rattle.sm_proof.specs.declared.line.Line.{Line}
-use Rattle.sm_prune.specs.Texts.{bytes_of}
 use Rattle.sm_write.proofs.RereadingLemmas.{written_more}
 use Rattle.sm_write.proofs.spelling.text_of.Goals as goal
 

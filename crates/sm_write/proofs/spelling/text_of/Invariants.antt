@@ -1,7 +1,6 @@
 -- The lines so far and those that are left are all of them.
-use Rattle.std.proofs.Common.{◌≡◌, ◌++◌, drop, map}
+use Rattle.sm_write.proofs.Imports.{◌≡◌, ◌++◌, drop, map, bytes_of}
 use Rattle.sm_proof.specs.Lines.{line_of}
-use Rattle.sm_prune.specs.Texts.{bytes_of}
 use Rattle.sm_write.proofs.spelling.text_of.Given as goal
 
 abbrev pub invariant-loop-line : goal.invariant-loop-line

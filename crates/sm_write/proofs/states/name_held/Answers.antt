@@ -1,10 +1,6 @@
 -- One name more.
-use Rattle.std.proofs.Common.{length}
-use Rattle.std.proofs.lemmas.Option.{slice_get-get_or}
-use Rattle.sm_syntax.specs.trees.Copies.{copy_named}
-use Rattle.sm_term.specs.Tables.{trees_in}
+use Rattle.sm_write.proofs.Imports.{length, slice_get-get_or, copy_named, trees_in, value_of}
 use Rattle.sm_term.proofs.TermsLemmas.{part_before}
-use Rattle.sm_write.specs.Values.{value_of}
 use Rattle.sm_write.proofs.HeldLemmas.{held_more}
 use Rattle.sm_write.proofs.states.name_held.Goals as goal
 

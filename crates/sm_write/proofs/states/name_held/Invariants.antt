@@ -1,7 +1,5 @@
 -- The first names.
-use Rattle.sm_syntax.specs.trees.Copies.{copy_named}
-use Rattle.sm_write.specs.Held.{NamesHeld}
-use Rattle.sm_write.specs.Values.{value_of}
+use Rattle.sm_write.proofs.Imports.{copy_named, NamesHeld, value_of}
 use Rattle.sm_write.proofs.states.name_held.Given as goal
 
 abbrev pub invariant-loop-x : goal.invariant-loop-x

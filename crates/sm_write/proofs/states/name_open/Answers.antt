@@ -1,7 +1,5 @@
 -- The line names the term as it is present.
-use Rattle.std.proofs.Common.{rules, ◌<◌, ◌^◌, length, sym, ◌∙◌}
-use Rattle.sm_syntax.specs.trees.Copies.{copy_named}
-use Rattle.sm_write.specs.Values.{value_of}
+use Rattle.sm_write.proofs.Imports.{rules, ◌<◌, ◌^◌, length, sym, ◌∙◌, copy_named, value_of}
 use Rattle.sm_write.proofs.HeldLemmas.{one_added}
 use Rattle.sm_write.proofs.states.name_open.Goals as goal
 

@@ -1,6 +1,5 @@
 -- One copy after the other.
-use Rattle.sm_syntax.specs.claim.ConflictFree.{O, A, B, M}
-use Rattle.sm_write.specs.Values.{value_of}
+use Rattle.sm_write.proofs.Imports.{O, A, B, M, value_of}
 use Rattle.sm_write.proofs.StatesNamed.{state_named}
 use Rattle.sm_write.proofs.states.name_state.Goals as goal
 

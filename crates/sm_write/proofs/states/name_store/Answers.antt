@@ -1,12 +1,5 @@
 -- The list of the store has all terms that are no starts.
-use Rattle.std.proofs.Common.{List, length, refl, sym, subst}
-use Rattle.sm_syntax.specs.trees.Copies.{copy_named}
-use Rattle.sm_term.specs.Sorted.{IsStoreSorted}
-use Rattle.sm_term.specs.SymStores.{store_in}
-use Rattle.sm_term.specs.Tables.{trees_in, sorts_in, AreBefore}
-use Rattle.sm_term.specs.declared.term.TermId.{TermId}
-use Rattle.sm_write.specs.Held.{terms_store, NamesHeld, NamesStore}
-use Rattle.sm_write.specs.Values.{value_of}
+use Rattle.sm_write.proofs.Imports.{List, length, refl, sym, subst, copy_named, IsStoreSorted, store_in, trees_in, sorts_in, AreBefore, TermId, terms_store, NamesHeld, NamesStore, value_of}
 use Rattle.sm_write.proofs.HeldLemmas.{held_all}
 use Rattle.sm_write.proofs.SteppedLemmas.{on_ok}
 use Rattle.sm_write.proofs.states.name_store.Goals as goal

@@ -1,12 +1,8 @@
 -- By the kind of the line.
-use Rattle.std.proofs.Common.{◌≡◌, ℕ, List, [], ◌∷◌, ◌++◌, refl, sym, subst}
-use Rattle.std.specs.Prelude.{OnOk}
+use Rattle.sm_write.proofs.Imports.{◌≡◌, ℕ, List, [], ◌∷◌, ◌++◌, refl, sym, subst, OnOk, head_word, NodeLine, line_text}
 use Rattle.sm_proof.specs.declared.line.NodeLine.TheVariants as v
 use Rattle.sm_proof.specs.declared.word.Head.TheVariants as head
-use Rattle.sm_proof.specs.HeadWords.{head_word}
 use Rattle.sm_proof.specs.Lines.{Node}
-use Rattle.sm_proof.specs.declared.line.NodeLine.{NodeLine}
-use Rattle.sm_write.specs.Bytes.{line_text}
 use Rattle.sm_write.proofs.BytesLemmas.{one_word_line}
 use Rattle.sm_write.proofs.text.put_node.Goals as goal
 

@@ -1,6 +1,5 @@
 -- The numbers so far and those that are left are all of them.
-use Rattle.std.proofs.Common.{◌≡◌, ◌++◌, drop}
-use Rattle.sm_write.specs.Bytes.{numbers_text}
+use Rattle.sm_write.proofs.Imports.{◌≡◌, ◌++◌, drop, numbers_text}
 use Rattle.sm_write.proofs.text.put_numbers.Given as goal
 
 abbrev pub invariant-loop-n : goal.invariant-loop-n

@@ -1,13 +1,9 @@
 -- By the kind of the line.
-use Rattle.std.proofs.Common.{◌≡◌, ℕ, List, [], ◌∷◌, ◌++◌, refl, sym, subst}
-use Rattle.std.specs.Prelude.{OnOk}
+use Rattle.sm_write.proofs.Imports.{◌≡◌, ℕ, List, [], ◌∷◌, ◌++◌, refl, sym, subst, OnOk, head_word, term_word, TermLine, line_text}
 use Rattle.sm_proof.specs.declared.line.TermLine.TheVariants as v
 use Rattle.sm_proof.specs.declared.kind.TermKind.TheVariants as kind
 use Rattle.sm_proof.specs.declared.word.Head.TheVariants as head
-use Rattle.sm_proof.specs.HeadWords.{head_word, term_word}
 use Rattle.sm_proof.specs.Lines.{Term}
-use Rattle.sm_proof.specs.declared.line.TermLine.{TermLine}
-use Rattle.sm_write.specs.Bytes.{line_text}
 use Rattle.sm_write.proofs.BytesLemmas.{two_words_line}
 use Rattle.sm_write.proofs.text.put_term.Goals as goal
 

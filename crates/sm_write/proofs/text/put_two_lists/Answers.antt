@@ -1,7 +1,6 @@
 -- The numbers of both lists stand one behind the other.
-use Rattle.std.proofs.Common.{◌≡◌, ℕ, List, [], ◌∷◌, ◌++◌, ap, sym, ◌∙◌}
+use Rattle.sm_write.proofs.Imports.{◌≡◌, ℕ, List, [], ◌∷◌, ◌++◌, ap, sym, ◌∙◌, numbers_text}
 use Rattle.std.proofs.lemmas.List.{append_assoc}
-use Rattle.sm_write.specs.Bytes.{numbers_text}
 use Rattle.sm_write.proofs.BytesLemmas.{numbers_of_both}
 use Rattle.sm_write.proofs.text.put_two_lists.Goals as goal
 

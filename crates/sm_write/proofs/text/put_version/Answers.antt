@@ -1,10 +1,5 @@
 -- The version line has one word and a number.
-use Rattle.std.proofs.Common.{◌≡◌, ℕ, List, [], ◌∷◌, ◌++◌, ap, subst, ◌∙◌}
-use Rattle.std.specs.Prelude.{OnOk}
-use Rattle.sm_proof.specs.HeadWords.{version_word}
-use Rattle.sm_proof.specs.Lines.{Header}
-use Rattle.sm_write.specs.Bytes.{one_word, line_text}
-use Rattle.sm_write.specs.Versions.{version_where}
+use Rattle.sm_write.proofs.Imports.{◌≡◌, ℕ, List, [], ◌∷◌, ◌++◌, ap, subst, ◌∙◌, OnOk, version_word, Header, one_word, line_text, version_where}
 use Rattle.sm_write.proofs.BytesLemmas.{version_line}
 use Rattle.sm_write.proofs.text.put_version.Goals as goal
 

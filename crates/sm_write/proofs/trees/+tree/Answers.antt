@@ -1,16 +1,6 @@
 -- The lines of a certificate, and then what its last line leaves.
-use Rattle.std.proofs.Common.{rules, ◌≡◌, ◌<◌, List, [], ◌∷◌, length, ap, sym, subst, ◌∙◌, arith}
-use Rattle.std.specs.Prelude.{OnOk}
-use Rattle.sm_term.specs.Tables.{trees_in}
-use Rattle.sm_theory.specs.Views.{line_in}
-use Rattle.sm_theory.specs.declared.line.CertLine.{CertLine}
-use Rattle.sm_cert.specs.Certificates.{Certificate, Closed, Split}
-use Rattle.sm_cert.specs.Views.{lines_before, certificate_in, lines_of, AreLinesWithin}
-use Rattle.sm_cert.specs.declared.tree.CertTree.{CertTree}
-use Rattle.sm_cert.proofs.CheckLemmas.{tree_closed, tree_split, lines_closed, within_parts}
+use Rattle.sm_write.proofs.Imports.{rules, ◌≡◌, ◌<◌, List, [], ◌∷◌, length, ap, sym, subst, ◌∙◌, arith, OnOk, trees_in, line_in, CertLine, Certificate, Closed, Split, lines_before, certificate_in, lines_of, AreLinesWithin, CertTree, tree_closed, tree_split, lines_closed, within_parts, ClosesBranch, value_of}
 use Rattle.sm_cert.proofs.TreeLemmas.{own_within, split_within, first_within, second_within, first_fewer, second_fewer}
-use Rattle.sm_write.specs.Stepped.{ClosesBranch}
-use Rattle.sm_write.specs.Values.{value_of}
 use Rattle.sm_write.proofs.SteppedLemmas.{WritesLine, closed_branch, split_branch, on_ok, writes_ok}
 use Rattle.sm_write.proofs.trees.+tree.Goals as goal
 

@@ -1,6 +1,5 @@
 -- Each side of a certificate has fewer lines.
-use Rattle.std.proofs.Common.{length}
-use Rattle.sm_cert.specs.Views.{lines_of}
+use Rattle.sm_write.proofs.Imports.{length, lines_of}
 use Rattle.sm_write.proofs.trees.+tree.Given as goal
 
 abbrev pub decreases-write_tree : goal.decreases-write_tree

@@ -1,12 +1,5 @@
 -- Each line that is written is left no more.
-use Rattle.std.proofs.Common.{◌≡◌, ◌+◌, ◌∷◌, drop, length, ap, sym, subst, ◌∙◌}
-use Rattle.std.proofs.lemmas.List.{drop_more}
-use Rattle.sm_term.specs.Tables.{trees_in}
-use Rattle.sm_theory.specs.Views.{IsLineWithin}
-use Rattle.sm_theory.specs.declared.line.CertLine.{CertLine}
-use Rattle.sm_cert.proofs.CheckLemmas.{within_at}
-use Rattle.sm_write.specs.Stepped.{LinesLeft}
-use Rattle.sm_write.specs.Values.{value_of}
+use Rattle.sm_write.proofs.Imports.{◌≡◌, ◌+◌, ◌∷◌, drop, length, ap, sym, subst, ◌∙◌, drop_more, trees_in, IsLineWithin, CertLine, within_at, LinesLeft, value_of}
 use Rattle.sm_write.proofs.SteppedLemmas.{line_left, drop_past}
 use Rattle.sm_write.proofs.trees.write_lines.Goals as goal
 

@@ -1,7 +1,5 @@
 -- The lines that are left.
-use Rattle.std.proofs.Common.{drop}
-use Rattle.sm_write.specs.Stepped.{LinesLeft}
-use Rattle.sm_write.specs.Values.{value_of}
+use Rattle.sm_write.proofs.Imports.{drop, LinesLeft, value_of}
 use Rattle.sm_write.proofs.trees.write_lines.Given as goal
 
 abbrev pub invariant-loop-line : goal.invariant-loop-line

@@ -1,8 +1,5 @@
 -- The line makes the term, which has the next number.
-use Rattle.std.proofs.Common.{◌≡◌, ℕ, suc, ◌<◌, ◌^◌, length, nat_eq, refl, ap, ◌∙◌, Some, arith}
-use Rattle.std.specs.HashMap.{get}
-use Rattle.std.specs.Map.{update}
-use Rattle.sm_write.specs.Values.{value_of}
+use Rattle.sm_write.proofs.Imports.{◌≡◌, ℕ, suc, ◌<◌, ◌^◌, length, nat_eq, refl, ap, ◌∙◌, Some, arith, get, update, value_of}
 use Rattle.sm_write.proofs.WriterSteps.{stands_term, get_length}
 use Rattle.sm_write.proofs.writer.add_term.Goals as goal
 

@@ -1,8 +1,5 @@
 -- The lines stand behind the version line.
-use Rattle.std.proofs.Common.{ℕ, ◌++◌, List, ap, ◌∙◌}
-use Rattle.sm_proof.specs.Lines.{Header}
-use Rattle.sm_write.specs.Bytes.{line_text}
-use Rattle.sm_write.specs.Versions.{version_where}
+use Rattle.sm_write.proofs.Imports.{ℕ, ◌++◌, List, ap, ◌∙◌, Header, line_text, version_where}
 use Rattle.sm_write.proofs.writing.finished.Goals as goal
 
 pub returns : goal.returns

@@ -1,8 +1,5 @@
 -- No line is there.
-use Rattle.std.proofs.Common.{ℕ, nat_eq, List, false, length, refl, sym, ap, subst}
-use Rattle.std.specs.Map.{lookup}
-use Rattle.sm_proof.specs.Passing.{start_progress}
-use Rattle.sm_prune.specs.Texts.{Leads}
+use Rattle.sm_write.proofs.Imports.{ℕ, nat_eq, List, false, length, refl, sym, ap, subst, lookup, start_progress, Leads}
 use Rattle.sm_write.proofs.TextLemmas.{leads_start}
 use Rattle.sm_write.proofs.writing.fresh_writer.Goals as goal
 

@@ -1,18 +1,6 @@
 -- The start of the task waits first, and in the end nothing.
-use Rattle.std.proofs.Common.{◌≡◌, [], ◌∷◌, sym, subst}
-use Rattle.sm_term.specs.Tables.{trees_in, sorts_in}
-use Rattle.sm_plan.specs.States.{start_state}
-use Rattle.sm_plan.specs.Views.{forms_in, state_in}
-use Rattle.sm_plan.proofs.TablesWiden.{widens_twice}
-use Rattle.sm_proof.specs.Verdicts.{subject_of}
-use Rattle.sm_syntax.specs.text.Parts.{task_of}
-use Rattle.sm_text.specs.Tasks.{parts_of}
-use Rattle.sm_expand.specs.NumberedPlans.{IsPlanReady}
+use Rattle.sm_write.proofs.Imports.{◌≡◌, [], ◌∷◌, sym, subst, trees_in, sorts_in, start_state, forms_in, state_in, widens_twice, subject_of, task_of, parts_of, IsPlanReady, plan_ready, PlacedState, IsUnderway, value_of}
 use Rattle.sm_expand.specs.Views.{numbered_plan}
-use Rattle.sm_expand.proofs.PlansWiden.{plan_ready}
-use Rattle.sm_expand.specs.declared.placed.PlacedState.{PlacedState}
-use Rattle.sm_write.specs.Underway.{IsUnderway}
-use Rattle.sm_write.specs.Values.{value_of}
 use Rattle.sm_write.proofs.StartsUnderway.{starts_underway}
 use Rattle.sm_write.proofs.TaskStarts.{start_is}
 use Rattle.sm_write.proofs.TreesStay.{trees_wider}

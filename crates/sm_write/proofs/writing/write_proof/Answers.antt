@@ -1,7 +1,5 @@
 -- Where the text is not made, the table is cut back.
-use Rattle.std.proofs.Common.{◌≡◌, ℕ, length, take, ap, ◌∙◌}
-use Rattle.sm_term.specs.Tables.{TableValue, trees_in}
-use Rattle.sm_plan.proofs.TablesWiden.{cut_back, widens_cut}
+use Rattle.sm_write.proofs.Imports.{◌≡◌, ℕ, length, take, ap, ◌∙◌, TableValue, trees_in, cut_back, widens_cut}
 use Rattle.sm_write.proofs.writing.write_proof.Goals as goal
 
 -- to as many terms as there were

@@ -1,19 +1,10 @@
 -- The version line is put before what was written.
-use Rattle.std.proofs.Common.{◌≡◌, ℕ, Bool, List, ◌∷◌, ◌++◌, sym, ap, ◌∙◌, subst, IfOk}
-use Rattle.std.proofs.lemmas.Result.{IfOk-weaker}
-use Rattle.sm_proof.specs.Lines.{Header}
-use Rattle.sm_proof.specs.Verdicts.{subject_of}
+use Rattle.sm_write.proofs.Imports.{◌≡◌, ℕ, Bool, List, ◌∷◌, ◌++◌, sym, ap, ◌∙◌, subst, IfOk-weaker, Header, subject_of, spelled_back, parts_of, Leads, line_text, value_of, version_where, some_mapped}
+use Rattle.std.proofs.Common.{IfOk}
 use Rattle.sm_proof.proofs.CasesLemmas.{files_are_lines}
 use Rattle.sm_proof.proofs.ExactLines.{exact_read}
-use Rattle.sm_proof.proofs.SpellingReadsBack.{spelled_back}
-use Rattle.sm_text.specs.Tasks.{parts_of}
-use Rattle.sm_prune.specs.Texts.{Leads}
-use Rattle.sm_write.specs.Bytes.{line_text}
-use Rattle.sm_write.specs.Values.{value_of}
-use Rattle.sm_write.specs.Versions.{version_where}
 use Rattle.sm_write.proofs.TextLemmas.{IsFile, leads_pass}
 use Rattle.sm_write.proofs.writing.written_proof.Goals as goal
-use Rattle.sm_syntax.proofs.Assumed.{some_mapped}
 
 pub returns : goal.returns
 returns c =

@@ -1,8 +1,6 @@
 -- The table has the sorts of the declared names.
-use Rattle.std.proofs.Common.{sym, subst}
+use Rattle.calls.proofs.Imports.{sym, subst, Sorts, IsDeclaredIn}
 use Rattle.std.specs.Bool.{OnTrue}
-use Rattle.sm_syntax.specs.text.Sorts.{Sorts}
-use Rattle.sm_term.specs.Sorted.{IsDeclaredIn}
 use Rattle.calls.proofs.scene.Scene.declares.Goals as goal
 
 pub returns : goal.returns

@@ -1,6 +1,4 @@
-use Rattle.std.proofs.Common.{◌∙◌, ◌+◌, ◌-◌, ◌^◌, ℕ, min, ap, Vec, Global}
-use Rattle.sm_text.specs.Tasks.{parts_of}
-use Rattle.sm_batch.specs.Steps.{IsReply}
+use Rattle.sm_batch.proofs.Imports.{◌∙◌, ◌+◌, ◌-◌, ◌^◌, ℕ, min, ap, Vec, Global, parts_of, IsReply}
 use Rattle.sm_batch.proofs.SettleLemmas.{steps_safe, settled, hits_counted}
 use Rattle.sm_batch.proofs.TellLemmas.{all_free}
 use Rattle.sm_batch.proofs.ZipLemmas.{zip_map}

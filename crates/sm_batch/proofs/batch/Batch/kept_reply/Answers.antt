@@ -1,8 +1,4 @@
-use Rattle.std.proofs.Common.{◌≡◌, ◌∙◌, sym, ap, subst, true, false, Some, None}
-use Rattle.sm_text.specs.Tasks.{parts_of}
-use Rattle.sm_batch.specs.Entries.{IsAccepted}
-use Rattle.sm_batch.specs.Groups.{is_hit}
-use Rattle.sm_batch.specs.Views.{entry_of, entries_of}
+use Rattle.sm_batch.proofs.Imports.{◌≡◌, ◌∙◌, sym, ap, subst, true, false, Some, None, parts_of, IsAccepted, is_hit, entry_of, entries_of}
 use Rattle.sm_batch.proofs.EntryLemmas.{found_accepted}
 use Rattle.sm_batch.proofs.LookupLemmas.{entry_found, hit_found}
 use Rattle.sm_batch.proofs.batch.Batch.kept_reply.Goals as goal

@@ -1,8 +1,4 @@
-use Rattle.std.proofs.Common.{sym, subst}
-use Rattle.sm_text.specs.printing.Named.{HasText}
-use Rattle.sm_text.specs.Tasks.{parts_of}
-use Rattle.sm_text.specs.declared.task.Task.{Task}
-use Rattle.sm_batch.specs.Steps.{IsLookedUp}
+use Rattle.sm_batch.proofs.Imports.{sym, subst, HasText, parts_of, Task, IsLookedUp}
 use Rattle.sm_batch.proofs.ZipLemmas.{zip_more}
 use Rattle.sm_batch.proofs.batch.Batch.look_all_up.Goals as goal
 

@@ -1,7 +1,5 @@
 -- Each task so far was looked up.
-use Rattle.std.proofs.Common.{take}
-use Rattle.std.specs.List.{AllZip}
-use Rattle.sm_batch.specs.Steps.{IsLookedUp}
+use Rattle.sm_batch.proofs.Imports.{take, AllZip, IsLookedUp}
 use Rattle.sm_batch.proofs.batch.Batch.look_all_up.Given as goal
 
 abbrev pub invariant-loop-task : goal.invariant-loop-task

@@ -1,12 +1,4 @@
-use Rattle.std.proofs.Common.{◌≡◌, ◌∙◌, length, map, All, sym, ap, subst, Bor, List, ℕ, true}
-use Rattle.std.specs.List.{AllZip}
-use Rattle.sm_syntax.specs.claim.ConflictFree.{ConflictFree}
-use Rattle.sm_syntax.specs.text.Parts.{Parts, task_of}
-use Rattle.sm_text.specs.printing.Named.{HasText}
-use Rattle.sm_text.specs.Tasks.{parts_of}
-use Rattle.sm_text.specs.declared.task.Task.{Task}
-use Rattle.sm_batch.specs.Answers.{IsAnswer, MayAnswer}
-use Rattle.sm_batch.specs.Steps.{IsLookedUp, missed}
+use Rattle.sm_batch.proofs.Imports.{◌≡◌, ◌∙◌, length, map, All, sym, ap, subst, Bor, List, ℕ, true, AllZip, ConflictFree, Parts, task_of, HasText, parts_of, Task, IsAnswer, MayAnswer, IsLookedUp, missed}
 use Rattle.sm_batch.proofs.JobLemmas.{all_unmap}
 use Rattle.sm_batch.proofs.TellLemmas.{missed_all, missed_length, all_told, answers_told}
 use Rattle.sm_batch.proofs.batch.Batch.replies_and_steps.Goals as goal

@@ -1,7 +1,4 @@
-use Rattle.std.proofs.Common.{sym, subst}
-use Rattle.sm_batch.specs.Entries.{AreAccepted}
-use Rattle.sm_batch.specs.Steps.{AreSafe}
-use Rattle.sm_batch.specs.Views.{entries_of}
+use Rattle.sm_batch.proofs.Imports.{sym, subst, AreAccepted, AreSafe, entries_of}
 use Rattle.sm_batch.proofs.SettleLemmas.{accepted_looks, accepted_puts}
 use Rattle.sm_batch.proofs.batch.Batch.settle.Goals as goal
 

@@ -1,8 +1,6 @@
 -- By the places.
-use Rattle.std.proofs.Common.{◌↔◌, ◌<◌, IsTrue, length, sym, subst}
-use Rattle.sm_term.specs.Tables.{trees_in, tree_at}
+use Rattle.sm_cc.proofs.Imports.{◌↔◌, ◌<◌, IsTrue, length, sym, subst, trees_in, tree_at, ClassesValue, setting_of}
 use Rattle.sm_cc.specs.Classes.{Apart}
-use Rattle.sm_cc.specs.Views.{ClassesValue, setting_of}
 use Rattle.sm_cc.proofs.ClassesLemmas.{apart_of_their_places}
 use Rattle.sm_cc.proofs.classes.Classes.apart.Goals as goal
 

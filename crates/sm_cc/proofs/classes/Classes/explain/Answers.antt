@@ -1,11 +1,6 @@
 -- By the places.
-use Rattle.std.proofs.Common.{◌<◌, ◌∙◌, length, map, sym, ap, subst}
-use Rattle.sm_term.specs.Tables.{trees_in, sorts_in, tree_at}
-use Rattle.sm_theory.specs.Views.{line_in}
-use Rattle.sm_cc.specs.Classes.{Same}
-use Rattle.sm_cc.specs.Explained.{Explain, AreLinesOf}
-use Rattle.sm_cc.specs.Explaining.{AreStepsIn, step_line}
-use Rattle.sm_cc.specs.Views.{ClassesValue, setting_of, trees_of, numbers_of, equation_of}
+use Rattle.sm_cc.proofs.Imports.{◌<◌, ◌∙◌, length, map, sym, ap, subst, trees_in, sorts_in, tree_at, line_in, Same, Explain, AreLinesOf, AreStepsIn, step_line, ClassesValue, setting_of, equation_of}
+use Rattle.sm_cc.specs.Views.{trees_of, numbers_of}
 use Rattle.sm_cc.proofs.LinesLemmas.{places_of_same, steps_in, lines_explain}
 use Rattle.sm_cc.proofs.classes.Classes.explain.Goals as goal
 

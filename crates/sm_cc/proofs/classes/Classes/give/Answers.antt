@@ -1,7 +1,5 @@
 -- What is given of the terms is given of their places.
-use Rattle.std.proofs.Common.{List, sym, subst}
-use Rattle.sm_cc.specs.Assumed.{AreClasses}
-use Rattle.sm_cc.specs.Views.{ClassesValue, IsTermOf, HaveOneSort, GivenFact}
+use Rattle.sm_cc.proofs.Imports.{List, sym, subst, AreClasses, ClassesValue, IsTermOf, HaveOneSort, GivenFact}
 use Rattle.sm_cc.proofs.ClassesLemmas.{place_below, classes_more}
 use Rattle.sm_cc.proofs.classes.Classes.give.Goals as goal
 

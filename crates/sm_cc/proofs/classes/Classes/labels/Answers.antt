@@ -1,12 +1,6 @@
 -- By the labels of places.
-use Rattle.std.proofs.Common.{◌≡◌, ℕ, List, length, map, ap, sym, subst, ◌∙◌}
-use Rattle.std.proofs.lemmas.Result.{IfOk-weaker}
-use Rattle.sm_term.specs.Tables.{trees_in, AreBefore}
-use Rattle.sm_term.specs.declared.term.TermId.{TermId}
-use Rattle.sm_cc.specs.Labels.{AreTermLabels}
+use Rattle.sm_cc.proofs.Imports.{◌≡◌, ℕ, List, length, map, ap, sym, subst, ◌∙◌, IfOk-weaker, trees_in, AreBefore, TermId, AreTermLabels, place_at, ClassesValue}
 use Rattle.sm_cc.specs.LabelsAt.{label_at}
-use Rattle.sm_cc.specs.Positions.{place_at}
-use Rattle.sm_cc.specs.Views.{ClassesValue}
 use Rattle.sm_cc.proofs.LabelsLemmas.{term_labels_tell}
 use Rattle.sm_cc.proofs.classes.Classes.labels.Goals as goal
 

@@ -1,12 +1,6 @@
 -- By what is so of the classes that these begin with; what is numbered goes on.
-use Rattle.std.proofs.Common.{◌∙◌, List, length, sym, ap, subst}
-use Rattle.sm_term.specs.Tables.{trees_in}
-use Rattle.sm_term.specs.declared.term.TermId.{TermId}
-use Rattle.sm_pairs.specs.Longer.{IsLonger}
-use Rattle.sm_cc.specs.Assumed.{AreClasses, placed_equations, placed_contraries}
-use Rattle.sm_cc.specs.Positions.{ArePositions}
-use Rattle.sm_cc.specs.RowOf.{AreRowsFrom}
-use Rattle.sm_cc.specs.Views.{ClassesValue, trees_of}
+use Rattle.sm_cc.proofs.Imports.{◌∙◌, List, length, sym, ap, subst, trees_in, TermId, IsLonger, AreClasses, placed_equations, placed_contraries, ArePositions, AreRowsFrom, ClassesValue}
+use Rattle.sm_cc.specs.Views.{trees_of}
 use Rattle.sm_cc.proofs.GroundLemmas.{ground_later, equal_still, unequal_still, classes_over}
 use Rattle.sm_cc.proofs.classes.Classes.over.Goals as goal
 

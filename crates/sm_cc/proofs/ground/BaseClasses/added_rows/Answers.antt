@@ -1,10 +1,7 @@
 -- As many rows as places are those of the base.
-use Rattle.std.proofs.Common.{◌≡◌, ◌+◌, ℕ, length, subst, ap, arith}
-use Rattle.std.proofs.lemmas.List.{length-map, length-append}
-use Rattle.sm_term.specs.Tables.{trees_in, tree_at}
-use Rattle.sm_term.specs.declared.term.TermId.{TermId}
-use Rattle.sm_cc.specs.Views.{ClassesValue, trees_of}
-use Rattle.sm_cc.specs.RowOf.{AreRowsFrom}
+use Rattle.sm_cc.proofs.Imports.{◌≡◌, ◌+◌, ℕ, length, subst, ap, arith, length-map, trees_in, tree_at, TermId, ClassesValue, AreRowsFrom}
+use Rattle.std.proofs.lemmas.List.{length-append}
+use Rattle.sm_cc.specs.Views.{trees_of}
 use Rattle.sm_cc.proofs.GroundLemmas.{rows_of_base}
 use Rattle.sm_cc.proofs.ground.BaseClasses.added_rows.Goals as goal
 

@@ -1,16 +1,7 @@
 -- By the labels of the places; what is numbered goes on.
-use Rattle.std.proofs.Common.{◌∙◌, IsTrue, Bool, List, length, ap, sym, subst}
-use Rattle.std.proofs.lemmas.Result.{IfOk-weaker}
-use Rattle.sm_term.specs.Tables.{trees_in}
-use Rattle.sm_term.specs.declared.term.TermId.{TermId}
-use Rattle.sm_pairs.specs.Longer.{IsLonger}
+use Rattle.sm_cc.proofs.Imports.{◌∙◌, IsTrue, Bool, List, length, ap, sym, subst, IfOk-weaker, trees_in, TermId, IsLonger, AreEqualByLabels, AreTermsLabelled, AreTermLabels, ArePositions, AreRowsFrom, ClassesValue}
 use Rattle.sm_cc.specs.declared.row.Row.{Row}
-use Rattle.sm_cc.specs.AddedTerms.{AreEqualByLabels}
-use Rattle.sm_cc.specs.Labelled.{AreTermsLabelled}
-use Rattle.sm_cc.specs.Labels.{AreTermLabels}
-use Rattle.sm_cc.specs.Positions.{ArePositions}
-use Rattle.sm_cc.specs.RowOf.{AreRowsFrom}
-use Rattle.sm_cc.specs.Views.{ClassesValue, trees_of}
+use Rattle.sm_cc.specs.Views.{trees_of}
 use Rattle.sm_cc.proofs.BehindTerms.{equal_told, exact_told}
 use Rattle.sm_cc.proofs.GroundLemmas.{ground_later}
 use Rattle.sm_cc.proofs.ground.BaseClasses.behind.Goals as goal

@@ -1,15 +1,7 @@
 -- By what is so of the rows and of what is given.
-use Rattle.std.proofs.Common.{List, refl, sym, ap, subst}
-use Rattle.sm_term.specs.Tables.{trees_in, sorts_in}
-use Rattle.sm_term.specs.declared.term.TermId.{TermId}
+use Rattle.sm_cc.proofs.Imports.{List, refl, sym, ap, subst, trees_in, sorts_in, TermId, placed_equations, placed_contraries, placed_of, Placed, RowsStand, ArePositions, ClassesValue, AreNumberedBy}
 use Rattle.sm_cc.specs.declared.row.Row.{Row}
-use Rattle.sm_cc.specs.Assumed.{placed_equations, placed_contraries}
-use Rattle.sm_cc.specs.Closures.{placed_of}
-use Rattle.sm_cc.specs.Log.{Placed}
-use Rattle.sm_cc.specs.Standing.{RowsStand}
-use Rattle.sm_cc.specs.Positions.{ArePositions}
-use Rattle.sm_cc.specs.Views.{ClassesValue, trees_of}
-use Rattle.sm_cc.specs.BaseClasses.{AreNumberedBy}
+use Rattle.sm_cc.specs.Views.{trees_of}
 use Rattle.sm_cc.proofs.PlacedLemmas.{classes_made}
 use Rattle.sm_cc.proofs.ground.BaseClasses.of.Goals as goal
 

@@ -1,8 +1,6 @@
 -- A term's head stands at its number.
-use Rattle.std.proofs.Common.{Some, Option, sym, ap, ◌∙◌, subst}
+use Rattle.sm_cc.proofs.Imports.{Some, Option, sym, ap, ◌∙◌, subst, Contents, contents_of, IsHeadAt, heads_met}
 use Rattle.std.specs.Option.{option_map}
-use Rattle.sm_term.specs.RowLaws.{Contents, contents_of}
-use Rattle.sm_cc.specs.Numbered.{IsHeadAt, heads_met}
 use Rattle.sm_cc.proofs.heads.Heads.number.Goals as goal
 
 pub returns-in_ok-number-in-Some-clause-head : goal.returns-in_ok-number-in-Some-clause-head

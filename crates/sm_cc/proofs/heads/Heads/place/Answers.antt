@@ -1,11 +1,6 @@
 -- The set has each head once, by what it holds.
-use Rattle.std.proofs.Common.{List, map, refl, sym, ap, ◌∙◌, subst}
-use Rattle.sm_term.specs.declared.term.Term.{Term}
-use Rattle.sm_term.specs.Rows.{same_term}
-use Rattle.sm_term.specs.RowLaws.{contents_of, same_term-Decides, same_term-equiv}
-use Rattle.sm_cc.specs.Numbered.{heads_met, StandApart}
+use Rattle.sm_cc.proofs.Imports.{List, map, refl, sym, ap, ◌∙◌, subst, Term, same_term, contents_of, same_term-Decides, same_term-equiv, heads_met, StandApart, longer_itself}
 use Rattle.sm_cc.proofs.NumberedLemmas.{longer_put, apart_from_distinct, value_stored}
-use Rattle.sm_pairs.proofs.LongerLemmas.{longer_itself}
 use Rattle.sm_cc.proofs.heads.Heads.place.Goals as goal
 
 pub returns-in-Some-clause-longer : goal.returns-in-Some-clause-longer

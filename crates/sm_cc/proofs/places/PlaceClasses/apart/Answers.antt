@@ -1,6 +1,4 @@
-use Rattle.std.proofs.Common.{◌≡◌, true, subst}
-use Rattle.sm_cc.specs.Rows.{ApartPlaces}
-use Rattle.sm_cc.specs.Log.{Placed}
+use Rattle.sm_cc.proofs.Imports.{◌≡◌, true, subst, ApartPlaces, Placed}
 use Rattle.sm_cc.proofs.PlacesLemmas.{exact_apart}
 use Rattle.sm_cc.proofs.places.PlaceClasses.apart.Goals as goal
 

@@ -1,5 +1,5 @@
-use Rattle.std.proofs.Common.{refl, sym, subst}
-use Rattle.sm_cc.specs.Closures.{IsSound, Closure, Given}
+use Rattle.sm_cc.proofs.Imports.{refl, sym, subst, IsSound}
+use Rattle.sm_cc.specs.Closures.{Closure, Given}
 use Rattle.sm_cc.proofs.PlacesLemmas.{sound_equal}
 use Rattle.sm_cc.proofs.places.PlaceClasses.assume.Goals as goal
 

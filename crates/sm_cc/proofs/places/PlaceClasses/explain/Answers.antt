@@ -1,7 +1,4 @@
-use Rattle.std.proofs.Common.{sym, subst}
-use Rattle.sm_cc.specs.Rows.{SamePlaces}
-use Rattle.sm_cc.specs.Log.{Placed}
-use Rattle.sm_cc.specs.Closures.{are_together}
+use Rattle.sm_cc.proofs.Imports.{sym, subst, SamePlaces, Placed, are_together}
 use Rattle.sm_cc.proofs.places.PlaceClasses.explain.Goals as goal
 
 pub explanation-requires-clause-together : goal.explanation-requires-clause-together

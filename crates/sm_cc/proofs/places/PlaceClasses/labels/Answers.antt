@@ -1,9 +1,6 @@
 -- The right side of each place's equation is its label.
-use Rattle.std.proofs.Common.{◌≡◌, map, ap, subst, ◌∙◌}
-use Rattle.std.proofs.lemmas.Result.{IfOk-weaker}
+use Rattle.sm_cc.proofs.Imports.{◌≡◌, map, ap, subst, ◌∙◌, IfOk-weaker, AreLabels, Placed}
 use Rattle.sm_cc.specs.declared.log.Equation.{Equation}
-use Rattle.sm_cc.specs.Labels.{AreLabels}
-use Rattle.sm_cc.specs.Log.{Placed}
 use Rattle.sm_cc.proofs.LabelsLemmas.{labels_tell}
 use Rattle.sm_cc.proofs.places.PlaceClasses.labels.Goals as goal
 

@@ -1,6 +1,4 @@
-use Rattle.std.proofs.Common.{◌≡◌, true, subst}
-use Rattle.sm_cc.specs.Rows.{SamePlaces}
-use Rattle.sm_cc.specs.Log.{Placed}
+use Rattle.sm_cc.proofs.Imports.{◌≡◌, true, subst, SamePlaces, Placed}
 use Rattle.sm_cc.proofs.PlacesLemmas.{exact_same}
 use Rattle.sm_cc.proofs.places.PlaceClasses.same.Goals as goal
 

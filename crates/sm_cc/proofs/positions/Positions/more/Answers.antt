@@ -1,9 +1,7 @@
 -- What is noted of the first terms is so in the table as it is now.
-use Rattle.std.proofs.Common.{◌≡◌, ℕ, ◌<◌, Option, None, List, get_or, length, sym, subst, ◌∙◌}
-use Rattle.std.specs.HashMap.{get}
-use Rattle.sm_term.specs.Tables.{trees_in}
+use Rattle.sm_cc.proofs.Imports.{◌≡◌, ℕ, ◌<◌, Option, None, List, get_or, length, sym, subst, ◌∙◌, get, trees_in, same_pair}
 use Rattle.sm_cc.specs.Views.{trees_of}
-use Rattle.sm_cc.specs.Positions.{same_pair, Positions}
+use Rattle.sm_cc.specs.Positions.{Positions}
 use Rattle.sm_cc.proofs.PositionsLemmas.{noted_before, positions_noted, length-trees_of}
 use Rattle.sm_cc.proofs.positions.Positions.more.Goals as goal
 

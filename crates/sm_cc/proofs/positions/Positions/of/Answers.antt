@@ -1,6 +1,5 @@
 -- By what is noted of all terms.
-use Rattle.std.proofs.Common.{sym, length}
-use Rattle.sm_term.specs.Tables.{trees_in}
+use Rattle.sm_cc.proofs.Imports.{sym, length, trees_in}
 use Rattle.sm_cc.specs.declared.positions.Positions.{Positions}
 use Rattle.sm_cc.specs.Views.{trees_of}
 use Rattle.sm_cc.proofs.PositionsLemmas.{positions_noted, length-trees_of}

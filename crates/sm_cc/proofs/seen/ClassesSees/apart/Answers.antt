@@ -1,11 +1,7 @@
 -- What is known apart is so by the computed classes.
-use Rattle.sm_term.specs.Tables.{trees_in, tree_at}
-use Rattle.sm_cc.specs.Classes.{are_apart}
-use Rattle.sm_cc.specs.Rounds.{are_equal}
-use Rattle.sm_cc.specs.Views.{setting_of}
+use Rattle.sm_cc.proofs.Imports.{trees_in, tree_at, are_apart, are_equal, setting_of, same_tests}
 use Rattle.sm_cc.proofs.LeastLemmas.{apart_is_apart}
 use Rattle.sm_cc.proofs.seen.ClassesSees.apart.Goals as goal
-use Rattle.sm_lemmas.proofs.Tests.{same_tests}
 
 pub returns : goal.returns
 returns c =

@@ -1,10 +1,7 @@
 -- The classes are the computed ones.
-use Rattle.sm_term.specs.Tables.{trees_in, tree_at}
-use Rattle.sm_cc.specs.Rounds.{are_equal}
-use Rattle.sm_cc.specs.Views.{setting_of}
+use Rattle.sm_cc.proofs.Imports.{trees_in, tree_at, are_equal, setting_of, same_tests}
 use Rattle.sm_cc.proofs.LeastLemmas.{equal_is_same}
 use Rattle.sm_cc.proofs.seen.ClassesSees.equal.Goals as goal
-use Rattle.sm_lemmas.proofs.Tests.{same_tests}
 
 pub returns : goal.returns
 returns c =

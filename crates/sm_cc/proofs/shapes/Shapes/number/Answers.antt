@@ -1,8 +1,6 @@
 -- The set has each list of parts once.
-use Rattle.std.proofs.Common.{Some, List, map, refl, sym, ap, ◌∙◌, subst}
-use Rattle.sm_cc.specs.Numbered.{parts_met, StandApart}
+use Rattle.sm_cc.proofs.Imports.{Some, List, map, refl, sym, ap, ◌∙◌, subst, parts_met, StandApart, longer_itself}
 use Rattle.sm_cc.proofs.NumberedLemmas.{longer_put, apart_from_distinct, value_stored, same_list, parts_of, same_list-Decides, Parts}
-use Rattle.sm_pairs.proofs.LongerLemmas.{longer_itself}
 use Rattle.sm_cc.proofs.shapes.Shapes.number.Goals as goal
 
 pub returns-in-Some-clause-longer : goal.returns-in-Some-clause-longer

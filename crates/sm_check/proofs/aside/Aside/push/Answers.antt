@@ -1,7 +1,5 @@
 -- The certificate is whole by its last line.
-use Rattle.std.proofs.Common.{◌++◌, ◌∷◌, [], ◌∙◌, ap}
-use Rattle.sm_check.specs.declared.raw_lines.RawLines.{RawLines}
-use Rattle.sm_check.specs.LineEnds.{ended_in}
+use Rattle.sm_check.proofs.Imports.{◌++◌, ◌∷◌, [], ◌∙◌, ap, RawLines, ended_in}
 use Rattle.sm_check.proofs.AsideSteps.{whole_more}
 use Rattle.sm_check.proofs.aside.Aside.push.Goals as goal
 

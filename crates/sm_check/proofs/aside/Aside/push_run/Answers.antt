@@ -1,8 +1,6 @@
 -- The certificate that is begun goes on by the run.
-use Rattle.std.proofs.Common.{◌++◌, ℕ, List, take, ap, sym, ◌∙◌, append_assoc}
-use Rattle.sm_check.specs.declared.raw_lines.RawLines.{RawLines}
-use Rattle.sm_check.specs.Aside.{certificates_of, joined}
-use Rattle.sm_check.specs.LineEnds.{ended_in}
+use Rattle.sm_check.proofs.Imports.{◌++◌, ℕ, List, take, ap, sym, ◌∙◌, append_assoc, RawLines, certificates_of, ended_in}
+use Rattle.sm_check.specs.Aside.{joined}
 use Rattle.sm_check.proofs.aside.Aside.push_run.Goals as goal
 
 pub returns-clause-lines : goal.returns-clause-lines

@@ -1,8 +1,5 @@
 -- What the walk says of its proof.
-use Rattle.std.proofs.Common.{ℕ, Bool, take, IfOk, subst}
-use Rattle.sm_syntax.specs.text.Sorts.{Sorts}
-use Rattle.sm_check.specs.Aside.{certificates_of, progress_at}
-use Rattle.sm_check.specs.Closing.{CloseFirst}
+use Rattle.sm_check.proofs.Imports.{ℕ, Bool, take, IfOk, subst, Sorts, certificates_of, progress_at, CloseFirst}
 use Rattle.sm_check.proofs.CheckerLemmas.{parts_at, walks_at}
 use Rattle.sm_check.proofs.checker.Checker.closed_first.Goals as goal
 

@@ -1,9 +1,5 @@
 -- A stopped checker answers its fault again; another one takes the line.
-use Rattle.std.proofs.Common.{Ok, Err, refl, sym, ap, ◌∙◌}
-use Rattle.std.proofs.lemmas.Option.{same_Some}
-use Rattle.sm_proof.specs.Lines.{line_of}
-use Rattle.sm_proof.specs.Verdicts.{Standing, next_standing}
-use Rattle.sm_check.specs.Checkers.{IsAt}
+use Rattle.sm_check.proofs.Imports.{Ok, Err, refl, sym, ap, ◌∙◌, same_Some, line_of, Standing, next_standing, IsAt}
 use Rattle.sm_check.proofs.CheckerLemmas.{parts_at, stopped_is, both_ways, goes_told, stops_told}
 use Rattle.sm_check.proofs.checker.Checker.line.Goals as goal
 

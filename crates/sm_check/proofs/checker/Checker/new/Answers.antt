@@ -1,10 +1,7 @@
 -- A checker at the start of its proof.
-use Rattle.std.proofs.Common.{refl, sym, ◌∙◌}
-use Rattle.sm_proof.specs.Verdicts.{Unopened, subject_of}
-use Rattle.sm_text.specs.Tasks.{parts_of}
+use Rattle.sm_check.proofs.Imports.{refl, sym, ◌∙◌, Unopened, subject_of, parts_of, some_mapped}
 use Rattle.sm_check.proofs.CheckerLemmas.{at_parts}
 use Rattle.sm_check.proofs.checker.Checker.new.Goals as goal
-use Rattle.sm_syntax.proofs.Assumed.{some_mapped}
 
 pub returns : goal.returns
 returns c =

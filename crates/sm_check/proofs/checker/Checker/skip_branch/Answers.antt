@@ -1,8 +1,5 @@
 -- What waits behind the branch is pending.
-use Rattle.std.proofs.Common.{Ok, ap, ◌∙◌}
-use Rattle.sm_term.specs.Tables.{TableValue, sorts_in}
-use Rattle.sm_proof.specs.Passing.{Progress}
-use Rattle.sm_proof.specs.Verdicts.{Underway}
+use Rattle.sm_check.proofs.Imports.{Ok, ap, ◌∙◌, TableValue, sorts_in, Progress, Underway}
 use Rattle.sm_check.specs.Checkers.{IsAt}
 use Rattle.sm_check.proofs.SkipLemmas.{walk_skipped}
 use Rattle.sm_check.proofs.checker.Checker.skip_branch.Goals as goal

@@ -1,8 +1,5 @@
 -- A line behind the version line, or the version line.
-use Rattle.std.proofs.Common.{Ok, refl, sym, ◌∙◌}
-use Rattle.sm_proof.specs.Lines.{line_of}
-use Rattle.sm_proof.specs.Verdicts.{Standing}
-use Rattle.sm_check.specs.Checkers.{IsAt}
+use Rattle.sm_check.proofs.Imports.{Ok, refl, sym, ◌∙◌, line_of, Standing, IsAt}
 use Rattle.sm_check.proofs.CheckerLemmas.{parts_at, line_barred, line_taken, version_taken, version_refused}
 use Rattle.sm_check.proofs.checker.Checker.take.Goals as goal
 

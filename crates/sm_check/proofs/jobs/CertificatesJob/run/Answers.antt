@@ -1,13 +1,6 @@
 -- The certificate with the job's number closes the branch of the opening with it.
-use Rattle.std.proofs.Common.{◌≡◌, ℕ, Bool, true, List, length, Some, ap, ◌∙◌, subst}
-use Rattle.std.proofs.lemmas.Result.{IfOk-weaker}
+use Rattle.sm_check.proofs.Imports.{◌≡◌, ℕ, Bool, true, List, length, Some, ap, ◌∙◌, subst, IfOk-weaker, trees_in, sorts_in, Opening, RawLines, Passes, ended_in, terms_in}
 use Rattle.std.specs.List.{slice_get}
-use Rattle.sm_term.specs.Tables.{trees_in, sorts_in}
-use Rattle.sm_check.specs.declared.openings.Opening.{Opening}
-use Rattle.sm_check.specs.declared.raw_lines.RawLines.{RawLines}
-use Rattle.sm_check.specs.Closing.{Passes}
-use Rattle.sm_check.specs.LineEnds.{ended_in}
-use Rattle.sm_check.specs.Walks.{terms_in}
 use Rattle.sm_check.proofs.JobsLemmas.{all_before, got_at}
 use Rattle.sm_check.proofs.jobs.CertificatesJob.run.Goals as goal
 

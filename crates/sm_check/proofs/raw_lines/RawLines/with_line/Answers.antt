@@ -1,8 +1,5 @@
 -- The lines, and one behind them.
-use Rattle.std.proofs.Common.{◌++◌, ◌∷◌, [], ℕ, List, length, ap, ◌∙◌, arith}
-use Rattle.std.proofs.lemmas.List.{length-append}
-use Rattle.sm_proof.specs.Verdicts.{FileLines}
-use Rattle.sm_check.specs.LineEnds.{ended_in}
+use Rattle.sm_check.proofs.Imports.{◌++◌, ◌∷◌, [], ℕ, List, length, ap, ◌∙◌, arith, length-append, FileLines, ended_in}
 use Rattle.sm_check.proofs.EndedLines.{ended-few, lines_in-push}
 use Rattle.sm_check.proofs.raw_lines.RawLines.with_line.Goals as goal
 

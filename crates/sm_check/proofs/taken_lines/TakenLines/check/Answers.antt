@@ -1,11 +1,5 @@
 -- What the bytes are read as is the line.
-use Rattle.std.proofs.Common.{◌≡◌, ℕ, Bool, List, Result, sym, ap, subst, ◌∙◌}
-use Rattle.std.specs.Result.{OnOk, IfErr}
-use Rattle.sm_proof.specs.declared.word.Word.{Word}
-use Rattle.sm_proof.specs.Lines.{ProofLine}
-use Rattle.sm_proof.specs.Verdicts.{next_standing, reads_exact}
-use Rattle.sm_proof.specs.Versions.{read_with}
-use Rattle.sm_check.specs.Pieces.{RefusesAt, Takes}
+use Rattle.sm_check.proofs.Imports.{◌≡◌, ℕ, Bool, List, Result, sym, ap, subst, ◌∙◌, OnOk, IfErr, Word, ProofLine, next_standing, reads_exact, read_with, RefusesAt, Takes}
 use Rattle.sm_check.proofs.taken_lines.TakenLines.check.Goals as goal
 
 -- what the checker reads where the proof stands

@@ -1,7 +1,5 @@
 -- One line more.
-use Rattle.std.proofs.Common.{◌++◌, ◌∷◌, ℕ, List, length, ap, subst, refl, arith}
-use Rattle.sm_check.specs.Aside.{ComesTo, StopsAt}
-use Rattle.sm_check.specs.LineEnds.{ended_in}
+use Rattle.sm_check.proofs.Imports.{◌++◌, ◌∷◌, ℕ, List, length, ap, subst, refl, arith, ComesTo, StopsAt, ended_in}
 use Rattle.sm_check.proofs.AsideLemmas.{next_taken, next_refused}
 use Rattle.sm_check.proofs.PieceLemmas.{err_is}
 use Rattle.sm_check.proofs.taken_lines.TakenLines.check_all.Goals as goal

@@ -1,8 +1,5 @@
 -- The lines so far were taken.
-use Rattle.std.proofs.Common.{◌≡◌, ◌+◌, ◌++◌, ℕ, List, length}
-use Rattle.sm_proof.specs.Verdicts.{Subject, Reached}
-use Rattle.sm_check.specs.Aside.{ComesTo}
-use Rattle.sm_check.specs.LineEnds.{ended_in}
+use Rattle.sm_check.proofs.Imports.{◌≡◌, ◌+◌, ◌++◌, ℕ, List, length, Subject, Reached, ComesTo, ended_in}
 use Rattle.sm_check.proofs.taken_lines.TakenLines.check_all.Given as goal
 
 abbrev pub invariant-loop-line : goal.invariant-loop-line

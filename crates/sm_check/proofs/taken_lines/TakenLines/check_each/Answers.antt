@@ -1,7 +1,6 @@
 -- One certificate more.
-use Rattle.std.proofs.Common.{◌≡◌, ◌+◌, ◌++◌, ℕ, List, length, drop, subst, sym, ap, arith}
-use Rattle.sm_check.specs.Aside.{ComesTo, StopsAt, certificates_of, joined}
-use Rattle.sm_check.specs.LineEnds.{ended_in}
+use Rattle.sm_check.proofs.Imports.{◌≡◌, ◌+◌, ◌++◌, ℕ, List, length, drop, subst, sym, ap, arith, ComesTo, StopsAt, certificates_of, ended_in}
+use Rattle.sm_check.specs.Aside.{joined}
 use Rattle.sm_check.proofs.AsideLists.{next_number, next_comes}
 use Rattle.sm_check.proofs.PieceLemmas.{err_is}
 use Rattle.sm_check.proofs.taken_lines.TakenLines.check_each.Goals as goal

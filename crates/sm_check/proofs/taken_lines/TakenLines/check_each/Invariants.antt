@@ -1,7 +1,6 @@
 -- The certificates so far were taken.
-use Rattle.std.proofs.Common.{◌≡◌, ◌+◌, ◌++◌, ℕ, List, length, drop}
-use Rattle.sm_proof.specs.Verdicts.{Subject, Reached}
-use Rattle.sm_check.specs.Aside.{ComesTo, certificates_of, joined}
+use Rattle.sm_check.proofs.Imports.{◌≡◌, ◌+◌, ◌++◌, ℕ, List, length, drop, Subject, Reached, ComesTo, certificates_of}
+use Rattle.sm_check.specs.Aside.{joined}
 use Rattle.sm_check.proofs.taken_lines.TakenLines.check_each.Given as goal
 
 abbrev pub invariant-loop-lines : goal.invariant-loop-lines

@@ -1,6 +1,4 @@
-use Rattle.std.proofs.Common.{Ok, arith}
-use Rattle.sm_proof.specs.Lines.{line_of}
-use Rattle.sm_proof.specs.Verdicts.{next_standing}
+use Rattle.sm_check.proofs.Imports.{Ok, arith, line_of, next_standing}
 use Rattle.sm_check.proofs.PieceLemmas.{goes_on, next-opens, refuses}
 use Rattle.sm_check.proofs.taken_lines.TakenLines.check_line.Goals as goal
 

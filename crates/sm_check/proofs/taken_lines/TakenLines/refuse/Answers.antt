@@ -1,9 +1,5 @@
 -- A bad line that is set aside goes before the one that can't be read.
-use Rattle.std.proofs.Common.{Result, subst, sym}
-use Rattle.sm_proof.specs.declared.word.Word.{Word}
-use Rattle.sm_proof.specs.Lines.{ProofLine}
-use Rattle.sm_proof.specs.Verdicts.{next_standing, reads_exact}
-use Rattle.sm_check.specs.Pieces.{RefusesAt}
+use Rattle.sm_check.proofs.Imports.{Result, subst, sym, Word, ProofLine, next_standing, reads_exact, RefusesAt}
 use Rattle.sm_check.proofs.AsideLemmas.{line_refused, stopped_before}
 use Rattle.sm_check.proofs.taken_lines.TakenLines.refuse.Goals as goal
 

@@ -1,7 +1,6 @@
 -- One certificate more.
-use Rattle.std.proofs.Common.{◌≡◌, ◌+◌, ℕ, length, drop, refl, sym, ap, subst}
-use Rattle.sm_check.specs.Aside.{joined, certificates_of}
-use Rattle.sm_check.specs.LineEnds.{ended_in}
+use Rattle.sm_check.proofs.Imports.{◌≡◌, ◌+◌, ℕ, length, drop, refl, sym, ap, subst, certificates_of, ended_in}
+use Rattle.sm_check.specs.Aside.{joined}
 use Rattle.sm_check.proofs.AsideLemmas.{one_skipped}
 use Rattle.sm_check.proofs.AsideLists.{next_number, next_skips, all_skipped, all_counted}
 use Rattle.sm_check.proofs.taken_lines.TakenLines.skip.Goals as goal

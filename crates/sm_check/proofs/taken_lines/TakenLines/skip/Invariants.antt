@@ -1,8 +1,6 @@
 -- The certificates so far are skipped.
-use Rattle.std.proofs.Common.{◌≡◌, ◌+◌, ◌++◌, ℕ, List, length, drop}
-use Rattle.sm_proof.specs.Verdicts.{Subject, Reached, reads_exact}
-use Rattle.sm_check.specs.Aside.{ComesTo, certificates_of, joined, progress_at}
-use Rattle.sm_check.specs.Closing.{CloseFirst}
+use Rattle.sm_check.proofs.Imports.{◌≡◌, ◌+◌, ◌++◌, ℕ, List, length, drop, Subject, Reached, reads_exact, ComesTo, certificates_of, progress_at, CloseFirst}
+use Rattle.sm_check.specs.Aside.{joined}
 use Rattle.sm_check.proofs.AsideLemmas.{Skips}
 use Rattle.sm_check.proofs.taken_lines.TakenLines.skip.Given as goal
 

@@ -1,6 +1,5 @@
 -- The line is taken behind all that is set aside, or set aside itself.
-use Rattle.std.proofs.Common.{◌++◌, ◌∷◌, []}
-use Rattle.sm_check.specs.Aside.{StopsAt, lines_aside, with_line}
+use Rattle.sm_check.proofs.Imports.{◌++◌, ◌∷◌, [], StopsAt, lines_aside, with_line}
 use Rattle.sm_check.proofs.AsideLemmas.{set_aside, stopped_before}
 use Rattle.sm_check.proofs.AsideSteps.{behind_refused, behind_taken, emptied_comes, same_aside}
 use Rattle.sm_check.proofs.PieceLemmas.{err_is}

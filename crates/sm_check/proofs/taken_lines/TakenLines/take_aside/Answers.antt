@@ -1,9 +1,6 @@
 -- Where something is set aside, the certificates that were run are skipped, then the others are taken, then the one that is begun.
-use Rattle.std.proofs.Common.{◌≡◌, ◌-◌, ◌++◌, ◌∙◌, ℕ, List, [], length, take, drop, subst, sym, ap, arith}
-use Rattle.std.proofs.lemmas.List.{take_rest}
-use Rattle.sm_check.specs.declared.raw_lines.RawLines.{RawLines}
-use Rattle.sm_check.specs.Aside.{ComesTo, StopsAt, certificates_of, joined}
-use Rattle.sm_check.specs.LineEnds.{ended_in}
+use Rattle.sm_check.proofs.Imports.{◌≡◌, ◌-◌, ◌++◌, ◌∙◌, ℕ, List, [], length, take, drop, subst, sym, ap, arith, take_rest, RawLines, ComesTo, StopsAt, certificates_of, ended_in}
+use Rattle.sm_check.specs.Aside.{joined}
 use Rattle.sm_check.proofs.AsideSteps.{begun_comes, cut_count, skipped_comes}
 use Rattle.sm_check.proofs.PieceLemmas.{err_is}
 use Rattle.sm_check.proofs.taken_lines.TakenLines.take_aside.Goals as goal

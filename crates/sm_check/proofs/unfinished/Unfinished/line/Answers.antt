@@ -1,6 +1,5 @@
 -- No byte that is kept ends a line.
-use Rattle.std.proofs.Common.{subst, sym}
-use Rattle.sm_check.specs.LineEnds.{HasNoEnd}
+use Rattle.sm_check.proofs.Imports.{subst, sym, HasNoEnd}
 use Rattle.sm_check.proofs.EndedLines.{none-ended}
 use Rattle.sm_check.proofs.unfinished.Unfinished.line.Goals as goal
 

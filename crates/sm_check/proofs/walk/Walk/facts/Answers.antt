@@ -1,9 +1,6 @@
 -- The branch that is due has the facts of the path.
-use Rattle.std.proofs.Common.{◌∙◌, length, ap, sym, subst}
-use Rattle.sm_check.specs.Checkers.{HasFacts}
-use Rattle.sm_check.specs.Walks.{WalkValue}
+use Rattle.sm_check.proofs.Imports.{◌∙◌, length, ap, sym, subst, HasFacts, WalkValue, sorts_in, trees_in}
 use Rattle.sm_check.proofs.PendingLemmas.{due_long}
-use Rattle.sm_term.specs.Tables.{sorts_in, trees_in}
 use Rattle.sm_check.proofs.walk.Walk.facts.Goals as goal
 
 pub returns : goal.returns

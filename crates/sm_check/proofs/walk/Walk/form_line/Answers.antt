@@ -1,12 +1,6 @@
 -- A formula more.
-use Rattle.std.proofs.Common.{Ok, Err, List, length, sym, subst}
-use Rattle.sm_term.specs.Tables.{trees_in, sorts_in}
-use Rattle.sm_term.specs.declared.term.TermId.{TermId}
-use Rattle.sm_proof.specs.Lines.{Form}
-use Rattle.sm_proof.specs.Passing.{taken, form_made}
-use Rattle.sm_check.specs.FormRows.{AreRowsReady, IsRowReady, RowsStand, RowStands, FormRow}
-use Rattle.sm_check.specs.Tells.{Tells}
-use Rattle.sm_check.specs.Walks.{WalkValue, Walks, terms_in}
+use Rattle.sm_check.proofs.Imports.{Ok, Err, List, length, sym, subst, trees_in, sorts_in, TermId, Form, taken, form_made, AreRowsReady, IsRowReady, RowsStand, RowStands, Tells, WalkValue, Walks, terms_in}
+use Rattle.sm_check.specs.FormRows.{FormRow}
 use Rattle.sm_check.proofs.WalksGo.{form_goes, form_stops, rows_ready}
 use Rattle.sm_check.proofs.walk.Walk.form_line.Goals as goal
 

@@ -1,9 +1,5 @@
 -- A line of a certificate is taken as one.
-use Rattle.std.proofs.Common.{ap}
-use Rattle.sm_term.specs.Tables.{sorts_in}
-use Rattle.sm_proof.specs.Lines.{line_of}
-use Rattle.sm_proof.specs.declared.line.Line.{Line}
-use Rattle.sm_proof.specs.Passing.{taken}
+use Rattle.sm_check.proofs.Imports.{ap, sorts_in, line_of, Line, taken}
 use Rattle.sm_check.proofs.TellsLemmas.{tells_along}
 use Rattle.sm_check.proofs.walk.Walk.take.Goals as goal
 

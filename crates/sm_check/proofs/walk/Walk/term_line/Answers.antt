@@ -1,13 +1,7 @@
 -- A term more, over a wider table.
-use Rattle.std.proofs.Common.{Ok, Err, List, length, sym, subst}
-use Rattle.sm_term.specs.Tables.{trees_in, sorts_in, AreBefore}
-use Rattle.sm_term.specs.declared.term.TermId.{TermId}
+use Rattle.sm_check.proofs.Imports.{Ok, Err, List, length, sym, subst, trees_in, sorts_in, AreBefore, TermId, taken, term_made, IsTerm, Tells, WalkValue, Walks, terms_in}
 use Rattle.sm_plan.proofs.TablesWiden.{widens_grown}
 use Rattle.sm_proof.specs.Lines.{Term}
-use Rattle.sm_proof.specs.Passing.{taken, term_made}
-use Rattle.sm_check.specs.TermsMade.{IsTerm}
-use Rattle.sm_check.specs.Tells.{Tells}
-use Rattle.sm_check.specs.Walks.{WalkValue, Walks, terms_in}
 use Rattle.sm_check.proofs.WalkWidens.{walk_ready}
 use Rattle.sm_check.proofs.WalksGo.{term_goes, term_stops, before_more}
 use Rattle.sm_check.proofs.walk.Walk.term_line.Goals as goal

@@ -1,6 +1,4 @@
-use Rattle.std.proofs.Common.{sym, subst, arith}
-use Rattle.std.proofs.lemmas.Int.{to_z-of_z}
-use Rattle.sm_eval.specs.Cells.{AreCells}
+use Rattle.sm_eval.proofs.Imports.{sym, subst, arith, to_z-of_z, AreCells}
 use Rattle.sm_eval.proofs.Ordered.{listed_at, listed_gap}
 use Rattle.sm_eval.proofs.cells.Cells.number.Goals as goal
 

@@ -1,8 +1,4 @@
-use Rattle.std.proofs.Common.{ℤ, List, sym, ap, ◌∙◌}
-use Rattle.std.proofs.lemmas.Int.{to_z-of_z}
-use Rattle.sm_syntax.specs.claim.Stores.{with_element}
-use Rattle.sm_eval.specs.Cells.{listed}
-use Rattle.sm_eval.specs.CellPlaces.{IsAt}
+use Rattle.sm_eval.proofs.Imports.{ℤ, List, sym, ap, ◌∙◌, to_z-of_z, with_element, listed, IsAt}
 use Rattle.sm_eval.proofs.Integers.{zero_by_bits, other_by_bits}
 use Rattle.sm_eval.proofs.Ordered.{set_is, set_cells, remove_is, remove_cells}
 use Rattle.sm_eval.proofs.cells.Cells.replace.Goals as goal

@@ -1,8 +1,5 @@
 -- the closure gives a cell's index, and the slice is the list of cells
-use Rattle.std.proofs.Common.{rules}
-use Rattle.std.proofs.lemmas.Int.{to_z-of_z}
-use Rattle.std.proofs.lemmas.List.Sorted.{answers_always}
-use Rattle.sm_eval.specs.Cells.{AreCells}
+use Rattle.sm_eval.proofs.Imports.{rules, to_z-of_z, answers_always, AreCells}
 use Rattle.sm_eval.proofs.Ordered.{searched}
 use Rattle.sm_eval.proofs.cells.Cells.search.Goals as goal
 

@@ -1,6 +1,4 @@
-use Rattle.std.proofs.Common.{List, ℤ, length, ap, ◌∙◌, arith}
-use Rattle.std.specs.List.{insert}
-use Rattle.std.proofs.lemmas.List.{length-drop}
+use Rattle.sm_eval.proofs.Imports.{List, ℤ, length, ap, ◌∙◌, arith, insert, length-drop}
 use Rattle.sm_eval.proofs.Rooms.{drop-insert}
 use Rattle.sm_eval.proofs.deque.Deque.insert.Goals as goal
 

@@ -1,5 +1,4 @@
-use Rattle.std.proofs.Common.{List, ℤ, set, ap, ◌∙◌}
-use Rattle.std.proofs.lemmas.List.{drop-set-add}
+use Rattle.sm_eval.proofs.Imports.{List, ℤ, set, ap, ◌∙◌, drop-set-add}
 use Rattle.sm_eval.proofs.deque.Deque.put.Goals as goal
 
 pub returns : goal.returns

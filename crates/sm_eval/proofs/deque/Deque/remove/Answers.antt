@@ -1,6 +1,4 @@
-use Rattle.std.proofs.Common.{List, ℤ, length, drop, ap, ◌∙◌, arith}
-use Rattle.std.specs.List.{remove}
-use Rattle.std.proofs.lemmas.List.{length-drop}
+use Rattle.sm_eval.proofs.Imports.{List, ℤ, length, drop, ap, ◌∙◌, arith, remove, length-drop}
 use Rattle.sm_eval.proofs.Rooms.{drop-remove}
 use Rattle.sm_eval.proofs.deque.Deque.remove.Goals as goal
 

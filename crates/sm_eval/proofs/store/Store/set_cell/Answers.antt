@@ -1,11 +1,7 @@
-use Rattle.std.proofs.Common.{◌≡◌, ℤ, sym, ap, ◌∙◌}
-use Rattle.std.proofs.lemmas.Int.{to_z-of_z}
-use Rattle.std.proofs.lemmas.List.{get_or_default}
+use Rattle.sm_eval.proofs.Imports.{◌≡◌, ℤ, sym, ap, ◌∙◌, to_z-of_z, get_or_default, put, with_element, listed, held, stored_value_of, values, StoredValue, Absent, Array}
 use Rattle.std.proofs.lemmas.Result.{on_ok_weaker}
 use Rattle.sm_syntax.specs.claim.Stores as plain
-use Rattle.sm_syntax.specs.claim.Stores.{put, with_element}
-use Rattle.sm_eval.specs.Cells.{listed}
-use Rattle.sm_eval.specs.StoredValues.{held, stored_value_of, values, meaning, sorts_of, StoredValue, Absent, Array}
+use Rattle.sm_eval.specs.StoredValues.{meaning, sorts_of}
 use Rattle.sm_eval.proofs.Writes.{declared_within, values-set, sorts-set}
 use Rattle.sm_eval.proofs.store.Store.set_cell.Goals as goal
 

@@ -1,6 +1,5 @@
 -- The sorts of the stored values, and after them those of what is left, are those of the declarations; each stored value has 0.
-use Rattle.std.proofs.Common.{◌≡◌, ℕ, drop}
-use Rattle.sm_syntax.specs.text.Parts.{sort_of}
+use Rattle.sm_eval.proofs.Imports.{◌≡◌, ℕ, drop, sort_of}
 use Rattle.sm_syntax.specs.trees.Programs.{declared_of}
 use Rattle.sm_eval.specs.Zeros.{AreZero}
 use Rattle.sm_eval.proofs.Declaring.{sorts_after}

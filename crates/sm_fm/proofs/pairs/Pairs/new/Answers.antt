@@ -1,6 +1,4 @@
-use Rattle.std.proofs.Common.{sym, ◌∙◌, arith}
-use Rattle.std.proofs.lemmas.Bool.Decides.{Decides-eqb}
-use Rattle.std.proofs.lemmas.List.{nil_from_length}
+use Rattle.sm_fm.proofs.Imports.{sym, ◌∙◌, arith, Decides-eqb, nil_from_length}
 use Rattle.sm_fm.proofs.CrossedLemmas.{starts_done, starts_first}
 use Rattle.sm_fm.proofs.pairs.Pairs.new.Goals as goal
 use Rattle.sm_fm.proofs.pairs.Pairs.new.Goals.{then-is_empty, else-is_empty}

@@ -1,9 +1,5 @@
 -- The pairs of the next atom with which a form begins.
-use Rattle.std.proofs.Common.{◌≡◌, ◌+◌, ◌-◌, List, length, sym, ap, ◌∙◌, arith}
-use Rattle.sm_fm.specs.Elimination.{Event}
-use Rattle.sm_fm.specs.Firsts.{beginning}
-use Rattle.sm_fm.specs.Places.{place_pairs}
-use Rattle.sm_fm.specs.States.{left_of}
+use Rattle.sm_fm.proofs.Imports.{◌≡◌, ◌+◌, ◌-◌, List, length, sym, ap, ◌∙◌, arith, Event, beginning, place_pairs, left_of}
 use Rattle.sm_fm.proofs.FirstLemmas.{lists_count, vector_of, nothing_begins}
 use Rattle.sm_fm.proofs.JumpLemmas.{jumped, none_left}
 use Rattle.sm_fm.proofs.StateLemmas.{within_same, pairs_of_atom}

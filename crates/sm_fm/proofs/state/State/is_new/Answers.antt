@@ -1,9 +1,5 @@
 -- The form has a part, and a form that lacks the earlier atoms is known only if it stands.
-use Rattle.std.proofs.Common.{◌≡◌, ◌<◌, ◌&&◌, Bool, false, not, length, sym, ap, ◌∙◌, arith, tests}
-use Rattle.std.specs.List.{list_any}
-use Rattle.sm_num.specs.Tightening.{has_no_part}
-use Rattle.sm_fm.specs.Elimination.{Placed, same_form}
-use Rattle.sm_fm.specs.Firsts.{standing}
+use Rattle.sm_fm.proofs.Imports.{◌≡◌, ◌<◌, ◌&&◌, Bool, false, not, length, sym, ap, ◌∙◌, arith, tests, list_any, has_no_part, Placed, same_form, standing}
 use Rattle.sm_fm.proofs.PlaceLemmas.{some_part}
 use Rattle.sm_fm.proofs.StandingLemmas.{stands_or_new}
 use Rattle.sm_fm.proofs.state.State.is_new.Goals as goal

@@ -1,14 +1,5 @@
 -- The form is put after the others, or nothing changes.
-use Rattle.std.proofs.Common.{◌≡◌, ◌∷◌, ◌++◌, [], ℕ, suc, List, length, Result, Ok, Err, sym, ap, subst, ◌∙◌, arith}
-use Rattle.std.specs.List.{All}
-use Rattle.std.specs.Result.{OnOk, OnErr}
-use Rattle.sm_num.specs.Forms.{Linear}
-use Rattle.sm_fm.specs.declared.known.Known.{Known}
-use Rattle.sm_fm.specs.declared.state.State.{State}
-use Rattle.sm_fm.specs.Elimination.{Event}
-use Rattle.sm_fm.specs.Known.{KnowsAll, Learns}
-use Rattle.sm_fm.specs.States.{left_of, with_form, Lacks, IsPairOf}
-use Rattle.sm_fm.specs.Taking.{Taking}
+use Rattle.sm_fm.proofs.Imports.{◌≡◌, ◌∷◌, ◌++◌, [], ℕ, suc, List, length, Result, Ok, Err, sym, ap, subst, ◌∙◌, arith, All, OnOk, OnErr, Linear, Known, State, Event, KnowsAll, Learns, left_of, with_form, Lacks, IsPairOf, Taking}
 use Rattle.sm_fm.proofs.KnowingLemmas.{knows_more}
 use Rattle.sm_fm.proofs.StateLemmas.{kept_left, pairs_stay}
 use Rattle.sm_fm.proofs.state.State.keep.Goals as goal

@@ -1,11 +1,5 @@
 -- The forms are listed, and the pairs are those of atom 0.
-use Rattle.std.proofs.Common.{◌≡◌, ◌<◌, length, sym, subst, ◌∙◌, arith, tests}
-use Rattle.std.specs.List.{All}
-use Rattle.std.proofs.lemmas.List.Elements.{All-nil}
-use Rattle.sm_fm.specs.Firsts.{beginning, beginnings, ListsFirsts}
-use Rattle.sm_fm.specs.Known.{KnowsAll}
-use Rattle.sm_fm.specs.Places.{place_pairs}
-use Rattle.sm_fm.specs.States.{IsPairOf}
+use Rattle.sm_fm.proofs.Imports.{◌≡◌, ◌<◌, length, sym, subst, ◌∙◌, arith, tests, All, All-nil, beginning, beginnings, ListsFirsts, KnowsAll, place_pairs, IsPairOf}
 use Rattle.sm_fm.proofs.FirstLemmas.{lists_count, vector_of}
 use Rattle.sm_fm.proofs.StateLemmas.{started, within_same, pairs_of_atom}
 use Rattle.sm_fm.proofs.state.State.new.Goals as goal

@@ -1,6 +1,5 @@
 -- The state is seen as it was.
-use Rattle.std.proofs.Common.{◌≡◌}
-use Rattle.sm_fm.specs.States.{taking, IsSound}
+use Rattle.sm_fm.proofs.Imports.{◌≡◌, taking, IsSound}
 use Rattle.sm_fm.proofs.state.State.next.Given as goal
 
 abbrev pub invariant-loop-self : goal.invariant-loop-self

@@ -1,16 +1,8 @@
 -- The pair's forms are in the list, and the atom cancels in them.
-use Rattle.std.proofs.Common.{◌≡◌, ℕ, IsTrue, Some, sym, ap, subst, ◌∙◌}
-use Rattle.std.proofs.lemmas.List.{get_or_read}
-use Rattle.sm_num.specs.Forms.{Linear}
-use Rattle.sm_num.specs.FormLaws.{same_atom}
-use Rattle.sm_num.specs.Eliminating.{can_cancel, eliminated}
-use Rattle.sm_num.specs.Combining.{Outcome}
-use Rattle.sm_fm.specs.Places.{no_form, form_at}
-use Rattle.sm_fm.specs.States.{Lacks, Finishes}
+use Rattle.sm_fm.proofs.Imports.{◌≡◌, ℕ, IsTrue, Some, sym, ap, subst, ◌∙◌, get_or_read, Linear, same_atom, can_cancel, eliminated, Outcome, no_form, form_at, Lacks, Finishes, slice_get-get_or}
 use Rattle.sm_fm.proofs.KnowingLemmas.{sum_lacks}
 use Rattle.sm_fm.proofs.StepLemmas.{gives_sum}
 use Rattle.sm_fm.proofs.state.State.sum.Goals as goal
-use Rattle.std.proofs.lemmas.Option.{slice_get-get_or}
 
 pub elim-sum-requires : goal.elim-sum-requires
 elim-sum-requires c =

@@ -1,8 +1,5 @@
 -- The pair is the first of those that were left.
-use Rattle.std.proofs.Common.{length, refl, ap, subst}
-use Rattle.std.specs.List.{All}
-use Rattle.std.proofs.lemmas.List.Elements.{All-head, All-tail}
-use Rattle.sm_fm.specs.States.{left_of, IsPairOf}
+use Rattle.sm_fm.proofs.Imports.{length, refl, ap, subst, All, All-head, All-tail, left_of, IsPairOf}
 use Rattle.sm_fm.proofs.state.State.take_pair.Goals as goal
 
 pub returns-clause-sound : goal.returns-clause-sound

@@ -1,7 +1,5 @@
 -- The answer has the marks of the share with the job's number.
-use Rattle.sm_sketch.specs.ChoiceViews.{choice_in}
-use Rattle.sm_houdini.specs.GoalJobs.{RoundGoalsValue}
-use Rattle.sm_houdini.specs.Marks.{in_share}
+use Rattle.sm_houdini.proofs.Imports.{choice_in, RoundGoalsValue, in_share}
 use Rattle.sm_houdini.proofs.GoalJobsLemmas.{known_over, share_tells}
 use Rattle.sm_houdini.proofs.goal_jobs.RoundGoalsJob.run.Goals as goal
 

@@ -1,12 +1,8 @@
 -- The answer is the end of the run with the job's number.
-use Rattle.std.proofs.Common.{ℕ, ◌<◌, ◌*◌, ◌%◌, length, get_or, div-lt_iff_lt-mul, sym, subst}
-use Rattle.sm_term.specs.Tables.{trees_in, sorts_in}
-use Rattle.sm_plan.specs.ReadyStates.{AreFormsReady}
+use Rattle.sm_houdini.proofs.Imports.{ℕ, ◌<◌, ◌*◌, ◌%◌, length, get_or, div-lt_iff_lt-mul, sym, subst, trees_in, sorts_in, AreFormsReady, PlanEndsValue, IsPartEnd, TellsEnd, facts_at}
 use Rattle.sm_expand.specs.declared.due.Due.{Due}
-use Rattle.sm_houdini.specs.EndJobs.{PlanEndsValue, IsPartEnd, TellsEnd}
 use Rattle.sm_houdini.proofs.ClosingLemmas.{ok_map}
 use Rattle.sm_houdini.proofs.LoopLemmas.{get_any}
-use Rattle.sm_goals.proofs.NodesLemmas.{facts_at}
 use Rattle.sm_houdini.proofs.run_ends.PlanEndsJob.run.Goals as goal
 
 pub dealt-requires : goal.dealt-requires

@@ -1,12 +1,5 @@
 -- The terms of the formula go behind the others, which keep their numbers.
-use Rattle.std.proofs.Common.{◌≡◌, ◌++◌, List, [], sym, ap, ◌∙◌, subst}
-use Rattle.sm_term.specs.Terms.{Tree}
-use Rattle.sm_term.specs.Formulas.{numbered, assertion_in}
-use Rattle.sm_term.specs.Tables.{trees_in, sorts_in}
-use Rattle.sm_theory.specs.TermsOfFormulas.{with_formula}
-use Rattle.sm_terms.specs.Listing.{trees_at}
-use Rattle.sm_list.specs.Own.{AreBuilt, ArePlaced}
-use Rattle.sm_list.specs.Shared.{with_those_before}
+use Rattle.sm_list.proofs.Imports.{◌≡◌, ◌++◌, List, [], sym, ap, ◌∙◌, subst, Tree, numbered, assertion_in, trees_in, sorts_in, with_formula, trees_at, AreBuilt, ArePlaced, with_those_before}
 use Rattle.sm_list.proofs.BuiltLemmas.{FormulaAmong}
 use Rattle.sm_list.proofs.SharedLemmas.{added, moved, placed_grown}
 use Rattle.sm_list.proofs.shared.SharedTerms.added.Goals as goal

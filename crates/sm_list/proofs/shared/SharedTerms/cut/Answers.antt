@@ -1,6 +1,5 @@
 -- The first terms have the first numbers.
-use Rattle.std.proofs.Common.{◌≡◌, ℕ, length, take, ap, sym, ◌∙◌, refl}
-use Rattle.sm_term.specs.Tables.{trees_in}
+use Rattle.sm_list.proofs.Imports.{◌≡◌, ℕ, length, take, ap, sym, ◌∙◌, refl, trees_in}
 use Rattle.sm_list.proofs.SharedLemmas.{shared_front}
 use Rattle.sm_list.proofs.shared.SharedTerms.cut.Goals as goal
 

@@ -1,9 +1,5 @@
-use Rattle.std.proofs.Common.{ℕ, pos, get_or, rules, sym, ap, subst, ◌∙◌}
-use Rattle.std.proofs.lemmas.Int.{to_z-of_z}
-use Rattle.std.specs.Int.{w128}
+use Rattle.sm_num.proofs.Imports.{ℕ, pos, get_or, rules, sym, ap, subst, ◌∙◌, to_z-of_z, w128, Linear, coefficient, AreParts, same_atom}
 use mir.Val.{SFits}
-use Rattle.sm_num.specs.Forms.{Linear, coefficient, AreParts}
-use Rattle.sm_num.specs.FormLaws.{same_atom}
 use Rattle.sm_num.proofs.KeptForms.{coefficient_at, coefficient_fits}
 use Rattle.sm_num.proofs.form.LinForm.coefficient.Goals as goal
 

@@ -1,9 +1,5 @@
-use Rattle.std.proofs.Common.{◌≡◌, not, take, rules, sym, ap, subst, ◌∙◌}
-use Rattle.std.proofs.lemmas.Int.{to_z-of_z}
-use Rattle.std.specs.Int.{w128}
+use Rattle.sm_num.proofs.Imports.{◌≡◌, not, take, rules, sym, ap, subst, ◌∙◌, to_z-of_z, w128, AreParts, parts_without, same_atom}
 use mir.Val.{SFits}
-use Rattle.sm_num.specs.Forms.{AreParts, parts_without}
-use Rattle.sm_num.specs.FormLaws.{same_atom}
 use Rattle.sm_num.proofs.KeptForms.{take_all}
 use Rattle.sm_num.proofs.KeptLemmas.{filter_parts}
 use Rattle.sm_num.proofs.form.LinForm.without.Goals as goal

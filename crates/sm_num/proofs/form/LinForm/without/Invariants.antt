@@ -1,7 +1,5 @@
 -- The parts so far are those at other atoms.
-use Rattle.std.proofs.Common.{◌≡◌, take}
-use Rattle.sm_num.specs.Forms.{parts_without}
-use Rattle.sm_num.specs.FormLaws.{same_atom}
+use Rattle.sm_num.proofs.Imports.{◌≡◌, take, parts_without, same_atom}
 use Rattle.sm_num.proofs.form.LinForm.without.Given as goal
 
 abbrev pub invariant-loop-part : goal.invariant-loop-part

@@ -1,8 +1,5 @@
 -- One slice more stands behind the last one.
-use Rattle.std.proofs.Common.{drop, sym, ap, ◌∙◌}
-use Rattle.std.proofs.lemmas.List.{take_all}
-use Rattle.sm_syntax.specs.claim.Syntax.{End}
-use Rattle.sm_plan.specs.Views.{code_before, frames_before}
+use Rattle.sm_plan.proofs.Imports.{drop, sym, ap, ◌∙◌, take_all, End, code_before, frames_before}
 use Rattle.sm_plan.proofs.RestsLemmas.{frames_push, next_frame}
 use Rattle.sm_plan.proofs.rest.Continuation.above.Goals as goal
 

@@ -1,7 +1,5 @@
 -- The slices that were passed stand behind the last one.
-use Rattle.std.proofs.Common.{◌≡◌, take}
-use Rattle.sm_syntax.specs.claim.Syntax.{End}
-use Rattle.sm_plan.specs.Views.{code_before, frames_before}
+use Rattle.sm_plan.proofs.Imports.{◌≡◌, take, End, code_before, frames_before}
 use Rattle.sm_plan.proofs.rest.Continuation.above.Given as goal
 
 abbrev pub invariant-loop-frame : goal.invariant-loop-frame

@@ -1,8 +1,5 @@
 -- One slice more is copied.
-use Rattle.std.proofs.Common.{◌-◌, take, sym, ap, ◌∙◌, arith, map}
-use Rattle.sm_syntax.specs.claim.Syntax.{End}
-use Rattle.sm_syntax.specs.trees.Views.{sequence, statement_of}
-use Rattle.sm_plan.specs.Views.{frames_before}
+use Rattle.sm_plan.proofs.Imports.{◌-◌, take, sym, ap, ◌∙◌, arith, map, End, sequence, statement_of, frames_before}
 use Rattle.sm_plan.proofs.RestsLemmas.{take_frame}
 use Rattle.sm_plan.proofs.rest.Continuation.block.Goals as goal
 

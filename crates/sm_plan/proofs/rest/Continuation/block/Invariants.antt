@@ -1,8 +1,5 @@
 -- The copies come first, and the slices before the place behind them.
-use Rattle.std.proofs.Common.{◌≡◌, ◌≤◌, length, take, map}
-use Rattle.sm_syntax.specs.claim.Syntax.{End}
-use Rattle.sm_syntax.specs.trees.Views.{sequence, statement_of}
-use Rattle.sm_plan.specs.Views.{frames_before, rest_code}
+use Rattle.sm_plan.proofs.Imports.{◌≡◌, ◌≤◌, length, take, map, End, sequence, statement_of, frames_before, rest_code}
 use Rattle.sm_plan.proofs.rest.Continuation.block.Given as goal
 
 abbrev pub invariant-loop-place : goal.invariant-loop-place

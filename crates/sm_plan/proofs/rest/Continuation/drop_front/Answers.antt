@@ -1,9 +1,5 @@
 -- The last slice is shortened or taken off.
-use Rattle.std.proofs.Common.{◌≡◌, ◌+◌, ◌-◌, length, take, sym, ap, ◌∙◌, arith, ◌≤◌}
-use Rattle.std.proofs.lemmas.List.{length-take-le}
-use Rattle.sm_syntax.specs.claim.Syntax.{End}
-use Rattle.sm_plan.specs.Statements.{rest_after}
-use Rattle.sm_plan.specs.Views.{code_before, frames_before}
+use Rattle.sm_plan.proofs.Imports.{◌≡◌, ◌+◌, ◌-◌, length, take, sym, ap, ◌∙◌, arith, ◌≤◌, length-take-le, End, rest_after, code_before, frames_before}
 use Rattle.sm_plan.proofs.RestsLemmas.{whole_frames, last_set, after_within, after_past}
 use Rattle.sm_plan.proofs.rest.Continuation.drop_front.Goals as goal
 

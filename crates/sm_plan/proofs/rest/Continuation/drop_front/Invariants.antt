@@ -1,7 +1,5 @@
 -- What is left to drop is to be dropped from the slices that are left.
-use Rattle.std.proofs.Common.{◌≡◌, length}
-use Rattle.sm_plan.specs.Statements.{rest_after}
-use Rattle.sm_plan.specs.Views.{rest_code}
+use Rattle.sm_plan.proofs.Imports.{◌≡◌, length, rest_after, rest_code}
 use Rattle.sm_plan.proofs.rest.Continuation.drop_front.Given as goal
 
 abbrev pub invariant-loop-place : goal.invariant-loop-place

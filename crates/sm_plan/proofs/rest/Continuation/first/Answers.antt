@@ -1,7 +1,5 @@
 -- The first statement of the last slice that has one.
-use Rattle.std.proofs.Common.{◌-◌, take, drop, sym, ◌∙◌, arith}
-use Rattle.sm_syntax.specs.claim.Syntax.{End}
-use Rattle.sm_plan.specs.Views.{code_before, frames_before, rest_code}
+use Rattle.sm_plan.proofs.Imports.{◌-◌, take, drop, sym, ◌∙◌, arith, End, code_before, frames_before, rest_code}
 use Rattle.sm_plan.proofs.RestsLemmas.{take_frame, head_is, no_head, begins}
 use Rattle.sm_plan.proofs.rest.Continuation.first.Goals as goal
 

@@ -1,7 +1,5 @@
 -- Nothing stands in the slices behind.
-use Rattle.std.proofs.Common.{◌≡◌, ◌≤◌, length, take}
-use Rattle.sm_syntax.specs.claim.Syntax.{End}
-use Rattle.sm_plan.specs.Views.{frames_before, rest_code}
+use Rattle.sm_plan.proofs.Imports.{◌≡◌, ◌≤◌, length, take, End, frames_before, rest_code}
 use Rattle.sm_plan.proofs.rest.Continuation.first.Given as goal
 
 abbrev pub invariant-loop-place : goal.invariant-loop-place

@@ -1,9 +1,5 @@
 -- What is still to be taken is taken from the slices that are left.
-use Rattle.std.proofs.Common.{◌≡◌, ◌+◌, ◌-◌, length, take, drop, sym, ap, ◌∙◌, arith}
-use Rattle.std.proofs.lemmas.Result.{IfOk-weaker}
-use Rattle.sm_syntax.specs.claim.Syntax.{End}
-use Rattle.sm_plan.specs.Statements.{front}
-use Rattle.sm_plan.specs.Views.{code_before, frames_before, rest_code, Continuation}
+use Rattle.sm_plan.proofs.Imports.{◌≡◌, ◌+◌, ◌-◌, length, take, drop, sym, ap, ◌∙◌, arith, IfOk-weaker, End, front, code_before, frames_before, rest_code, Continuation}
 use Rattle.sm_plan.proofs.RestsLemmas.{take_frame, drop_frame, front_within, front_past}
 use Rattle.sm_plan.proofs.rest.Continuation.front.Goals as goal
 

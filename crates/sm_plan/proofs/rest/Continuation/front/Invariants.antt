@@ -1,8 +1,5 @@
 -- The slices behind come first, and what is left to take behind them.
-use Rattle.std.proofs.Common.{◌≡◌, ◌≤◌, length, take, drop}
-use Rattle.sm_syntax.specs.claim.Syntax.{End}
-use Rattle.sm_plan.specs.Statements.{front}
-use Rattle.sm_plan.specs.Views.{frames_before, rest_code}
+use Rattle.sm_plan.proofs.Imports.{◌≡◌, ◌≤◌, length, take, drop, End, front, frames_before, rest_code}
 use Rattle.sm_plan.proofs.rest.Continuation.front.Given as goal
 
 abbrev pub invariant-loop-place : goal.invariant-loop-place

@@ -1,8 +1,5 @@
 -- Each slice has its statements or as many as are wanted.
-use Rattle.std.proofs.Common.{◌-◌, length, take, sym, ap, ◌∙◌, arith}
-use Rattle.sm_syntax.specs.claim.Syntax.{End}
-use Rattle.sm_plan.specs.Statements.{is_long}
-use Rattle.sm_plan.specs.Views.{frames_before}
+use Rattle.sm_plan.proofs.Imports.{◌-◌, length, take, sym, ap, ◌∙◌, arith, End, is_long, frames_before}
 use Rattle.sm_plan.proofs.RestsLemmas.{take_frame, long_within, long_past}
 use Rattle.sm_plan.proofs.rest.Continuation.is_long.Goals as goal
 

@@ -1,8 +1,5 @@
 -- The slices behind have the statements that were counted off.
-use Rattle.std.proofs.Common.{◌≡◌, ◌≤◌, length, take}
-use Rattle.sm_syntax.specs.claim.Syntax.{End}
-use Rattle.sm_plan.specs.Statements.{is_long}
-use Rattle.sm_plan.specs.Views.{frames_before, rest_code}
+use Rattle.sm_plan.proofs.Imports.{◌≡◌, ◌≤◌, length, take, End, is_long, frames_before, rest_code}
 use Rattle.sm_plan.proofs.rest.Continuation.is_long.Given as goal
 
 abbrev pub invariant-loop-place : goal.invariant-loop-place

@@ -1,8 +1,5 @@
 -- The block before nothing is the block.
-use Rattle.std.proofs.Common.{ap, ◌∙◌}
-use Rattle.sm_syntax.specs.claim.Syntax.{append}
-use Rattle.sm_syntax.specs.trees.Views.{code_of}
-use Rattle.sm_syntax.proofs.Appends.{append-End}
+use Rattle.sm_plan.proofs.Imports.{ap, ◌∙◌, append, code_of, append-End}
 use Rattle.sm_plan.proofs.rest.Continuation.of.Goals as goal
 
 pub returns : goal.returns

@@ -1,9 +1,5 @@
 -- The block's statements are the last slice.
-use Rattle.std.proofs.Common.{ap, ◌∙◌}
-use Rattle.sm_syntax.specs.claim.Syntax.{End, append}
-use Rattle.sm_syntax.specs.trees.Views.{code_of}
-use Rattle.sm_syntax.proofs.Blocks.{block_then}
-use Rattle.sm_plan.specs.Views.{code_before, frames_before, rest_code}
+use Rattle.sm_plan.proofs.Imports.{ap, ◌∙◌, End, append, code_of, block_then, code_before, frames_before, rest_code}
 use Rattle.sm_plan.proofs.RestsLemmas.{frames_push}
 use Rattle.sm_plan.proofs.rest.Continuation.put_before.Goals as goal
 

@@ -1,40 +1,11 @@
 -- Each part of the mini-product, from those below it.
-use Rattle.std.proofs.Common.{◌≡◌, ◌==◌, ◌+◌, ◌*◌, ◌<◌, ℕ, bit_and, Bool, true, if◌then◌else◌, List, [], ◌∷◌, ◌++◌, map, IfOk, IfErr, refl, sym, ap, ◌∙◌, subst, arith}
+use Rattle.sm_product.proofs.Imports.{◌≡◌, ◌==◌, ◌+◌, ◌*◌, ◌<◌, ℕ, bit_and, Bool, true, if◌then◌else◌, List, [], ◌∷◌, ◌++◌, map, refl, sym, ap, ◌∙◌, subst, arith, map-append, IfOk-weaker, IfErr-weaker, fun_ext, Code, Copy, Parts, IsWellSorted, copy_named, trees_in, sorts_in, subsets, with_copy, has, set_of, loop_body, forms_in, widens_twice, forms_stay, forms_ready, by_second_block, only_in, Summaries, Forks, Loops, moved_on, IsMoveWithin, codes_in, move_in, IsSiteOf, TellsSketch, ProductError, forking, looped, sketch_size, sketch_in, AreSketchesReady, sketch_stays, sketch_ready, sketches_stay, sketches_ready, turn_of, HaveLoops, drawn, side_by_side, statements_left, IsFilled, moves_before, first_taken, TellsBeyond, TellAllBeyond, IsTaken}
+use Rattle.std.proofs.Common.{IfOk, IfErr}
 use Rattle.std.proofs.lemmas.Bool.{eq-eqb}
-use Rattle.std.proofs.lemmas.List.{map-append}
-use Rattle.std.proofs.lemmas.Result.{IfOk-weaker, IfErr-weaker}
-use Rattle.std.proofs.Math.Path.{fun_ext}
-use Rattle.sm_syntax.specs.claim.Syntax.{Code}
-use Rattle.sm_syntax.specs.claim.ConflictFree.{Copy}
-use Rattle.sm_syntax.specs.text.Parts.{Parts}
-use Rattle.sm_syntax.specs.text.Sorts.{IsWellSorted}
-use Rattle.sm_syntax.specs.trees.Copies.{copy_named}
-use Rattle.sm_term.specs.Tables.{trees_in, sorts_in}
-use Rattle.sm_plan.specs.Copies.{subsets, with_copy, has}
-use Rattle.sm_plan.specs.Masks.{set_of}
-use Rattle.sm_plan.specs.Statements.{loop_body}
-use Rattle.sm_plan.specs.Views.{forms_in}
-use Rattle.sm_plan.proofs.TablesWiden.{widens_twice, forms_stay, forms_ready}
 use Rattle.sm_moves.specs.declared.moves.Move.{Move}
-use Rattle.sm_moves.specs.CodeShapes.{by_second_block}
-use Rattle.sm_moves.specs.CopySets.{only_in}
-use Rattle.sm_moves.specs.Moves.{Summaries, Forks, Loops, moved_on}
-use Rattle.sm_moves.specs.MovesWithin.{IsMoveWithin}
-use Rattle.sm_moves.specs.Rests.{codes_in}
-use Rattle.sm_moves.specs.ProgramMoves.{move_in}
 use Rattle.sm_moves.proofs.MaskLemmas.{mask_within, mask_inhabited}
-use Rattle.sm_template.specs.Sites.{IsSiteOf}
 use Rattle.sm_sketch.specs.declared.sketch.Sketch as own
-use Rattle.sm_sketch.specs.Errors.{TellsSketch}
-use Rattle.sm_sketch.specs.declared.error.ProductError.{ProductError}
-use Rattle.sm_sketch.specs.Sketches.{Sketch, forking, looped}
-use Rattle.sm_sketch.specs.SketchSizes.{sketch_size}
-use Rattle.sm_sketch.specs.SketchViews.{sketch_in, AreSketchesReady}
-use Rattle.sm_sketch.proofs.SketchesWiden.{sketch_stays, sketch_ready, sketches_stay, sketches_ready}
-use Rattle.sm_product.specs.LoopTurns.{turn_of, HaveLoops}
-use Rattle.sm_product.specs.MiniProducts.{drawn, side_by_side, statements_left}
-use Rattle.sm_product.specs.Paths.{IsFilled, moves_before, first_taken}
-use Rattle.sm_product.specs.Rooms.{TellsBeyond, TellAllBeyond, IsTaken}
+use Rattle.sm_sketch.specs.Sketches.{Sketch}
 use Rattle.sm_product.proofs.BranchesDrawn.{no_room_for_next, no_room_for_one, no_room_beside, no_room_for_other, none_loops, no_room_for_turns, no_room_after}
 use Rattle.sm_product.proofs.BranchesLeft.{first_way, second_way, have_loops, after_loops, one_turn, first_sorted, second_sorted, turn_sorted}
 use Rattle.sm_product.proofs.MiniDrawn.{all_drawn, last_beyond, all_beyond}

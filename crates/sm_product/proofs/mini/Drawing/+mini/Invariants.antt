@@ -1,16 +1,5 @@
 -- Each move leaves fewer statements, and the turns so far are drawn.
-use Rattle.std.proofs.Common.{◌≡◌, ◌==◌, ◌+◌, ◌*◌, ℕ, bit_and, map}
-use Rattle.std.specs.List.{filter, range_with_len}
-use Rattle.sm_syntax.specs.text.Parts.{Parts}
-use Rattle.sm_term.specs.Tables.{trees_in, sorts_in}
-use Rattle.sm_term.specs.TableLaws.{ExtendsTable}
-use Rattle.sm_plan.specs.Masks.{set_of}
-use Rattle.sm_moves.specs.Rests.{codes_in}
-use Rattle.sm_template.specs.Sites.{IsSiteOf}
-use Rattle.sm_sketch.specs.SketchViews.{sketch_in, AreSketchesReady}
-use Rattle.sm_product.specs.LoopTurns.{turn_of}
-use Rattle.sm_product.specs.MiniProducts.{statements_left}
-use Rattle.sm_product.specs.Rooms.{IsRoom, IsTaken}
+use Rattle.sm_product.proofs.Imports.{◌≡◌, ◌==◌, ◌+◌, ◌*◌, ℕ, bit_and, map, filter, range_with_len, Parts, trees_in, sorts_in, ExtendsTable, set_of, codes_in, IsSiteOf, sketch_in, AreSketchesReady, turn_of, statements_left, IsRoom, IsTaken}
 use Rattle.sm_product.proofs.mini.Drawing.+mini.Given as goal
 
 abbrev pub decreases-draw : goal.decreases-draw

@@ -1,36 +1,9 @@
 -- Statements are drawn from the last one on, each copy's part at a time; what a part's error tells is told of the whole.
-use Rattle.std.proofs.Common.{rules, ◌≡◌, ◌==◌, ◌≤◌, ◌<◌, ◌+◌, ◌-◌, ◌*◌, ◌||◌, ℕ, bit_and, Bool, true, false, if◌then◌else◌, length, map, drop, sym, ap, ◌∙◌, subst, arith}
-use Rattle.std.specs.List.{filter, range_with_len}
-use Rattle.sm_syntax.specs.claim.ConflictFree.{Copy, copy_of}
-use Rattle.sm_syntax.specs.claim.Syntax.{Code, End, Skip, Assign, Write}
-use Rattle.sm_syntax.specs.text.Sorts.{Sorts}
-use Rattle.sm_syntax.specs.text.Parts.{Parts}
-use Rattle.sm_syntax.specs.trees.Copies.{copy_named, of_copy}
-use Rattle.sm_syntax.specs.trees.Views.{expression_of, condition_of, statement_of, code_of}
-use Rattle.sm_syntax.specs.declared.tree.Stmt.{Stmt}
+use Rattle.sm_product.proofs.Imports.{rules, ◌≡◌, ◌==◌, ◌≤◌, ◌<◌, ◌+◌, ◌-◌, ◌*◌, ◌||◌, ℕ, bit_and, Bool, true, false, if◌then◌else◌, length, map, drop, sym, ap, ◌∙◌, subst, arith, filter, range_with_len, Copy, copy_of, Code, End, Skip, Assign, Write, Sorts, Parts, copy_named, of_copy, expression_of, condition_of, statement_of, code_of, Stmt, block_is, trees_in, sorts_in, parts_of, Copies, copies, has, no_copies, set_of, rest_code, forms_in, widens_twice, masked, has_hole, statements_in, only_in, members, with_member, without, piece_of, statement_within, block_templates, loop_templates, TellsSketch, ProductError, sketch_in, sketch_stays, sketch_ready, sketches_stay, sketches_ready, IsContextReady, product, product_if, product_while, branched, forked, where_any}
 use Rattle.sm_syntax.proofs.Statements.{statement_of-Skip, statement_of-Assign, statement_of-Store, statement_of-If, statement_of-While, statement_of-Hole}
-use Rattle.sm_syntax.proofs.Blocks.{block_is}
-use Rattle.sm_term.specs.Tables.{trees_in, sorts_in}
-use Rattle.sm_text.specs.Tasks.{parts_of}
-use Rattle.sm_plan.specs.Copies.{Copies, copies, has, no_copies}
-use Rattle.sm_plan.specs.Masks.{set_of}
-use Rattle.sm_plan.specs.Views.{rest_code, forms_in}
-use Rattle.sm_plan.proofs.TablesWiden.{widens_twice}
-use Rattle.sm_plan.proofs.TurnsMade.{masked}
-use Rattle.sm_moves.specs.CodeShapes.{has_hole, statements_in}
-use Rattle.sm_moves.specs.CopySets.{only_in, members, with_member, without}
-use Rattle.sm_moves.specs.FilledCode.{piece_of}
-use Rattle.sm_moves.proofs.WalksLemmas.{statement_within}
-use Rattle.sm_template.specs.Templates.{block_templates, loop_templates}
-use Rattle.sm_sketch.specs.Errors.{TellsSketch}
-use Rattle.sm_sketch.specs.declared.error.ProductError.{ProductError}
 use Rattle.sm_sketch.specs.Sketches as plain
-use Rattle.sm_sketch.specs.SketchViews.{sketch_in}
-use Rattle.sm_sketch.proofs.SketchesWiden.{sketch_stays, sketch_ready, sketches_stay, sketches_ready}
 use Rattle.sm_product.specs.declared.ifs.FilledIf.{FilledIf}
 use Rattle.sm_product.specs.declared.product.ProductContext.{ProductContext}
-use Rattle.sm_product.specs.ProductContexts.{IsContextReady}
-use Rattle.sm_product.specs.Products.{product, product_if, product_while, branched, forked, where_any}
 use Rattle.sm_product.proofs.BlocksDrawn.{filled_at, end_drawn, forks_out, forks_in, only_these, all_these, turns_push}
 use Rattle.sm_product.proofs.DrawnLemmas.{err_is, tells_whole, drawn_by, drawn_same, drawn_fault, apart_drawn, looped_drawn, forking_drawn, step_drawn, if_drawn, while_drawn, if_inside, while_inside, hole_inside, cut_step, drawn_step}
 use Rattle.sm_product.proofs.DrawnLemmas.{told_step, mask_tells}

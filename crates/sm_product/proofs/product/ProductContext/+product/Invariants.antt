@@ -1,20 +1,7 @@
 -- A block is drawn from its end: what is drawn is the product of the statements from i on, and those before are left. A turn is drawn
 -- for each set of copies whose mask is less. Blocks have
 -- fewer statements than those that they stand in.
-use Rattle.std.proofs.Common.{◌≡◌, ◌==◌, ◌≤◌, ◌+◌, ◌-◌, ◌*◌, ℕ, bit_and, length, map, take, drop}
-use Rattle.std.specs.List.{filter, range_with_len}
-use Rattle.sm_syntax.specs.claim.Syntax.{End}
-use Rattle.sm_syntax.specs.trees.Views.{statement_of, code_of}
-use Rattle.sm_term.specs.Tables.{trees_in, sorts_in}
-use Rattle.sm_term.specs.TableLaws.{ExtendsTable}
-use Rattle.sm_text.specs.Tasks.{parts_of}
-use Rattle.sm_plan.specs.Masks.{set_of}
-use Rattle.sm_plan.specs.Views.{code_before}
-use Rattle.sm_moves.specs.CodeShapes.{statements_in}
-use Rattle.sm_moves.specs.FilledCode.{AreFilledAs}
-use Rattle.sm_sketch.specs.Sketches.{ends}
-use Rattle.sm_sketch.specs.SketchViews.{sketch_in, IsSketchReady, AreSketchesReady}
-use Rattle.sm_product.specs.Products.{product}
+use Rattle.sm_product.proofs.Imports.{◌≡◌, ◌==◌, ◌≤◌, ◌+◌, ◌-◌, ◌*◌, ℕ, bit_and, length, map, take, drop, filter, range_with_len, End, statement_of, code_of, trees_in, sorts_in, ExtendsTable, parts_of, set_of, code_before, statements_in, AreFilledAs, ends, sketch_in, IsSketchReady, AreSketchesReady, product}
 use Rattle.sm_product.proofs.product.ProductContext.+product.Given as goal
 
 abbrev pub decreases-product_block : goal.decreases-product_block

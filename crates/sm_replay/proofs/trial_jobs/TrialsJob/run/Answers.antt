@@ -1,13 +1,7 @@
 -- The answer is that of the trial.
-use Rattle.std.proofs.Common.{◌≡◌, ◌≢◌, Option, Err}
-use Rattle.std.proofs.lemmas.Result.{IfOk-weaker}
-use Rattle.sm_syntax.specs.text.Parts.{sort_of, task_of}
-use Rattle.sm_task.specs.Filling.{AreFilled}
-use Rattle.sm_task.specs.Tasks.{parts_of}
-use Rattle.sm_eval.specs.StoredValues.{meaning}
+use Rattle.sm_replay.proofs.Imports.{◌≡◌, ◌≢◌, Option, Err, IfOk-weaker, sort_of, task_of, AreFilled, parts_of, meaning, trial, shown_of}
 use Rattle.sm_replay.specs.declared.error.ReplayError.TheVariants.{Memory}
-use Rattle.sm_replay.specs.Trials.{trial, Verdict}
-use Rattle.sm_replay.specs.TrialJobs.{shown_of}
+use Rattle.sm_replay.specs.Trials.{Verdict}
 use Rattle.sm_replay.proofs.VerdictSound.{shows_trial}
 use Rattle.sm_replay.proofs.trial_jobs.TrialsJob.run.Goals as goal
 

@@ -1,9 +1,6 @@
 -- The facts are those without the contrary and its parts, and the terms those of the facts.
-use Rattle.std.proofs.Common.{ℕ, List, [], refl, take, slice_set, arith, ap, ◌∙◌, sym}
-use Rattle.sm_term.specs.declared.formula.Formula.{Formula}
+use Rattle.sm_solve.proofs.Imports.{ℕ, List, [], refl, take, slice_set, arith, ap, ◌∙◌, sym, Formula, with_formulas, room_for_goal}
 use Rattle.sm_term.specs.declared.formula.Formula.TheVariants as tree
-use Rattle.sm_theory.specs.TermsOfFormulas.{with_formulas}
-use Rattle.sm_solve.specs.Sharing.{room_for_goal}
 use Rattle.sm_solve.proofs.AtGoalLemmas.{closed, first_fits, first_closed, place_left}
 use Rattle.sm_solve.proofs.fact_base.FactBase.close_goal.Goals as goal
 

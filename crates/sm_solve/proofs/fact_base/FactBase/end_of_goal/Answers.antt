@@ -1,11 +1,5 @@
 -- By what is told of the facts alone, or else by the walk.
-use Rattle.std.proofs.Common.{◌≡◌, ℕ, [], ◌∷◌, ◌++◌, Option, IfSome, subst}
-use Rattle.sm_term.specs.Tables.{trees_in, sorts_in}
-use Rattle.sm_cert.specs.declared.tree.CertTree.{CertTree}
-use Rattle.sm_list.specs.Branches.{with_parts, terms_of}
-use Rattle.sm_judge.specs.Forms.{Closes}
-use Rattle.sm_solve.specs.Walk.{walk_from}
-use Rattle.sm_solve.specs.Walking.{ClosesIn}
+use Rattle.sm_solve.proofs.Imports.{◌≡◌, ℕ, [], ◌∷◌, ◌++◌, Option, IfSome, subst, trees_in, sorts_in, CertTree, with_parts, terms_of, Closes, walk_from, ClosesIn}
 use Rattle.sm_solve.proofs.fact_base.FactBase.end_of_goal.Goals as goal
 
 pub returns-in-Some-clause-tells : goal.returns-in-Some-clause-tells

@@ -1,21 +1,8 @@
 -- No more terms stand in the table of their own than the facts name.
-use Rattle.std.proofs.Common.{◌≡◌, IfSome, Option, ℕ, List, [], length, refl, sym, ap, ◌∙◌, subst}
-use Rattle.std.specs.List.{range_with_len}
+use Rattle.sm_solve.proofs.Imports.{◌≡◌, IfSome, Option, ℕ, List, [], length, refl, sym, ap, ◌∙◌, subst, range_with_len, Linear, Sorts, Formula, AreFormsSorted, trees_in, sorts_in, TermId, AreAllForms, IsFrom, with_formulas, IsWhole, classes_by, numbers_of, all_numbered, assertions_in, AreFormulasWithin}
 use Rattle.std.specs.Prelude.{Vec}
 use Rattle.std.specs.declared.alloc.Global.{Global}
-use Rattle.sm_num.specs.Forms.{Linear}
-use Rattle.sm_syntax.specs.text.Sorts.{Sorts}
-use Rattle.sm_term.specs.declared.formula.Formula.{Formula}
-use Rattle.sm_term.specs.Sorted.{AreFormsSorted}
-use Rattle.sm_term.specs.Tables.{trees_in, sorts_in}
-use Rattle.sm_term.specs.declared.term.TermId.{TermId}
-use Rattle.sm_judge.specs.AllForms.{AreAllForms}
 use Rattle.sm_certify.specs.declared.base.Base.{Base}
-use Rattle.sm_certify.specs.Bases.{IsFrom}
-use Rattle.sm_theory.specs.TermsOfFormulas.{with_formulas}
-use Rattle.sm_certify.specs.Given.{IsWhole, classes_by}
-use Rattle.sm_terms.specs.Listing.{numbers_of}
-use Rattle.sm_list.specs.Parts.{all_numbered, assertions_in, AreFormulasWithin}
 use Rattle.sm_solve.proofs.GroundingLemmas.{room_sorted, as_many, node_of}
 use Rattle.sm_solve.proofs.fact_base.FactBase.grounded.Goals as goal
 

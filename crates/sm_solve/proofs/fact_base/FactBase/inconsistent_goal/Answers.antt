@@ -1,24 +1,7 @@
 -- By what is found of the facts alone.
-use Rattle.std.proofs.Common.{◌≡◌, ℕ, List, [], ◌∷◌, ◌++◌, length, take, slice_set, arith, Option, IfOk, IfSome, refl, sym, ap, subst, ◌∙◌}
-use Rattle.std.proofs.lemmas.List.{length-set}
-use Rattle.sm_syntax.specs.text.Sorts.{Sorts}
-use Rattle.sm_term.specs.declared.formula.Formula.{Formula}
+use Rattle.sm_solve.proofs.Imports.{◌≡◌, ℕ, List, [], ◌∷◌, ◌++◌, length, take, slice_set, arith, Option, IfOk, IfSome, refl, sym, ap, subst, ◌∙◌, length-set, Sorts, Formula, Assertion, AreFormsSorted, trees_in, sorts_in, Tree, IsLedBy, Inconsistent, with_formulas, with_parts, terms_of, given_from, classes_by, all_numbered, assertions_in, AreFormulasWithin, room_for_goal, IsInconsistent, IsBelow, Walked, Closes, walk_from, ClosesIn}
 use Rattle.sm_term.specs.declared.formula.Formula.TheVariants as tree
-use Rattle.sm_term.specs.Assertions.{Assertion, Yes}
-use Rattle.sm_term.specs.Sorted.{AreFormsSorted}
-use Rattle.sm_term.specs.Tables.{trees_in, sorts_in}
-use Rattle.sm_term.specs.Terms.{Tree}
-use Rattle.sm_cc.specs.BaseClasses.{IsLedBy}
-use Rattle.sm_solve.specs.declared.inconsistent.Inconsistent.{Inconsistent}
-use Rattle.sm_theory.specs.TermsOfFormulas.{with_formulas}
-use Rattle.sm_list.specs.Branches.{with_parts, terms_of}
-use Rattle.sm_certify.specs.Given.{given_from, classes_by}
-use Rattle.sm_list.specs.Parts.{all_numbered, assertions_in, AreFormulasWithin}
-use Rattle.sm_solve.specs.Sharing.{room_for_goal}
-use Rattle.sm_solve.specs.Inconsistent.{IsInconsistent, IsBelow}
-use Rattle.sm_judge.specs.Forms.{Walked, Closes}
-use Rattle.sm_solve.specs.Walk.{walk_from}
-use Rattle.sm_solve.specs.Walking.{ClosesIn}
+use Rattle.sm_term.specs.Assertions.{Yes}
 use Rattle.sm_solve.proofs.AtGoalLemmas.{led_with, goal_sorted, renumbered_goal, room_kept}
 use Rattle.sm_solve.proofs.InconsistentLemmas.{goal_below, on_ok_from, front_fits}
 use Rattle.sm_solve.proofs.fact_base.FactBase.inconsistent_goal.Goals as goal

@@ -1,11 +1,5 @@
 -- The contrary stands where what always holds stood, and its parts behind the facts where none of a fact stand there.
-use Rattle.std.proofs.Common.{[], List, ◌∙◌, subst, refl, arith}
-use Rattle.sm_term.specs.Formulas.{numbered, assertion_in}
-use Rattle.sm_term.specs.Tables.{trees_in, sorts_in}
-use Rattle.sm_term.specs.Terms.{Tree}
-use Rattle.sm_judge.specs.AllForms.{AreAllForms}
-use Rattle.sm_theory.specs.TermsOfFormulas.{with_formulas}
-use Rattle.sm_solve.specs.Sharing.{room_for_goal}
+use Rattle.sm_solve.proofs.Imports.{[], List, ◌∙◌, subst, refl, arith, numbered, assertion_in, trees_in, sorts_in, Tree, AreAllForms, with_formulas, room_for_goal}
 use Rattle.sm_solve.proofs.AtGoalLemmas.{opened, opened_last, room_below, flat_there}
 use Rattle.sm_solve.proofs.NodeLemmas.{added_behind}
 use Rattle.sm_solve.proofs.fact_base.FactBase.open_goal.Goals as goal

@@ -1,21 +1,8 @@
 -- The walk with the contrary of the target is that of the obligation.
-use Rattle.std.proofs.Common.{◌≡◌, List, [], ◌∷◌, ◌++◌, length, sym, ap, subst, ◌∙◌, arith}
-use Rattle.sm_syntax.specs.text.Sorts.{Sorts}
-use Rattle.sm_term.specs.Assertions.{Assertion, negate}
-use Rattle.sm_term.specs.Formulas.{numbered, assertion_in, IsFormulaWithin}
-use Rattle.sm_term.specs.Sorted.{IsFormSorted}
-use Rattle.sm_term.specs.Tables.{trees_in, sorts_in}
-use Rattle.sm_term.specs.Terms.{Tree}
-use Rattle.sm_term.proofs.FormulasLemmas.{contrary_negates}
-use Rattle.sm_solve.specs.Answers.{Tells, NamesOnly}
-use Rattle.sm_list.specs.Branches.{with_parts, terms_of}
-use Rattle.sm_solve.specs.Walk.{walk_from}
-use Rattle.sm_solve.specs.Walking.{Shows}
+use Rattle.sm_solve.proofs.Imports.{◌≡◌, List, [], ◌∷◌, ◌++◌, length, sym, ap, subst, ◌∙◌, arith, Sorts, Assertion, negate, numbered, assertion_in, IsFormulaWithin, IsFormSorted, trees_in, sorts_in, Tree, contrary_negates, Tells, NamesOnly, with_parts, terms_of, walk_from, Shows, contrary_within, negate_sorted}
 use Rattle.sm_solve.proofs.AtGoalLemmas.{terms_of_goal, room_counted}
 use Rattle.sm_solve.proofs.SolvingLemmas.{shows_certify}
 use Rattle.sm_solve.proofs.fact_base.FactBase.solve.Goals as goal
-use Rattle.sm_term.proofs.FormsLemmas.{contrary_within}
-use Rattle.sm_term.proofs.SortedForms.{negate_sorted}
 
 pub open_goal-requires-clause-within : goal.open_goal-requires-clause-within
 open_goal-requires-clause-within c =

@@ -1,15 +1,5 @@
 -- The facts with the contrary are a branch with all parts, over a table of its terms.
-use Rattle.std.proofs.Common.{◌≡◌, List, [], ◌∷◌, ◌++◌, IfOk, refl, ap, subst, ◌∙◌}
-use Rattle.std.proofs.lemmas.Result.{on_ok_weaker}
-use Rattle.sm_syntax.specs.text.Sorts.{Sorts}
-use Rattle.sm_term.specs.Assertions.{Assertion}
-use Rattle.sm_term.specs.Tables.{trees_in, sorts_in}
-use Rattle.sm_term.specs.Terms.{Tree}
-use Rattle.sm_list.specs.Branches.{with_parts, terms_of}
-use Rattle.sm_list.specs.Parts.{all_numbered, assertions_in}
-use Rattle.sm_judge.specs.Forms.{Walked}
-use Rattle.sm_solve.specs.Walk.{walk_from}
-use Rattle.sm_solve.specs.Walking.{TellsEnd, ShowsEnd}
+use Rattle.sm_solve.proofs.Imports.{◌≡◌, List, [], ◌∷◌, ◌++◌, IfOk, refl, ap, subst, ◌∙◌, on_ok_weaker, Sorts, Assertion, trees_in, sorts_in, Tree, with_parts, terms_of, all_numbered, assertions_in, Walked, walk_from, TellsEnd, ShowsEnd}
 use Rattle.sm_solve.proofs.AtGoalLemmas.{led, goal_sorted, goal_named, renumbered_goal}
 use Rattle.sm_solve.proofs.fact_base.FactBase.walk_goal.Goals as goal
 

@@ -1,9 +1,6 @@
 -- A text that is there has its number, and another goes last.
-use Rattle.std.proofs.Common.{◌≡◌, ◌++◌, ◌∷◌, [], false, sym, ap, ◌∙◌, subst, slice_get, length, map, string_bytes}
-use Rattle.std.proofs.lemmas.List.{map-append, length-map}
-use Rattle.std.specs.List.{position_or_len}
-use Rattle.std.specs.Str.{bytes_eq}
-use Rattle.sm_syntax.specs.text.Symbols.{is_among, with_text}
+use Rattle.sm_syntax.proofs.Imports.{◌≡◌, ◌++◌, ◌∷◌, [], false, sym, ap, ◌∙◌, subst, slice_get, length, map, map-append, length-map, position_or_len, bytes_eq, is_among, with_text}
+use Rattle.std.proofs.Common.{string_bytes}
 use Rattle.sm_syntax.proofs.Numbering.{with_text-among, with_text-new, is_among-map, number-with_text, number-new, is_among-with_text, slice_get-number, bytes_eq-refl}
 use Rattle.sm_syntax.proofs.names.NameTable.add.Goals as goal
 

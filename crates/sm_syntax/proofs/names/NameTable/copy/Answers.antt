@@ -1,7 +1,6 @@
-use Rattle.std.proofs.Common.{sym, ap, subst, ◌∙◌, List, map, take, String, Global, string_bytes}
-use Rattle.std.specs.List.{IsDistinct}
+use Rattle.sm_syntax.proofs.Imports.{sym, ap, subst, ◌∙◌, List, map, take, String, Global, IsDistinct, with_text}
+use Rattle.std.proofs.Common.{string_bytes}
 use Rattle.std.specs.String.{string_eq}
-use Rattle.sm_syntax.specs.text.Symbols.{with_text}
 use Rattle.sm_syntax.proofs.Numbering.{with_text-next}
 use Rattle.sm_syntax.proofs.names.NameTable.copy.Goals as goal
 

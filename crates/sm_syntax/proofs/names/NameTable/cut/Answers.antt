@@ -1,5 +1,4 @@
-use Rattle.std.proofs.Common.{sym, ap, ◌∙◌, take, map}
-use Rattle.std.proofs.lemmas.List.{take-map}
+use Rattle.sm_syntax.proofs.Imports.{sym, ap, ◌∙◌, take, map, take-map}
 use Rattle.std.specs.String.{string_bytes}
 use Rattle.sm_syntax.proofs.names.NameTable.cut.Goals as goal
 

@@ -1,6 +1,5 @@
-use Rattle.std.proofs.Common.{◌∙◌, ap}
+use Rattle.sm_term.proofs.Imports.{◌∙◌, ap, fold}
 use Rattle.std.specs.Hash as fed
-use Rattle.std.specs.List.{fold}
 use Rattle.sm_term.specs.Bodies.{hashed_body}
 use Rattle.sm_term.proofs.bodies.BodyHash.hash.Goals as goal
 

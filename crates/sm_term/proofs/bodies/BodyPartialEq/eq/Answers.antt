@@ -1,5 +1,4 @@
-use Rattle.std.proofs.lemmas.Bool.Decides.{same_from_decides}
-use Rattle.sm_term.specs.Bodies.{same_body-Decides}
+use Rattle.sm_term.proofs.Imports.{same_from_decides, same_body-Decides}
 use Rattle.sm_term.proofs.bodies.BodyPartialEq.eq.Goals as goal
 
 pub returns : goal.returns

@@ -1,14 +1,5 @@
-use Rattle.std.proofs.Common.{[], ◌++◌, length, map, sym, ap, subst, ◌∙◌, IsTrue, Some, slice_get}
-use Rattle.sm_syntax.specs.text.Parts.{sort_of}
-use Rattle.sm_syntax.specs.trees.Programs.{declared_of}
-use Rattle.sm_syntax.specs.trees.Views.{code_of}
-use Rattle.sm_term.specs.Bodies.{block_of}
-use Rattle.sm_term.specs.Tables.{trees_behind, trees_in, sorts_in, codes_in, tree_in, IsTermWithin, TableValue}
-use Rattle.sm_term.specs.Fitting.{term_fits}
-use Rattle.sm_term.specs.TableLaws.{IsTable, with_tree}
+use Rattle.sm_term.proofs.Imports.{[], ◌++◌, length, map, sym, ap, subst, ◌∙◌, IsTrue, Some, slice_get, sort_of, declared_of, code_of, block_of, trees_behind, trees_in, sorts_in, codes_in, tree_in, IsTermWithin, TableValue, term_fits, IsTable, with_tree, append-nil, same_term}
 use Rattle.sm_term.proofs.TablesLemmas.{table-insert, trees-insert, stored-insert, grown-with_tree}
-use Rattle.std.proofs.lemmas.List.{append-nil}
-use Rattle.sm_term.specs.Rows.{same_term}
 use Rattle.sm_term.proofs.AdoptionLemmas.{grown_key}
 use Rattle.sm_term.proofs.table.TermTable.add.Goals as goal
 

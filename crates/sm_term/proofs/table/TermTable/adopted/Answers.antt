@@ -1,14 +1,7 @@
 -- The next row is put in over those before it.
-use Rattle.std.proofs.Common.{◌≡◌, true, ◌+◌, ◌<◌, ◌++◌, ◌∷◌, [], Some, length, map, take, drop, slice_get, pos, sym, ap, subst, ◌∙◌, arith}
-use Rattle.std.proofs.lemmas.List.{take_all, drop_all, append-nil}
-use Rattle.sm_syntax.specs.text.Parts.{sort_of}
+use Rattle.sm_term.proofs.Imports.{◌≡◌, true, ◌+◌, ◌<◌, ◌++◌, ◌∷◌, [], Some, length, map, take, drop, slice_get, pos, sym, ap, subst, ◌∙◌, arith, take_all, drop_all, append-nil, sort_of, parts_in_list, term_fits, trees_in, sorts_in, codes_in, tree_in, trees_behind, IsTermWithin, with_trees, row_codes, trees_numbered, moved_part, moved_body, bodies_in_list, moved_contents, codes_numbered}
 use Rattle.sm_term.specs.Terms as tree
-use Rattle.sm_term.specs.Rows.{parts_in_list}
-use Rattle.sm_term.specs.Fitting.{term_fits}
-use Rattle.sm_term.specs.Tables.{trees_in, sorts_in, codes_in, tree_in, trees_behind, IsTermWithin, TermId}
-use Rattle.sm_term.specs.TableLaws.{with_trees}
-use Rattle.sm_term.specs.Tails.{row_codes, trees_numbered}
-use Rattle.sm_term.specs.Moves.{moved_part, moved_body, bodies_in_list, moved_contents, codes_numbered}
+use Rattle.sm_term.specs.Tables.{TermId}
 use Rattle.sm_term.proofs.TreesLemmas.{length-trees}
 use Rattle.sm_term.proofs.CopiesLemmas.{item_row}
 use Rattle.sm_term.proofs.AdoptionLemmas.{keeps-twice, widens, more_twice, numbered_push, trees_step, moved_row}

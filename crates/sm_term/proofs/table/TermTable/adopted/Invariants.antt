@@ -1,10 +1,5 @@
 -- The first rows have been put in, and the others are still to be.
-use Rattle.std.proofs.Common.{◌≡◌, Some, List, ◌++◌, map, take, drop}
-use Rattle.sm_term.specs.Terms.{Tree}
-use Rattle.sm_term.specs.Tables.{trees_in, codes_in}
-use Rattle.sm_term.specs.TableLaws.{with_trees, with_codes}
-use Rattle.sm_term.specs.Tails.{row_codes, row_trees, trees_numbered}
-use Rattle.sm_term.specs.Moves.{codes_numbered, KeepsRows}
+use Rattle.sm_term.proofs.Imports.{◌≡◌, Some, List, ◌++◌, map, take, drop, Tree, trees_in, codes_in, with_trees, with_codes, row_codes, row_trees, trees_numbered, codes_numbered, KeepsRows}
 use Rattle.sm_term.proofs.table.TermTable.adopted.Given as goal
 
 abbrev pub invariant-loop-term : goal.invariant-loop-term

@@ -1,7 +1,4 @@
-use Rattle.std.proofs.Common.{◌&&◌, ◌+◌, drop, get_or, sym, ap, ◌∙◌, arith}
-use Rattle.std.proofs.lemmas.Option.{slice_get-get_or}
-use Rattle.sm_term.specs.Fitting.{has_sort, arguments_fit}
-use Rattle.sm_term.specs.Tables.{trees_in, sorts_in}
+use Rattle.sm_term.proofs.Imports.{◌&&◌, ◌+◌, drop, get_or, sym, ap, ◌∙◌, arith, slice_get-get_or, has_sort, arguments_fit, trees_in, sorts_in}
 use Rattle.sm_term.proofs.TermsLemmas.{other_length, part_before, fit_step, fit_end}
 use Rattle.sm_term.proofs.table.TermTable.arguments_fit.Goals as goal
 

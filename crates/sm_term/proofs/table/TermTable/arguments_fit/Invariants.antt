@@ -1,7 +1,5 @@
 -- what is left to look at decides.
-use Rattle.std.proofs.Common.{◌≡◌, drop, length}
-use Rattle.sm_term.specs.Fitting.{arguments_fit}
-use Rattle.sm_term.specs.Tables.{trees_in, sorts_in}
+use Rattle.sm_term.proofs.Imports.{◌≡◌, drop, length, arguments_fit, trees_in, sorts_in}
 use Rattle.sm_term.proofs.table.TermTable.arguments_fit.Given as goal
 
 abbrev pub invariant-loop-i : goal.invariant-loop-i

@@ -1,13 +1,5 @@
-use Rattle.std.proofs.Common.{[], ◌++◌, map, sym, ap, subst, ◌∙◌, Some, slice_get}
-use Rattle.sm_syntax.specs.text.Sorts.{IsWellSorted}
-use Rattle.sm_syntax.specs.text.Parts.{sort_of}
-use Rattle.sm_syntax.specs.trees.Programs.{declared_of}
-use Rattle.sm_syntax.specs.trees.Views.{code_of}
-use Rattle.sm_term.specs.Bodies.{block_of}
-use Rattle.sm_term.specs.Tables.{trees_behind, trees_in, sorts_in, codes_in, TableValue}
-use Rattle.sm_term.specs.TableLaws.{IsTable, with_code}
+use Rattle.sm_term.proofs.Imports.{[], ◌++◌, map, sym, ap, subst, ◌∙◌, Some, slice_get, IsWellSorted, sort_of, declared_of, code_of, block_of, trees_behind, trees_in, sorts_in, codes_in, TableValue, IsTable, with_code, append-nil}
 use Rattle.sm_term.proofs.TablesLemmas.{bodies-insert, codes-insert, body-stored, bodies-trees}
-use Rattle.std.proofs.lemmas.List.{append-nil}
 use Rattle.sm_term.proofs.AdoptionLemmas.{grown_bodies}
 use Rattle.sm_term.proofs.table.TermTable.body.Goals as goal
 

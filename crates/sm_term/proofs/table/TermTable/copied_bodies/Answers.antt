@@ -1,12 +1,5 @@
 -- The next body is put in behind the copies of those before it.
-use Rattle.std.proofs.Common.{◌+◌, ◌<◌, map, length, take, sym, ap, subst, ◌∙◌, arith}
-use Rattle.sm_syntax.specs.text.Sorts.{IsWellSorted}
-use Rattle.sm_syntax.specs.text.Parts.{sort_of}
-use Rattle.sm_syntax.specs.trees.Programs.{declared_of}
-use Rattle.sm_syntax.specs.trees.Views.{code_of}
-use Rattle.sm_term.specs.Bodies.{block_of}
-use Rattle.sm_term.specs.Tables.{sorts_in, codes_in}
-use Rattle.sm_term.specs.TableLaws.{with_code}
+use Rattle.sm_term.proofs.Imports.{◌+◌, ◌<◌, map, length, take, sym, ap, subst, ◌∙◌, arith, IsWellSorted, sort_of, declared_of, code_of, block_of, sorts_in, codes_in, with_code}
 use Rattle.sm_term.proofs.CopiesLemmas.{item_code, length-codes, code_next}
 use Rattle.sm_term.proofs.table.TermTable.copied_bodies.Goals as goal
 

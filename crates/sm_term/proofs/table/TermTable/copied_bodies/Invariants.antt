@@ -1,6 +1,5 @@
 -- The first bodies have been copied.
-use Rattle.std.proofs.Common.{◌≡◌, [], take}
-use Rattle.sm_term.specs.Tables.{trees_in, sorts_in, codes_in}
+use Rattle.sm_term.proofs.Imports.{◌≡◌, [], take, trees_in, sorts_in, codes_in}
 use Rattle.sm_term.proofs.table.TermTable.copied_bodies.Given as goal
 
 abbrev pub invariant-loop-body : goal.invariant-loop-body

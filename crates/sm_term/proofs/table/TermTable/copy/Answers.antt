@@ -1,14 +1,5 @@
 -- The next term is put in over the copies of those before it.
-use Rattle.std.proofs.Common.{◌≡◌, true, ◌+◌, [], map, length, take, sym, ap, ◌∙◌, arith}
-use Rattle.std.proofs.lemmas.List.{take_all}
-use Rattle.sm_syntax.specs.text.Parts.{sort_of}
-use Rattle.sm_syntax.specs.trees.Programs.{declared_of}
-use Rattle.sm_syntax.specs.trees.Views.{code_of}
-use Rattle.sm_term.specs.Bodies.{block_of}
-use Rattle.sm_term.specs.RowLaws.{contents_of}
-use Rattle.sm_term.specs.Fitting.{term_fits}
-use Rattle.sm_term.specs.Tables.{trees_behind, trees_in, sorts_in, codes_in, tree_in, IsTermWithin}
-use Rattle.sm_term.specs.TableLaws.{with_tree}
+use Rattle.sm_term.proofs.Imports.{◌≡◌, true, ◌+◌, [], map, length, take, sym, ap, ◌∙◌, arith, take_all, sort_of, declared_of, code_of, block_of, contents_of, term_fits, trees_behind, trees_in, sorts_in, codes_in, tree_in, IsTermWithin, with_tree}
 use Rattle.sm_term.proofs.TreesLemmas.{length-trees}
 use Rattle.sm_term.proofs.CopiesLemmas.{item_row, row_next, over_same}
 use Rattle.sm_term.proofs.table.TermTable.copy.Goals as goal

@@ -1,6 +1,5 @@
 -- The first terms have been copied.
-use Rattle.std.proofs.Common.{◌≡◌, take}
-use Rattle.sm_term.specs.Tables.{trees_in, sorts_in, codes_in}
+use Rattle.sm_term.proofs.Imports.{◌≡◌, take, trees_in, sorts_in, codes_in}
 use Rattle.sm_term.proofs.table.TermTable.copy.Given as goal
 
 abbrev pub invariant-loop-term : goal.invariant-loop-term

@@ -1,10 +1,4 @@
-use Rattle.std.proofs.Common.{[], map, take, sym, ap, subst, ◌∙◌}
-use Rattle.sm_syntax.specs.text.Parts.{sort_of}
-use Rattle.sm_syntax.specs.trees.Programs.{declared_of}
-use Rattle.sm_syntax.specs.trees.Views.{code_of}
-use Rattle.sm_term.specs.Bodies.{block_of}
-use Rattle.sm_term.specs.Tables.{trees_behind, trees_in}
-use Rattle.sm_term.specs.TableLaws.{IsTable}
+use Rattle.sm_term.proofs.Imports.{[], map, take, sym, ap, subst, ◌∙◌, sort_of, declared_of, code_of, block_of, trees_behind, trees_in, IsTable}
 use Rattle.sm_term.proofs.TreesLemmas.{take-trees}
 use Rattle.sm_term.proofs.TablesLemmas.{table-take}
 use Rattle.sm_term.proofs.table.TermTable.cut.Goals as goal

@@ -1,15 +1,5 @@
-use Rattle.std.proofs.Common.{◌≡◌, ◌<◌, ℕ, IsTrue, List, [], length, map, Some, slice_get, sym, ap, subst}
-use Rattle.std.proofs.lemmas.Option.{get_or_from_slice_get}
-use Rattle.sm_syntax.specs.text.Parts.{sort_of}
-use Rattle.sm_syntax.specs.text.Sorts.{Sorts}
-use Rattle.sm_syntax.specs.trees.Programs.{declared_of}
-use Rattle.sm_syntax.specs.trees.Views.{code_of}
-use Rattle.sm_syntax.specs.claim.Syntax.{Code}
+use Rattle.sm_term.proofs.Imports.{◌≡◌, ◌<◌, ℕ, IsTrue, List, [], length, map, Some, slice_get, sym, ap, subst, get_or_from_slice_get, sort_of, Sorts, declared_of, code_of, Code, block_of, TableValue, trees_behind, trees_in, sorts_in, codes_in, tree_in, tree_at, IsTermWithin, Term, term_fits, AreTermsSound}
 use Rattle.sm_term.specs.declared.term.Term.TheVariants.{Cell}
-use Rattle.sm_term.specs.Bodies.{block_of}
-use Rattle.sm_term.specs.Tables.{TableValue, trees_behind, trees_in, sorts_in, codes_in, tree_in, tree_at, IsTermWithin, Term}
-use Rattle.sm_term.specs.Fitting.{term_fits}
-use Rattle.sm_term.specs.TableLaws.{AreTermsSound}
 use Rattle.sm_term.proofs.TreesLemmas.{length-trees}
 use Rattle.sm_term.proofs.TablesLemmas.{StandsAt, row_at}
 use Rattle.sm_term.proofs.table.TermTable.get.Goals as goal

@@ -1,7 +1,4 @@
-use Rattle.std.proofs.Common.{[], length, map, sym, ap, subst, ◌∙◌}
-use Rattle.sm_term.specs.Bodies.{block_of}
-use Rattle.sm_term.specs.Tables.{trees_in, sorts_in, codes_in}
-use Rattle.sm_term.specs.TableLaws.{AreApart, AreTreesSorted, AreCodesApart, AreCodesSorted}
+use Rattle.sm_term.proofs.Imports.{[], length, map, sym, ap, subst, ◌∙◌, block_of, trees_in, sorts_in, codes_in, AreApart, AreTreesSorted, AreCodesApart, AreCodesSorted}
 use Rattle.sm_term.proofs.TreesLemmas.{length-trees}
 use Rattle.sm_term.proofs.table.TermTable.len.Goals as goal
 

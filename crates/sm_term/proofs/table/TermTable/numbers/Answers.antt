@@ -1,14 +1,5 @@
 -- The next body is put in behind those before it.
-use Rattle.std.proofs.Common.{◌+◌, ◌++◌, ◌∷◌, [], Some, length, map, drop, slice_get, sym, ap, subst, ◌∙◌, arith, ◌<◌}
-use Rattle.std.proofs.lemmas.List.{length-map, take_all, drop_all}
-use Rattle.sm_syntax.specs.claim.Syntax.{End}
-use Rattle.sm_syntax.specs.text.Parts.{sort_of}
-use Rattle.sm_syntax.specs.text.Sorts.{IsWellSorted}
-use Rattle.sm_syntax.specs.trees.Views.{code_of}
-use Rattle.sm_term.specs.declared.term.BodyId.{BodyId}
-use Rattle.sm_term.specs.Tables.{sorts_in, codes_in}
-use Rattle.sm_term.specs.TableLaws.{with_codes}
-use Rattle.sm_term.specs.Moves.{codes_numbered}
+use Rattle.sm_term.proofs.Imports.{◌+◌, ◌++◌, ◌∷◌, [], Some, length, map, drop, slice_get, sym, ap, subst, ◌∙◌, arith, ◌<◌, length-map, take_all, drop_all, End, sort_of, IsWellSorted, code_of, BodyId, sorts_in, codes_in, with_codes, codes_numbered}
 use Rattle.sm_term.proofs.AdoptionLemmas.{next_item, codes-kept, keeps-twice, numbered_push, codes_step}
 use Rattle.sm_term.proofs.table.TermTable.numbers.Goals as goal
 

@@ -1,9 +1,5 @@
 -- The first bodies have numbers, and the others are still to be put in.
-use Rattle.std.proofs.Common.{◌≡◌, Some, map, take, drop}
-use Rattle.sm_syntax.specs.trees.Views.{code_of}
-use Rattle.sm_term.specs.Tables.{trees_in, codes_in}
-use Rattle.sm_term.specs.TableLaws.{with_codes}
-use Rattle.sm_term.specs.Moves.{codes_numbered, KeepsRows}
+use Rattle.sm_term.proofs.Imports.{◌≡◌, Some, map, take, drop, code_of, trees_in, codes_in, with_codes, codes_numbered, KeepsRows}
 use Rattle.sm_term.proofs.table.TermTable.numbers.Given as goal
 
 abbrev pub invariant-loop-block : goal.invariant-loop-block

@@ -1,12 +1,5 @@
 -- The first bodies and terms are a table where they were one.
-use Rattle.std.proofs.Common.{map, take, sym, ap, subst, ◌∙◌}
-use Rattle.std.specs.List.{take-map}
-use Rattle.sm_syntax.specs.text.Parts.{sort_of}
-use Rattle.sm_syntax.specs.trees.Programs.{declared_of}
-use Rattle.sm_syntax.specs.trees.Views.{code_of}
-use Rattle.sm_term.specs.Bodies.{block_of}
-use Rattle.sm_term.specs.Tables.{TableValue, sorts_in, codes_in}
-use Rattle.sm_term.specs.TableLaws.{IsTable}
+use Rattle.sm_term.proofs.Imports.{map, take, sym, ap, subst, ◌∙◌, take-map, sort_of, declared_of, code_of, block_of, TableValue, sorts_in, codes_in, IsTable}
 use Rattle.sm_term.proofs.table.TermTable.restore.Goals as goal
 
 pub invariant_of-self : goal.invariant_of-self

@@ -1,7 +1,4 @@
-use Rattle.std.proofs.Common.{sym, ap, ◌∙◌, unwrap_or, option_copied}
-use Rattle.sm_syntax.specs.declared.tree.Sort.TheVariants.{Num}
-use Rattle.sm_term.specs.Sorted.{sort_named}
-use Rattle.sm_term.specs.Tables.{sorts_in}
+use Rattle.sm_term.proofs.Imports.{sym, ap, ◌∙◌, unwrap_or, option_copied, Num, sort_named, sorts_in}
 use Rattle.sm_term.proofs.table.TermTable.sort_named.Goals as goal
 
 -- what the map has is what is declared

@@ -1,12 +1,5 @@
 -- The last terms of the table, with all of its bodies.
-use Rattle.std.proofs.Common.{◌≡◌, [], map, drop, take, length, sym, ap, subst, ◌∙◌, arith}
-use Rattle.sm_syntax.specs.text.Parts.{sort_of}
-use Rattle.sm_syntax.specs.trees.Programs.{declared_of}
-use Rattle.sm_syntax.specs.trees.Views.{code_of}
-use Rattle.sm_term.specs.Bodies.{block_of, body_code}
-use Rattle.sm_term.specs.RowLaws.{contents_of}
-use Rattle.sm_term.specs.Tables.{trees_behind, trees_in, sorts_in, codes_in}
-use Rattle.sm_term.specs.TableLaws.{AreTermsSound, AreCodesSorted}
+use Rattle.sm_term.proofs.Imports.{◌≡◌, [], map, drop, take, length, sym, ap, subst, ◌∙◌, arith, sort_of, declared_of, code_of, block_of, body_code, contents_of, trees_behind, trees_in, sorts_in, codes_in, AreTermsSound, AreCodesSorted}
 use Rattle.sm_term.proofs.TreesLemmas.{length-trees}
 use Rattle.sm_term.proofs.TailsLemmas.{two_maps, tail_trees, tail_sound}
 use Rattle.sm_term.proofs.table.TermTable.tail.Goals as goal

@@ -1,8 +1,6 @@
-use Rattle.std.proofs.Common.{◌≡◌, List, [], ◌∷◌, map, refl}
-use Rattle.std.proofs.lemmas.List.{length-map}
+use Rattle.sm_term.proofs.Imports.{◌≡◌, List, [], ◌∷◌, map, refl, length-map, flat_map}
 use Rattle.std.specs.Hash as fed
 use Rattle.std.specs.Hash.{HashWrites}
-use Rattle.std.specs.List.{flat_map}
 use Rattle.sm_term.specs.declared.term.TermId.{TermId}
 use Rattle.sm_term.specs.Rows.{hashed}
 use Rattle.sm_term.proofs.term.TermHash.hash.Goals as goal

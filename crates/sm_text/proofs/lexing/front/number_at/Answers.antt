@@ -1,6 +1,4 @@
-use Rattle.std.proofs.Common.{ℕ, take, sym, subst}
-use Rattle.std.specs.Char.{is_ascii_digit}
-use Rattle.std.specs.List.{AllPass}
+use Rattle.sm_text.proofs.Imports.{ℕ, take, sym, subst, is_ascii_digit, AllPass}
 use Rattle.sm_text.proofs.Cut.Fronts.{AllPass-run}
 use Rattle.sm_text.proofs.lexing.front.number_at.Goals as goal
 

@@ -1,5 +1,5 @@
-use Rattle.std.proofs.Common.{◌+◌, ◌*◌, ◌^◌, ◌≤◌, Some, None, pos, if◌then◌else◌, sym, ap, arith}
-use Rattle.std.specs.Str.Parse.{digits_value}
+use Rattle.sm_text.proofs.Imports.{◌+◌, ◌*◌, ◌^◌, ◌≤◌, Some, None, pos, sym, ap, arith, digits_value}
+use Rattle.std.proofs.Common.{if◌then◌else◌}
 use Rattle.sm_text.proofs.Cut.Fronts.{digits_value-next, too_wide}
 use Rattle.sm_text.proofs.lexing.front.value_of.Goals as goal
 

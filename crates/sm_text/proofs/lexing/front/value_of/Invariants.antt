@@ -1,5 +1,4 @@
-use Rattle.std.proofs.Common.{◌≡◌, ◌<◌, ◌^◌, take}
-use Rattle.std.specs.Str.Parse.{digits_value}
+use Rattle.sm_text.proofs.Imports.{◌≡◌, ◌<◌, ◌^◌, take, digits_value}
 use Rattle.sm_text.proofs.lexing.front.value_of.Given as goal
 
 -- the number that the digits so far write

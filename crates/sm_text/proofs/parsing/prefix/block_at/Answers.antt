@@ -1,14 +1,7 @@
-use Rattle.std.proofs.Common.{◌≡◌, ℕ, ◌-◌, ◌≤◌, sym, ap, ◌∙◌, subst, arith, Err, List, length, take, drop}
+use Rattle.sm_text.proofs.Imports.{◌≡◌, ℕ, ◌-◌, ◌≤◌, sym, ap, ◌∙◌, subst, arith, Err, List, length, take, drop, AllByRecursion, IsBlock, Lexed, lexed, code_of, token_symbols, IsFirstBlock, AreBlocks, IsTokenOf}
 use Rattle.std.proofs.lemmas.List.{length-drop}
-use Rattle.std.specs.List.{AllByRecursion}
-use Rattle.sm_syntax.specs.text.StatementGrammar.{IsBlock}
-use Rattle.sm_syntax.specs.text.Tokens.{Lexed, lexed}
 use Rattle.sm_syntax.specs.declared.token.Token.{Token}
-use Rattle.sm_syntax.specs.trees.Views.{code_of}
-use Rattle.sm_text.specs.parsing.BlockTokens.{token_symbols, IsFirstBlock}
-use Rattle.sm_text.specs.parsing.Prefix.{AreBlocks}
 use Rattle.sm_text.specs.rules.Reading as r
-use Rattle.sm_text.specs.resolving.TokenTexts.{IsTokenOf}
 use Rattle.sm_text.proofs.Prefix.FirstTokens.{first_within, first_spelled, first_same}
 use Rattle.sm_text.proofs.Cut.Lexing.{IsTokenOf-after}
 use Rattle.sm_text.proofs.RoundTrip.Parts.{block_has_names}

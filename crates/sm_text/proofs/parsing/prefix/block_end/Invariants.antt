@@ -1,7 +1,5 @@
 -- After each token so far more curly braces open than close, and the depth is how many more.
-use Rattle.std.proofs.Common.{◌≡◌, ◌+◌, ◌<◌, ◌≤◌, ℕ, take}
-use Rattle.sm_syntax.specs.declared.symbol.Mark.TheVariants.{OpenCurly, CloseCurly}
-use Rattle.sm_text.specs.parsing.BlockTokens.{many}
+use Rattle.sm_text.proofs.Imports.{◌≡◌, ◌+◌, ◌<◌, ◌≤◌, ℕ, take, OpenCurly, CloseCurly, many}
 use Rattle.sm_text.proofs.parsing.prefix.block_end.Given as goal
 
 abbrev pub invariant-loop-index : goal.invariant-loop-index

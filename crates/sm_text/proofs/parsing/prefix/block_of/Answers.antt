@@ -1,11 +1,4 @@
-use Rattle.std.proofs.Common.{◌≡◌, ℕ, ◌-◌, refl, sym, ap, ◌∙◌, arith, Ok, List, length, take}
-use Rattle.std.proofs.lemmas.List.{length-map}
-use Rattle.sm_syntax.specs.declared.symbol.Symbol.{Symbol}
-use Rattle.sm_syntax.specs.text.StatementGrammar.{IsBlock}
-use Rattle.sm_syntax.specs.text.Symbols.{symbol_of, names_after}
-use Rattle.sm_syntax.specs.trees.Views.{code_of}
-use Rattle.sm_text.specs.parsing.BlockTokens.{token_symbols}
-use Rattle.sm_text.specs.resolving.NameCounts.{names_counted}
+use Rattle.sm_text.proofs.Imports.{◌≡◌, ℕ, ◌-◌, refl, sym, ap, ◌∙◌, arith, Ok, List, length, take, length-map, Symbol, IsBlock, symbol_of, names_after, code_of, token_symbols, names_counted}
 use Rattle.sm_text.specs.rules.Reading as r
 use Rattle.sm_text.proofs.Prefix.FirstTokens.{first_read}
 use Rattle.sm_text.proofs.Numbering.Symbols.{kept-on_err}

@@ -1,6 +1,5 @@
 -- The symbols that are left count on from here.
-use Rattle.std.proofs.Common.{◌≡◌, drop}
-use Rattle.sm_text.specs.resolving.NameCounts.{names_counted}
+use Rattle.sm_text.proofs.Imports.{◌≡◌, drop, names_counted}
 use Rattle.sm_text.proofs.parsing.prefix.count_names.Given as goal
 
 abbrev pub invariant-loop-symbol : goal.invariant-loop-symbol

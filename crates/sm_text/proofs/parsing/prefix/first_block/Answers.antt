@@ -1,9 +1,4 @@
-use Rattle.std.proofs.Common.{◌≡◌, ◌+◌, ◌-◌, ◌≤◌, Bool, true, false, refl, arith, rules, Err, length, nat_lt, take}
-use Rattle.std.proofs.lemmas.Bool.Decides.{nat_tests}
-use Rattle.std.proofs.lemmas.List.{length-take-le}
-use Rattle.sm_syntax.specs.text.StatementGrammar.{IsBlock}
-use Rattle.sm_syntax.specs.trees.Views.{code_of}
-use Rattle.sm_text.specs.parsing.BlockTokens.{token_symbols}
+use Rattle.sm_text.proofs.Imports.{◌≡◌, ◌+◌, ◌-◌, ◌≤◌, Bool, true, false, refl, arith, rules, Err, length, nat_lt, take, nat_tests, length-take-le, IsBlock, code_of, token_symbols}
 use Rattle.sm_text.specs.rules.Reading as r
 use Rattle.sm_text.proofs.Prefix.BlockEnds.{none_at_end}
 use Rattle.sm_text.proofs.Prefix.FirstTokens.{first_of_all, first_within, refused_of_all, refused_within}

@@ -1,16 +1,6 @@
-use Rattle.std.proofs.Common.{◌≡◌, ◌-◌, ℕ, refl, sym, ap, ◌∙◌, subst, arith, List, [], length, take}
-use Rattle.std.proofs.lemmas.List.{length-map}
-use Rattle.std.specs.List.{AllByRecursion}
-use Rattle.sm_syntax.specs.declared.symbol.Symbol.{Symbol}
-use Rattle.sm_syntax.specs.text.Symbols.{symbol_of, names_after}
-use Rattle.sm_syntax.specs.text.Tokens.{Lexed, lexed}
+use Rattle.sm_text.proofs.Imports.{◌≡◌, ◌-◌, ℕ, refl, sym, ap, ◌∙◌, subst, arith, List, [], length, take, length-map, AllByRecursion, Symbol, symbol_of, names_after, Lexed, lexed, names_counted, all_symbols, AreHeads, head_parts, IsTokenOf}
 use Rattle.sm_syntax.specs.declared.token.Token.{Token}
-use Rattle.sm_text.specs.resolving.NameCounts.{names_counted}
-use Rattle.sm_text.specs.parsing.Places.{all_symbols}
-use Rattle.sm_text.specs.parsing.Prefix.{AreHeads}
 use Rattle.sm_text.specs.rules.Reading as r
-use Rattle.sm_text.specs.Tasks.{head_parts}
-use Rattle.sm_text.specs.resolving.TokenTexts.{IsTokenOf}
 use Rattle.sm_text.proofs.Sound.Sections.{IsHeadUnder, head_told}
 use Rattle.sm_text.proofs.Prefix.HeadText.{head_named, head_has_text}
 use Rattle.sm_text.proofs.Cut.Lexing.{IsTokenOf-lexed}

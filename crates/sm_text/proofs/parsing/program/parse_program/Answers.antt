@@ -1,11 +1,5 @@
-use Rattle.std.proofs.Common.{sym, ap, ◌∙◌, subst, List, map}
-use Rattle.sm_syntax.specs.text.MarkedSymbols.{plain}
-use Rattle.sm_syntax.specs.declared.symbol.Symbol.{Symbol}
-use Rattle.sm_syntax.specs.text.Tokens.{Lexed}
-use Rattle.sm_text.specs.parsing.Fragments.{IsProgram}
-use Rattle.sm_text.specs.parsing.Places.{ArePrograms, whole_text}
+use Rattle.sm_text.proofs.Imports.{sym, ap, ◌∙◌, subst, List, map, plain, Symbol, Lexed, IsProgram, ArePrograms, whole_text, program_parts}
 use Rattle.sm_text.specs.parsing.Program as p
-use Rattle.sm_text.specs.Tasks.{program_parts}
 use Rattle.sm_text.proofs.FirstFault.Judged.{program_judges, program_viable}
 use Rattle.sm_text.proofs.RoundTrip.Parts.{program_has_names}
 use Rattle.sm_text.proofs.Sound.Programs.{whole_program_told, program_same, program_not_refused}

@@ -1,11 +1,5 @@
-use Rattle.std.proofs.Common.{sym, ap, ◌∙◌, subst, List, map}
-use Rattle.sm_syntax.specs.text.MarkedSymbols.{plain}
-use Rattle.sm_syntax.specs.declared.symbol.Symbol.{Symbol}
-use Rattle.sm_syntax.specs.text.TaskGrammar.{IsTask}
-use Rattle.sm_syntax.specs.text.Tokens.{Lexed}
-use Rattle.sm_text.specs.parsing.Places.{AreTasks, whole_text}
+use Rattle.sm_text.proofs.Imports.{sym, ap, ◌∙◌, subst, List, map, plain, Symbol, IsTask, Lexed, AreTasks, whole_text, parts_of}
 use Rattle.sm_text.specs.rules.Reading as r
-use Rattle.sm_text.specs.Tasks.{parts_of}
 use Rattle.sm_text.proofs.Complete.Tasks.{parts_read, not_refused}
 use Rattle.sm_text.proofs.Sound.Sections.{whole_told}
 use Rattle.sm_text.proofs.FirstFault.Judged.{task_judges, task_viable}

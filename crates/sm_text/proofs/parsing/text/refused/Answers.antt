@@ -1,6 +1,6 @@
-use Rattle.std.proofs.Common.{◌≡◌, ◌≤◌, refl, subst, List, length}
+use Rattle.sm_text.proofs.Imports.{◌≡◌, ◌≤◌, refl, subst, List, length, IsPlaceWith, at_fault}
 use Rattle.sm_syntax.specs.declared.token.Token.{Token}
-use Rattle.sm_text.specs.parsing.ErrorPlaces.{IsPlaceWith, at_token, at_fault}
+use Rattle.sm_text.specs.parsing.ErrorPlaces.{at_token}
 use Rattle.sm_text.proofs.parsing.text.refused.Goals as goal
 
 pub returns-in-Some-default : goal.returns-in-Some-default

@@ -1,5 +1,4 @@
-use Rattle.std.proofs.Common.{◌≡◌}
-use Rattle.sm_text.specs.printing.Pieces.{margin_at}
+use Rattle.sm_text.proofs.Imports.{◌≡◌, margin_at}
 use Rattle.sm_text.proofs.printing.print.margin_at.Given as goal
 
 abbrev pub invariant-loop-step : goal.invariant-loop-step

@@ -1,8 +1,4 @@
-use Rattle.std.proofs.Common.{rules, ◌≡◌, ℕ, List, sym, subst}
-use Rattle.sm_syntax.specs.trees.Views.{code_of}
-use Rattle.sm_text.specs.printing.Canonical.{block_pieces}
-use Rattle.sm_text.specs.parsing.Fragments.{SpellsBlock}
-use Rattle.sm_text.specs.printing.Pieces.{pieces_text, margin_at}
+use Rattle.sm_text.proofs.Imports.{rules, ◌≡◌, ℕ, List, sym, subst, code_of, block_pieces, SpellsBlock, pieces_text, margin_at}
 use Rattle.sm_text.proofs.RoundTrip.Parts.{block_back}
 use Rattle.sm_text.proofs.printing.print.print_block.Goals as goal
 

@@ -1,8 +1,4 @@
-use Rattle.std.proofs.Common.{◌≡◌, ℕ, List, ◌++◌, ◌∙◌, sym, ap, subst}
-use Rattle.sm_syntax.specs.trees.Views.{condition_of}
-use Rattle.sm_text.specs.printing.Canonical.{condition_pieces}
-use Rattle.sm_text.specs.parsing.Fragments.{SpellsCondition}
-use Rattle.sm_text.specs.printing.Pieces.{pieces_text}
+use Rattle.sm_text.proofs.Imports.{◌≡◌, ℕ, List, ◌++◌, ◌∙◌, sym, ap, subst, condition_of, condition_pieces, SpellsCondition, pieces_text}
 use Rattle.sm_text.proofs.RoundTrip.Parts.{condition_back}
 use Rattle.sm_text.proofs.printing.print.print_cond.Goals as goal
 

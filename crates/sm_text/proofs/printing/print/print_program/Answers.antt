@@ -1,8 +1,5 @@
-use Rattle.std.proofs.Common.{◌≡◌, ℕ, List, ◌++◌, ◌∙◌, sym, ap, subst}
-use Rattle.sm_text.specs.printing.Canonical.{declaration_pieces, output_pieces, shared_pieces, program_pieces}
-use Rattle.sm_text.specs.parsing.Fragments.{SpellsProgram}
-use Rattle.sm_text.specs.Tasks.{program_parts}
-use Rattle.sm_text.specs.printing.Pieces.{pieces_text}
+use Rattle.sm_text.proofs.Imports.{◌≡◌, ℕ, List, ◌++◌, ◌∙◌, sym, ap, subst, declaration_pieces, output_pieces, shared_pieces, SpellsProgram, program_parts, pieces_text}
+use Rattle.sm_text.specs.printing.Canonical.{program_pieces}
 use Rattle.sm_text.proofs.RoundTrip.Parts.{program_back}
 use Rattle.sm_text.proofs.RoundTrip.Putting.{put_both}
 use Rattle.sm_text.proofs.printing.print.print_program.Goals as goal

@@ -1,8 +1,5 @@
-use Rattle.std.proofs.Common.{ℕ, List, ◌++◌, ◌∙◌, sym, ap, subst}
-use Rattle.sm_syntax.specs.text.Spells.{Spells}
-use Rattle.sm_text.specs.printing.Canonical.{declaration_pieces, output_pieces, assumption_pieces, shared_pieces, lists_pieces, task_pieces}
-use Rattle.sm_text.specs.printing.Pieces.{pieces_text}
-use Rattle.sm_text.specs.Tasks.{parts_of}
+use Rattle.sm_text.proofs.Imports.{ℕ, List, ◌++◌, ◌∙◌, sym, ap, subst, Spells, declaration_pieces, output_pieces, assumption_pieces, shared_pieces, lists_pieces, pieces_text, parts_of}
+use Rattle.sm_text.specs.printing.Canonical.{task_pieces}
 use Rattle.sm_text.proofs.RoundTrip.Putting.{put_both}
 use Rattle.sm_text.proofs.RoundTrip.Tasks.{spelled_named, reads_back}
 use Rattle.sm_text.proofs.printing.print.print_task.Goals as goal

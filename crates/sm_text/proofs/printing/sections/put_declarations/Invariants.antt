@@ -1,10 +1,5 @@
 -- What is put is the text of the declarations so far.
-use Rattle.std.proofs.Common.{◌≡◌, ◌++◌, length, drop}
-use Rattle.sm_syntax.specs.trees.Programs.{declared_of}
-use Rattle.sm_text.specs.printing.Canonical.{declaration_pieces}
-use Rattle.sm_text.specs.printing.Named.{AreDeclaredIn}
-use Rattle.sm_text.specs.printing.Pieces.{pieces_text}
-use Rattle.sm_text.specs.rules.Written.{entries_of}
+use Rattle.sm_text.proofs.Imports.{◌≡◌, ◌++◌, length, drop, declared_of, declaration_pieces, AreDeclaredIn, pieces_text, entries_of}
 use Rattle.sm_text.proofs.printing.sections.put_declarations.Given as goal
 
 abbrev pub invariant-loop-d : goal.invariant-loop-d

@@ -1,10 +1,5 @@
 -- What is put is the text of the fillings so far.
-use Rattle.std.proofs.Common.{◌≡◌, ◌++◌, length, drop}
-use Rattle.sm_syntax.specs.trees.Programs.{fillings_of}
-use Rattle.sm_text.specs.printing.Canonical.{filling_pieces}
-use Rattle.sm_text.specs.printing.Named.{AreFilledIn}
-use Rattle.sm_text.specs.printing.Pieces.{pieces_text}
-use Rattle.sm_text.specs.rules.Written.{entries_for}
+use Rattle.sm_text.proofs.Imports.{◌≡◌, ◌++◌, length, drop, fillings_of, filling_pieces, AreFilledIn, pieces_text, entries_for}
 use Rattle.sm_text.proofs.printing.sections.put_fillings.Given as goal
 
 abbrev pub invariant-loop-f : goal.invariant-loop-f

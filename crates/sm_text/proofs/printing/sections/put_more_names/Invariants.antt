@@ -1,9 +1,5 @@
 -- What is put is the text of the names so far.
-use Rattle.std.proofs.Common.{◌≡◌, ◌++◌, length, drop}
-use Rattle.sm_text.specs.printing.Canonical.{more_names_pieces}
-use Rattle.sm_text.specs.printing.Named.{AreOutputsIn}
-use Rattle.sm_text.specs.printing.Pieces.{pieces_text}
-use Rattle.sm_text.specs.rules.Written.{numbers_of}
+use Rattle.sm_text.proofs.Imports.{◌≡◌, ◌++◌, length, drop, more_names_pieces, AreOutputsIn, pieces_text, numbers_of}
 use Rattle.sm_text.proofs.printing.sections.put_more_names.Given as goal
 
 abbrev pub invariant-loop-x : goal.invariant-loop-x

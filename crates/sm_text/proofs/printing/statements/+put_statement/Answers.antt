@@ -1,6 +1,4 @@
-use Rattle.std.proofs.Common.{arith}
-use Rattle.std.proofs.lemmas.Grind.{common_steps}
-use Rattle.sm_syntax.proofs.Statements.{statement_of-Assign, statement_of-Store, statement_of-If, statement_of-While, statement_of-Hole}
+use Rattle.sm_text.proofs.Imports.{arith, common_steps, statement_of-Assign, statement_of-Store, statement_of-If, statement_of-While, statement_of-Hole}
 use Rattle.sm_text.proofs.printing.statements.+put_statement.Goals as goal
 
 pub put_stmt-returns-in-Assign : goal.put_stmt-returns-in-Assign

@@ -1,12 +1,7 @@
 -- What is put is the text of the statements so far.
-use Rattle.std.proofs.Common.{◌≡◌, ◌+◌, ◌*◌, ◌++◌, length, map, drop, max}
-use Rattle.sm_syntax.specs.claim.Syntax.{End}
-use Rattle.sm_syntax.specs.trees.Views.{sequence, statement_of, code_of}
-use Rattle.sm_syntax.specs.declared.tree.Stmt.{size-Stmt}
+use Rattle.sm_text.proofs.Imports.{◌≡◌, ◌+◌, ◌*◌, ◌++◌, length, map, drop, max, End, sequence, statement_of, code_of, size-Stmt, IsUsedIn, pieces_text}
 use Rattle.sm_syntax.specs.declared.tree.Block.{size-Block}
 use Rattle.sm_text.specs.printing.Canonical as canonical
-use Rattle.sm_text.specs.printing.Named.{IsUsedIn}
-use Rattle.sm_text.specs.printing.Pieces.{pieces_text}
 use Rattle.sm_text.proofs.printing.statements.+put_statement.Given as goal
 
 abbrev pub invariant-put_block-loop-s : goal.invariant-put_block-loop-s

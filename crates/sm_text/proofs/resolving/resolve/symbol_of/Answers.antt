@@ -1,8 +1,5 @@
-use Rattle.std.proofs.Common.{Result, Ok, Err, refl, subst}
+use Rattle.sm_text.proofs.Imports.{Result, Ok, Err, refl, subst, MatchResult, IsOk, TokenKind, IsText}
 use Rattle.std.proofs.lemmas.Str.{IsUtf8-from_ascii}
-use Rattle.std.specs.Result.{MatchResult, IsOk}
-use Rattle.sm_syntax.specs.declared.token.TokenKind.{TokenKind}
-use Rattle.sm_text.specs.resolving.TokenTexts.{IsText}
 use Rattle.sm_text.proofs.resolving.resolve.symbol_of.Goals as goal
 
 -- what can't fail is Ok

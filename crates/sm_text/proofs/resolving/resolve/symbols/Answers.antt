@@ -1,8 +1,5 @@
-use Rattle.std.proofs.Common.{List, subst, sym, ap, ◌∙◌}
-use Rattle.std.specs.List.{AllByRecursion}
+use Rattle.sm_text.proofs.Imports.{List, subst, sym, ap, ◌∙◌, AllByRecursion, names_after, IsTokenOf}
 use Rattle.sm_syntax.specs.declared.token.Token.{Token}
-use Rattle.sm_syntax.specs.text.Symbols.{names_after}
-use Rattle.sm_text.specs.resolving.TokenTexts.{IsTokenOf}
 use Rattle.sm_text.proofs.Cut.Lexing.{IsTokenOf-lexed}
 use Rattle.sm_text.proofs.Numbering.Symbols.{names_of-all, symbols_of-all}
 use Rattle.sm_text.proofs.resolving.resolve.symbols.Goals as goal

@@ -1,9 +1,5 @@
-use Rattle.std.proofs.Common.{ℕ, ◌+◌, List, get_or, take, sym, ap, subst, ◌∙◌}
-use Rattle.sm_syntax.specs.declared.symbol.Symbol.{Symbol}
+use Rattle.sm_text.proofs.Imports.{ℕ, ◌+◌, List, get_or, take, sym, ap, subst, ◌∙◌, Symbol, Word, symbol_by, IsText, IsTokenOf}
 use Rattle.sm_syntax.specs.declared.token.Token.{Token}
-use Rattle.sm_syntax.specs.declared.token.TokenKind.TheVariants.{Word}
-use Rattle.sm_syntax.specs.text.Symbols.{symbol_by}
-use Rattle.sm_text.specs.resolving.TokenTexts.{IsText, IsTokenOf}
 use Rattle.sm_text.proofs.Cut.Lexing.{all_at}
 use Rattle.sm_text.proofs.Numbering.Symbols.{names_with, IsRead, IsRead-more, IsRead-next, kept-on_err}
 use Rattle.sm_text.proofs.resolving.resolve.symbols_after.Goals as goal

@@ -1,12 +1,6 @@
-use Rattle.std.proofs.Common.{◌≤◌, ◌-◌, sym, ap, ◌∙◌, subst, arith, Result, List}
-use Rattle.std.proofs.lemmas.Result.{err_from_is_err_and}
-use Rattle.sm_syntax.specs.claim.Syntax.{Condition}
-use Rattle.sm_syntax.specs.declared.symbol.Symbol.{Symbol}
-use Rattle.sm_syntax.specs.trees.Views.{condition_of}
-use Rattle.sm_text.specs.rules.Answers.{Parses}
-use Rattle.sm_text.specs.rules.Parsers.{Parser, chain_in, next_operand, Fault}
+use Rattle.sm_text.proofs.Imports.{◌≤◌, ◌-◌, sym, ap, ◌∙◌, subst, arith, Result, List, err_from_is_err_and, Condition, Symbol, condition_of, Parses, Parser, chain_in, next_operand, connected_by}
+use Rattle.sm_text.specs.rules.Parsers.{Fault}
 use Rattle.sm_text.specs.rules.Reading as spec
-use Rattle.sm_text.specs.rules.Written.{connected_by}
 use Rattle.sm_text.proofs.Sound.Loops.{leaves, condition_chain-is, inner_condition-none, inner_condition-some, inside-none, inside-fails, inside-followed, beside-reads, beside-fails, stood, unstood}
 use Rattle.sm_text.proofs.Sound.Chained.{chain-begins, chain-refused, chain-turn, chain-fault, chain-end, next-none, next-some, next-room}
 use Rattle.sm_text.proofs.rules.conditions.+conditions.Goals as goal

@@ -1,8 +1,5 @@
-use Rattle.std.proofs.Common.{◌≡◌, ℕ, ◌+◌, ◌*◌}
-use Rattle.sm_syntax.specs.trees.Views.{condition_of}
-use Rattle.sm_text.specs.declared.rules.conditions.CondChain.{CondChain}
+use Rattle.sm_text.proofs.Imports.{◌≡◌, ℕ, ◌+◌, ◌*◌, condition_of, CondChain, chain_in}
 use Rattle.sm_text.specs.declared.rules.conditions.CondChain.TheVariants.{Conjunction, Disjunction}
-use Rattle.sm_text.specs.rules.Parsers.{chain_in}
 use Rattle.sm_text.specs.rules.Reading as spec
 use Rattle.sm_text.proofs.rules.conditions.+conditions.Given as goal
 

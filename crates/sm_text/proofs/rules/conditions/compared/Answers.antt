@@ -1,7 +1,5 @@
 -- The sign and the right side stand behind the left.
-use Rattle.std.proofs.Common.{refl, sym, ap, ◌∙◌}
-use Rattle.std.proofs.lemmas.Result.{err_from_is_err_and}
-use Rattle.sm_syntax.specs.trees.Views.{expression_of}
+use Rattle.sm_text.proofs.Imports.{refl, sym, ap, ◌∙◌, err_from_is_err_and, expression_of}
 use Rattle.sm_text.specs.rules.Reading as spec
 use Rattle.sm_text.proofs.Sound.Loops.{leaves, beside-reads, beside-fails, read-as}
 use Rattle.sm_text.proofs.rules.conditions.compared.Goals as goal

@@ -1,12 +1,6 @@
-use Rattle.std.proofs.Common.{◌≤◌, ◌-◌, sym, ap, ◌∙◌, subst, arith, Result, List}
-use Rattle.std.proofs.lemmas.Result.{err_from_is_err_and}
-use Rattle.sm_syntax.specs.claim.Syntax.{Expression}
-use Rattle.sm_syntax.specs.declared.symbol.Symbol.{Symbol}
-use Rattle.sm_syntax.specs.trees.Views.{expression_of}
-use Rattle.sm_text.specs.rules.Answers.{Parses}
-use Rattle.sm_text.specs.rules.Parsers.{Parser, chain_in, next_operand, Fault}
+use Rattle.sm_text.proofs.Imports.{◌≤◌, ◌-◌, sym, ap, ◌∙◌, subst, arith, Result, List, err_from_is_err_and, Expression, Symbol, expression_of, Parses, Parser, chain_in, next_operand, joined_by}
+use Rattle.sm_text.specs.rules.Parsers.{Fault}
 use Rattle.sm_text.specs.rules.Reading as spec
-use Rattle.sm_text.specs.rules.Written.{joined_by}
 use Rattle.sm_text.proofs.Sound.Loops.{found, leaves, expression_chain-is, inner_sum-none, inner_sum-some, inside-none, inside-fails, inside-followed, beside-reads, beside-fails}
 use Rattle.sm_text.proofs.Sound.Chained.{chain-begins, chain-refused, chain-turn, chain-fault, chain-end, next-none, next-some, next-room}
 use Rattle.sm_text.proofs.rules.expressions.+expressions.Goals as goal

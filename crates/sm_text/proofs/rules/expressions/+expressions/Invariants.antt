@@ -1,8 +1,5 @@
-use Rattle.std.proofs.Common.{◌≡◌, ℕ, ◌+◌, ◌*◌}
-use Rattle.sm_syntax.specs.trees.Views.{expression_of}
-use Rattle.sm_text.specs.declared.rules.expressions.ExprChain.{ExprChain}
+use Rattle.sm_text.proofs.Imports.{◌≡◌, ℕ, ◌+◌, ◌*◌, expression_of, ExprChain, chain_in}
 use Rattle.sm_text.specs.declared.rules.expressions.ExprChain.TheVariants.{Product, Sum}
-use Rattle.sm_text.specs.rules.Parsers.{chain_in}
 use Rattle.sm_text.specs.rules.Reading as spec
 use Rattle.sm_text.proofs.rules.expressions.+expressions.Given as goal
 

@@ -1,8 +1,5 @@
-use Rattle.std.proofs.Common.{◌++◌, sym, ap, ◌∙◌}
-use Rattle.std.proofs.lemmas.Result.{err_from_is_err_and}
-use Rattle.sm_syntax.specs.text.TaskGrammar.{with_sort}
+use Rattle.sm_text.proofs.Imports.{◌++◌, sym, ap, ◌∙◌, err_from_is_err_and, with_sort, numbers_of, entries_of}
 use Rattle.sm_text.specs.rules.Reading as spec
-use Rattle.sm_text.specs.rules.Written.{numbers_of, entries_of}
 use Rattle.sm_text.proofs.Sound.Gathered.{gather-turn, gather-end, gather-fault}
 use Rattle.sm_text.proofs.Sound.Loops.{tested, leaves, declaration-shorter}
 use Rattle.sm_text.proofs.rules.names.declarations.Goals as goal

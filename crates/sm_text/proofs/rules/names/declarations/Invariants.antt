@@ -1,6 +1,5 @@
-use Rattle.std.proofs.Common.{◌≡◌, length}
+use Rattle.sm_text.proofs.Imports.{◌≡◌, length, entries_of}
 use Rattle.sm_text.specs.rules.Reading as spec
-use Rattle.sm_text.specs.rules.Written.{entries_of}
 use Rattle.sm_text.proofs.rules.names.declarations.Given as goal
 
 abbrev pub invariant-declarations : goal.invariant-declarations

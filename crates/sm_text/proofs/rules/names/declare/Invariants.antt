@@ -1,6 +1,4 @@
-use Rattle.std.proofs.Common.{◌≡◌, ◌++◌, take}
-use Rattle.sm_syntax.specs.text.TaskGrammar.{with_sort}
-use Rattle.sm_text.specs.rules.Written.{numbers_of, entries_of}
+use Rattle.sm_text.proofs.Imports.{◌≡◌, ◌++◌, take, with_sort, numbers_of, entries_of}
 use Rattle.sm_text.proofs.rules.names.declare.Given as goal
 
 abbrev pub invariant-names : goal.invariant-names

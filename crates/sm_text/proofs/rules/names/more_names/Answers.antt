@@ -1,10 +1,5 @@
-use Rattle.std.proofs.Common.{sym, ap, ◌∙◌}
-use Rattle.std.proofs.lemmas.List.{map-append}
-use Rattle.std.proofs.lemmas.Result.{err_from_is_err_and}
-use Rattle.sm_syntax.specs.declared.symbol.Mark.TheVariants.{Comma}
-use Rattle.sm_text.specs.rules.Parsers.{stands}
+use Rattle.sm_text.proofs.Imports.{sym, ap, ◌∙◌, map-append, err_from_is_err_and, Comma, stands, numbers_of}
 use Rattle.sm_text.specs.rules.Reading as spec
-use Rattle.sm_text.specs.rules.Written.{numbers_of}
 use Rattle.sm_text.proofs.Sound.Gathered.{gather-turn, gather-end, gather-fault}
 use Rattle.sm_text.proofs.Sound.Loops.{tested, leaves, next_name-shorter}
 use Rattle.sm_text.proofs.rules.names.more_names.Goals as goal

@@ -1,6 +1,5 @@
-use Rattle.std.proofs.Common.{◌≡◌, length}
+use Rattle.sm_text.proofs.Imports.{◌≡◌, length, numbers_of}
 use Rattle.sm_text.specs.rules.Reading as spec
-use Rattle.sm_text.specs.rules.Written.{numbers_of}
 use Rattle.sm_text.proofs.rules.names.more_names.Given as goal
 
 abbrev pub invariant-names : goal.invariant-names

@@ -1,7 +1,5 @@
 -- The semicolon stands behind the condition.
-use Rattle.std.proofs.Common.{refl, sym}
-use Rattle.std.proofs.lemmas.Result.{err_from_is_err_and}
-use Rattle.sm_syntax.specs.trees.Views.{condition_of}
+use Rattle.sm_text.proofs.Imports.{refl, sym, err_from_is_err_and, condition_of}
 use Rattle.sm_text.specs.rules.Reading as spec
 use Rattle.sm_text.proofs.Sound.Loops.{leaves, read-as}
 use Rattle.sm_text.proofs.rules.sections.assumption_line.Goals as goal

@@ -1,10 +1,5 @@
-use Rattle.std.proofs.Common.{sym, ap, ◌∙◌}
-use Rattle.std.proofs.lemmas.List.{map-append}
-use Rattle.std.proofs.lemmas.Result.{err_from_is_err_and}
-use Rattle.sm_syntax.specs.declared.symbol.Mark.TheVariants.{Question}
-use Rattle.sm_text.specs.rules.Parsers.{stands}
+use Rattle.sm_text.proofs.Imports.{sym, ap, ◌∙◌, map-append, err_from_is_err_and, Question, stands, entries_for}
 use Rattle.sm_text.specs.rules.Reading as spec
-use Rattle.sm_text.specs.rules.Written.{entries_for}
 use Rattle.sm_text.proofs.Sound.Gathered.{gather-turn, gather-end, gather-fault}
 use Rattle.sm_text.proofs.Sound.Loops.{tested, leaves, filling-shorter}
 use Rattle.sm_text.proofs.rules.sections.fillings.Goals as goal

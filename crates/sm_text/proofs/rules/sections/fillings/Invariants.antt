@@ -1,6 +1,5 @@
-use Rattle.std.proofs.Common.{◌≡◌, length}
+use Rattle.sm_text.proofs.Imports.{◌≡◌, length, entries_for}
 use Rattle.sm_text.specs.rules.Reading as spec
-use Rattle.sm_text.specs.rules.Written.{entries_for}
 use Rattle.sm_text.proofs.rules.sections.fillings.Given as goal
 
 abbrev pub invariant-fillings : goal.invariant-fillings

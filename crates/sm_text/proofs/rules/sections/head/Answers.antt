@@ -1,8 +1,6 @@
 -- Each part stands behind those before it.
-use Rattle.std.proofs.Common.{refl, sym, ap, ◌∙◌, option_map}
-use Rattle.std.proofs.lemmas.Result.{err_from_is_err_and}
-use Rattle.sm_syntax.specs.trees.Programs.{declared_of, outputs_of}
-use Rattle.sm_syntax.specs.trees.Views.{condition_of, code_of}
+use Rattle.sm_text.proofs.Imports.{refl, sym, ap, ◌∙◌, err_from_is_err_and, declared_of, outputs_of, condition_of, code_of}
+use Rattle.std.proofs.Common.{option_map}
 use Rattle.sm_text.specs.rules.Reading as spec
 use Rattle.sm_text.proofs.Sound.Loops.{leaves, beside-reads, beside-fails, read-as}
 use Rattle.sm_text.proofs.rules.sections.head.Goals as goal

@@ -1,8 +1,6 @@
 -- The lists stand behind the head.
-use Rattle.std.proofs.Common.{refl, sym}
-use Rattle.std.proofs.lemmas.Result.{err_from_is_err_and}
+use Rattle.sm_text.proofs.Imports.{refl, sym, err_from_is_err_and, head_parts, lists_of}
 use Rattle.sm_text.specs.rules.Reading as spec
-use Rattle.sm_text.specs.Tasks.{head_parts, lists_of}
 use Rattle.sm_text.proofs.Sound.Loops.{leaves, beside-reads, beside-fails, read-as}
 use Rattle.sm_text.proofs.rules.sections.task.Goals as goal
 

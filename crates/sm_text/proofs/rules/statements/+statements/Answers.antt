@@ -1,11 +1,5 @@
-use Rattle.std.proofs.Common.{◌-◌, Ok, refl, sym, ap, ◌∙◌}
-use Rattle.std.proofs.Math.Path.{fun_ext}
-use Rattle.std.proofs.lemmas.Result.{err_from_is_err_and}
-use Rattle.sm_syntax.specs.claim.Syntax.{Code}
-use Rattle.sm_syntax.specs.trees.Views.{condition_of, code_of}
-use Rattle.sm_syntax.proofs.Statements.{statement_of-If, statement_of-While}
+use Rattle.sm_text.proofs.Imports.{◌-◌, Ok, refl, sym, ap, ◌∙◌, fun_ext, err_from_is_err_and, Code, condition_of, code_of, statement_of-If, statement_of-While, statements_before}
 use Rattle.sm_text.specs.rules.Reading as spec
-use Rattle.sm_text.specs.rules.Written.{statements_before}
 use Rattle.sm_text.proofs.Sound.Gathered.{gather-turn, gather-end, gather-fault}
 use Rattle.sm_text.proofs.Sound.Loops.{tested, leaves, front-push, statement-shorter, inner_block-none, inner_block-some, inside-none, inside-fails, inside-followed, beside-reads, beside-fails, read-as}
 use Rattle.sm_text.proofs.rules.statements.+statements.Goals as goal

@@ -1,6 +1,5 @@
-use Rattle.std.proofs.Common.{◌≡◌, ◌+◌, ◌*◌, length}
+use Rattle.sm_text.proofs.Imports.{◌≡◌, ◌+◌, ◌*◌, length, statements_before}
 use Rattle.sm_text.specs.rules.Reading as spec
-use Rattle.sm_text.specs.rules.Written.{statements_before}
 use Rattle.sm_text.proofs.rules.statements.+statements.Given as goal
 
 abbrev pub decreases-block : goal.decreases-block

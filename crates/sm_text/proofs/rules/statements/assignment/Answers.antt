@@ -1,10 +1,5 @@
 -- The semicolon stands behind the value.
-use Rattle.std.proofs.Common.{Ok, refl, sym, ap}
-use Rattle.std.proofs.Math.Path.{fun_ext}
-use Rattle.std.proofs.lemmas.Result.{err_from_is_err_and}
-use Rattle.sm_syntax.specs.claim.Syntax.{Code}
-use Rattle.sm_syntax.specs.trees.Views.{expression_of}
-use Rattle.sm_syntax.proofs.Statements.{statement_of-Assign}
+use Rattle.sm_text.proofs.Imports.{Ok, refl, sym, ap, fun_ext, err_from_is_err_and, Code, expression_of, statement_of-Assign}
 use Rattle.sm_text.specs.rules.Reading as spec
 use Rattle.sm_text.proofs.Sound.Loops.{leaves, read-as}
 use Rattle.sm_text.proofs.rules.statements.assignment.Goals as goal
