@@ -1,3 +1,4 @@
+// The calls of a shelf or a sink in memory, and which of them fail.
 ghost use Rattle.std.specs.Prelude.{◌≡◌, ◌↔◌, ◌+◌, ◌-◌, ◌^◌, ◌++◌, [], ◌∷◌, min, IsTrue, Contains, OnOk, OnErr, IsOkUnless};
 
 use crate::error::IoError;

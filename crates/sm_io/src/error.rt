@@ -1,3 +1,4 @@
+// Why calls of shelves and sinks, and reads of whole files, fail.
 ghost use Rattle.std.specs.Prelude.{◌≡◌};
 ghost use Rattle.sm_io.specs.declared.error.IoError.TheVariants.{Memory as no_memory};
 ghost use Rattle.sm_io.specs.declared.error.ReadError.TheVariants.{Memory as no_memory_to_read};

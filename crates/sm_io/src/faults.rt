@@ -1,3 +1,4 @@
+// Errors of the system, which are counted as faults.
 ghost use Rattle.std.specs.Prelude.{◌≡◌};
 ghost use Rattle.sm_io.specs.Causes.{HasCause};
 

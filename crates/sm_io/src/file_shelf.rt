@@ -1,3 +1,4 @@
+// A shelf of real files.
 ghost use Rattle.std.specs.Prelude.{◌≡◌, ◌≤◌, ◌<◌, ℕ, [], IfOk, length};
 ghost use Rattle.sm_io.specs.Files.{untold};
 

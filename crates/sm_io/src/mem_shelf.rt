@@ -1,3 +1,4 @@
+// A shelf of files in memory.
 ghost use Rattle.std.specs.Prelude.{◌≡◌, ◌≢◌, ◌↔◌, ◌<◌, ◌≤◌, ◌+◌, ◌-◌, ◌^◌, ◌++◌, ◌⊎◌, ℕ, List, [], ◌∷◌, min, length, take, IfOk, OnOk, OnErr, IsErr, IsErrOf, IsOkUnless, option_copied};
 ghost use Rattle.sm_io.specs.Files.{absent, holds, emptied, longer, known_of, WhereHeld, ReadsFrom};
 ghost use Rattle.sm_io.specs.Causes.{HasCause, HasReadCause};

@@ -1,3 +1,4 @@
+// A sink in memory.
 ghost use Rattle.std.specs.Prelude.{◌≡◌, ◌↔◌, ◌<◌, ◌≤◌, ◌+◌, ◌-◌, ◌^◌, ◌++◌, [], ◌∷◌, Some, min, length, take, IfOk, IfErr, OnOk, OnErr, IsErrOf, IsOkUnless};
 ghost use Rattle.sm_io.specs.Causes.{HasCause};
 ghost use Rattle.sm_io.specs.Sinks.{Adds};

@@ -1,3 +1,4 @@
+// All of some bytes, put into a sink or behind a file.
 ghost use Rattle.std.specs.Prelude.{◌≡◌, ◌≢◌, ◌<◌, ℕ, List, length, take, OnOk, OnErr, IsErr, IsErrOf};
 ghost use Rattle.sm_io.specs.Files.{absent, longer};
 ghost use Rattle.sm_io.specs.Causes.{HasCause, HasReadCause};

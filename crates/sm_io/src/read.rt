@@ -1,3 +1,4 @@
+// A file that is read whole.
 ghost use Rattle.std.specs.Prelude.{◌≡◌, ◌<◌, ◌≤◌, ◌⊎◌, ℕ, List, length, vec_len, IfOk, IsErr, IsErrOf};
 ghost use Rattle.sm_io.specs.Files.{absent, WhereHeld};
 ghost use Rattle.sm_io.specs.Causes.{HasReadCause};

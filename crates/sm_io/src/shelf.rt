@@ -1,3 +1,4 @@
+// What files are to a caller.
 ghost use Rattle.std.specs.Prelude.{◌≡◌, ◌≢◌, ◌<◌, ◌≤◌, ◌⊎◌, ◌++◌, ℕ, List, [], ◌∷◌, length, take, IfOk, OnOk, OnErr, IsErr, IsErrOf};
 ghost use Rattle.sm_io.specs.Files.{Known, absent, emptied, longer, WhereHeld, ReadsFrom};
 ghost use Rattle.sm_io.specs.Causes.{HasCause, HasReadCause};
